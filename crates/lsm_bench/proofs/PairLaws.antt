@@ -51,8 +51,8 @@ runs_more keys size [] d was mid now some first rest = absurd (omega (arith, som
 runs_more keys size (b ∷ bs) d was mid now some first rest = (mid, first, rest)
 
 -- the others are read as the slice behind the first one
-pub runs_on : {T F : Type 0} (r : Result T F) (mark : T → Marked) (keys size : ℕ) (bs : List Benchmark) (d : Benchmark) (was mid : Marked) → 1 ≤ length bs
-    → Runs keys size (get_or bs 0 d) was mid → IfOk r (λ x. RunsAll keys size (take (length bs - 1) (drop 1 bs)) mid (mark x)) → IfOk r (λ x. RunsAll keys size bs was (mark x))
-runs_on (Ok x) mark keys size bs d was mid some first rest =
-    runs_more keys size bs d was mid (mark x) some first (subst (λ (l : List Benchmark). RunsAll keys size l mid (mark x)) (take_rest bs 1) rest)
-runs_on (Err e) mark keys size bs d was mid some first rest = tt
+pub runs_on : {F : Type 0} (r : Result Marked F) (keys size : ℕ) (bs : List Benchmark) (d : Benchmark) (was mid : Marked) → 1 ≤ length bs → Runs keys size (get_or bs 0 d) was mid
+    → IfOk r (RunsAll keys size (take (length bs - 1) (drop 1 bs)) mid) → IfOk r (RunsAll keys size bs was)
+runs_on (Ok now) keys size bs d was mid some first rest =
+    runs_more keys size bs d was mid now some first (subst (λ (l : List Benchmark). RunsAll keys size l mid now) (take_rest bs 1) rest)
+runs_on (Err e) keys size bs d was mid some first rest = tt

@@ -23,14 +23,14 @@ use std::time::Instant;
 // The most writes of a batch.
 const MOST_WRITES: usize = 65_536;
 
-/// What the benchmarks run on, and how far the store is.
+/// What benchmarks run on beside the store: a shelf for batches, readers, and what draws for the
+/// thread of the benchmarks, and for one beside it.
 #[derive(Drop)]
-pub(crate) struct Bench<N: Boarded, S: Shelf, O: Origin> {
+pub(crate) struct Tools<N: Boarded, S: Shelf> {
     pub(crate) shelf: NamedShelf<N, S>,
-    pub(crate) reader: Reader<N, S>,
+    pub(crate) readers: Vec<Reader<N, S>>,
     pub(crate) draws: Draws,
     pub(crate) more_draws: Draws,
-    pub(crate) mark: Mark<N, O>,
 }
 
 /// Pairs by ascending keys, 1,000 in a batch.
@@ -71,123 +71,46 @@ fn drawn(options: &BenchOptions, pairs: u64, batch: usize) -> Filling
     }
 }
 
-/// What it is that so many pairs came in.
-fn filled(options: &BenchOptions) -> Measured {
-    Measured {
-        operations: options.num,
-        bytes: options
-            .value_size
-            .saturating_add(16)
-            .saturating_mul(options.num),
-        found: None,
+/// What a benchmark came to, which found so much.
+fn measured(benchmark: Benchmark, options: &BenchOptions, found: Found) -> Measured {
+    match benchmark {
+        Benchmark::FillBatch | Benchmark::FillRandom | Benchmark::Overwrite => Measured {
+            operations: options.num,
+            bytes: options
+                .value_size
+                .saturating_add(16)
+                .saturating_mul(options.num),
+            found: None,
+        },
+        Benchmark::ReadRandom | Benchmark::ReadWhileWriting => Measured {
+            operations: options.num,
+            bytes: found.bytes,
+            found: Some(found.pairs),
+        },
+        Benchmark::ReadSeq => Measured {
+            operations: found.pairs,
+            bytes: found.bytes,
+            found: None,
+        },
+        Benchmark::Compact => Measured {
+            operations: 1,
+            bytes: 0,
+            found: None,
+        },
     }
 }
 
-/// What it is that so many keys were read, of which these were found.
-fn read_by_key(keys: u64, found: Found) -> Measured {
-    Measured {
-        operations: keys,
-        bytes: found.bytes,
-        found: Some(found.pairs),
+/// How far the store is, where that is done.
+pub(crate) fn mark_after<N: Boarded, O: Origin>(
+    done: Result<(), BenchFault>,
+    mark: Mark<N, O>,
+) -> Result<Mark<N, O>, BenchFault>
+    ensures { IfOk result (λ m. m ≡ mark) }
+{
+    match done {
+        Ok(()) => Ok(mark),
+        Err(fault) => Err(fault),
     }
-}
-
-/// What it is that these pairs were gone through.
-fn gone_through(found: Found) -> Measured {
-    Measured {
-        operations: found.pairs,
-        bytes: found.bytes,
-        found: None,
-    }
-}
-
-/// Pairs come in.
-fn run_fill<N: Boarded, S: Shelf, O: Origin, R: Wait>(
-    rt: &R,
-    alloc: Global,
-    store: &Store<N, S, Grown<O>>,
-    background: &Background,
-    bench: Bench<N, S, O>,
-    filling: Filling,
-) -> Result<Bench<N, S, O>, BenchFault>
-    requires { filling.pairs ≤ filling.keys }
-    ensures { IfOk result (λ b. Fills filling.keys filling.size filling.ascends filling.pairs
-        bench.mark b.mark) }
-{
-    let Bench {
-        mut shelf,
-        reader,
-        mut draws,
-        more_draws,
-        mark,
-    } = bench;
-    let mark = fill(
-        rt, alloc, store, background, &mut shelf, filling, &mut draws, mark,
-    )?;
-    Ok(Bench {
-        shelf,
-        reader,
-        draws,
-        more_draws,
-        mark,
-    })
-}
-
-/// Drawn keys are read.
-fn run_reads<N: Boarded, S: Shelf, O: Origin, R: Wait>(
-    rt: &R,
-    alloc: Global,
-    store: &Store<N, S, Grown<O>>,
-    bench: Bench<N, S, O>,
-    keys: u64,
-) -> Result<(Bench<N, S, O>, Measured), BenchFault>
-    ensures { IfOk result (λ r. r.0.mark ≡ bench.mark) }
-{
-    let Bench {
-        shelf,
-        reader,
-        mut draws,
-        more_draws,
-        mark,
-    } = bench;
-    let (reader, read) = read_drawn(rt, alloc, store, reader, keys, &mut draws);
-    let found = read?;
-    let bench = Bench {
-        shelf,
-        reader,
-        draws,
-        more_draws,
-        mark,
-    };
-    Ok((bench, read_by_key(keys, found)))
-}
-
-/// All pairs are gone through.
-fn run_scan<N: Boarded, S: Shelf, O: Origin, R: Wait>(
-    rt: &R,
-    alloc: Global,
-    store: &Store<N, S, Grown<O>>,
-    bench: Bench<N, S, O>,
-) -> Result<(Bench<N, S, O>, Measured), BenchFault>
-    ensures { IfOk result (λ r. r.0.mark ≡ bench.mark) }
-{
-    let Bench {
-        shelf,
-        reader,
-        draws,
-        more_draws,
-        mark,
-    } = bench;
-    let (reader, read) = read_all(rt, alloc, store, reader);
-    let found = read?;
-    let bench = Bench {
-        shelf,
-        reader,
-        draws,
-        more_draws,
-        mark,
-    };
-    Ok((bench, gone_through(found)))
 }
 
 /// Drawn keys are read by one thread, while another one brings pairs in.
@@ -196,88 +119,111 @@ fn run_both<N: Boarded, S: Shelf, O: Origin, R: Threads + Wait + Sync>(
     alloc: Global,
     store: &Store<N, S, Grown<O>>,
     background: &Background,
-    bench: Bench<N, S, O>,
+    tools: &mut Tools<N, S>,
+    mark: Mark<N, O>,
     filling: Filling,
     keys: u64,
-) -> Result<(Bench<N, S, O>, Measured), BenchFault>
+    found: &mut Found,
+) -> Result<Mark<N, O>, BenchFault>
     requires { filling.pairs ≤ filling.keys }
-    ensures { IfOk result (λ r. Fills filling.keys filling.size filling.ascends filling.pairs
-        bench.mark r.0.mark) }
+    ensures { IfOk result
+        (Fills filling.keys filling.size filling.ascends filling.pairs mark) }
 {
-    let Bench {
-        mut shelf,
-        reader,
-        mut draws,
-        mut more_draws,
-        mark,
-    } = bench;
-    let (shelf_of, draws_of, more_of) = (&mut shelf, &mut draws, &mut more_draws);
-    let ((reader, read), written) = join(
+    let (shelf, more_draws) = (&mut tools.shelf, &mut tools.more_draws);
+    let (readers, draws) = (&mut tools.readers, &mut tools.draws);
+    let (read, written) = join(
         rt,
-        move || read_drawn(rt, alloc, store, reader, keys, draws_of),
+        move || read_drawn(rt, alloc, store, readers, keys, draws, found),
         move || -> Result<Mark<N, O>, BenchFault>
             requires { filling.pairs ≤ filling.keys }
             ensures { IfOk result
                 (Fills filling.keys filling.size filling.ascends filling.pairs mark) }
         {
             fill(
-                rt, alloc, store, background, shelf_of, filling, more_of, mark,
+                rt, alloc, store, background, shelf, filling, more_draws, mark,
             )
         },
     );
-    let found = read?;
-    let mark = written?;
-    let bench = Bench {
-        shelf,
-        reader,
-        draws,
-        more_draws,
-        mark,
-    };
-    Ok((bench, read_by_key(keys, found)))
-}
-
-/// Waits until nothing is due.
-fn run_compact<R: Wait>(rt: &R, background: &Background) -> Measured {
-    background.wait_until_idle(rt);
-    Measured {
-        operations: 1,
-        bytes: 0,
-        found: None,
+    match read {
+        Ok(()) => written,
+        Err(fault) => {
+            drop(written);
+            Err(fault)
+        }
     }
 }
 
-/// Runs a benchmark.
+/// Runs a benchmark. How far the store is then.
 fn run_one<N: Boarded, S: Shelf, O: Origin, R: Threads + Wait + Sync>(
     rt: &R,
     alloc: Global,
     store: &Store<N, S, Grown<O>>,
     background: &Background,
-    bench: Bench<N, S, O>,
+    tools: &mut Tools<N, S>,
+    mark: Mark<N, O>,
     benchmark: Benchmark,
     options: &BenchOptions,
-) -> Result<(Bench<N, S, O>, Measured), BenchFault>
-    ensures { IfOk result (λ r. Runs options.now.num options.now.value_size benchmark
-        bench.mark r.0.mark) }
+    found: &mut Found,
+) -> Result<Mark<N, O>, BenchFault>
+    ensures { IfOk result (Runs options.now.num options.now.value_size benchmark mark) }
 {
+    let keys = options.num;
     match benchmark {
         Benchmark::FillBatch => {
-            let bench = run_fill(rt, alloc, store, background, bench, ascending(options))?;
-            Ok((bench, filled(options)))
+            let (shelf, draws) = (&mut tools.shelf, &mut tools.draws);
+            let filling = ascending(options);
+            fill(rt, alloc, store, background, shelf, filling, draws, mark)
         }
         Benchmark::FillRandom | Benchmark::Overwrite => {
-            let filling = drawn(options, options.num, MOST_WRITES);
-            let bench = run_fill(rt, alloc, store, background, bench, filling)?;
-            Ok((bench, filled(options)))
+            let (shelf, draws) = (&mut tools.shelf, &mut tools.draws);
+            let filling = drawn(options, keys, MOST_WRITES);
+            fill(rt, alloc, store, background, shelf, filling, draws, mark)
         }
-        Benchmark::ReadRandom => run_reads(rt, alloc, store, bench, options.num),
-        Benchmark::ReadSeq => run_scan(rt, alloc, store, bench),
+        Benchmark::ReadRandom => {
+            let (readers, draws) = (&mut tools.readers, &mut tools.draws);
+            let read = read_drawn(rt, alloc, store, readers, keys, draws, found);
+            mark_after(read, mark)
+        }
+        Benchmark::ReadSeq => {
+            let read = read_all(rt, alloc, store, &mut tools.readers, found);
+            mark_after(read, mark)
+        }
         Benchmark::ReadWhileWriting => {
             // a tenth of the pairs, beside the reads
             let filling = drawn(options, options.num / 10, 1_000);
-            run_both(rt, alloc, store, background, bench, filling, options.num)
+            run_both(
+                rt, alloc, store, background, tools, mark, filling, keys, found,
+            )
         }
-        Benchmark::Compact => Ok((bench, run_compact(rt, background))),
+        Benchmark::Compact => {
+            background.wait_until_idle(rt);
+            Ok(mark)
+        }
+    }
+}
+
+/// The time now.
+fn begin_now<R: Clock>(rt: &R) -> Result<Instant, BenchFault> {
+    match Instant::now(rt) {
+        Ok(begun) => Ok(begun),
+        Err(_) => Err(BenchFault::Clock),
+    }
+}
+
+/// Writes the line of a benchmark that began then and came to that.
+fn write_measured<R: Clock, W: Write>(
+    rt: &R,
+    out: &mut W,
+    benchmark: Benchmark,
+    measured: Measured,
+    begun: Instant,
+) -> Result<(), BenchFault> {
+    let Ok(elapsed) = begun.elapsed(rt) else {
+        return Err(BenchFault::Clock);
+    };
+    match write_line(out, benchmark, measured, elapsed.as_nanos()) {
+        Ok(()) => Ok(()),
+        Err(_) => Err(BenchFault::Write),
     }
 }
 
@@ -287,52 +233,53 @@ fn measure<N: Boarded, S: Shelf, O: Origin, R: Threads + Wait + Clock + Sync, W:
     alloc: Global,
     store: &Store<N, S, Grown<O>>,
     background: &Background,
-    bench: Bench<N, S, O>,
+    tools: &mut Tools<N, S>,
+    mark: Mark<N, O>,
     benchmark: Benchmark,
     options: &BenchOptions,
     out: &mut W,
-) -> Result<Bench<N, S, O>, BenchFault>
-    ensures { IfOk result (λ b. Runs options.now.num options.now.value_size benchmark
-        bench.mark b.mark) }
+) -> Result<Mark<N, O>, BenchFault>
+    ensures { IfOk result (Runs options.now.num options.now.value_size benchmark mark) }
 {
-    let Ok(begun) = Instant::now(rt) else {
-        return Err(BenchFault::Clock);
-    };
-    let (bench, measured) = run_one(rt, alloc, store, background, bench, benchmark, options)?;
-    let Ok(elapsed) = begun.elapsed(rt) else {
-        return Err(BenchFault::Clock);
-    };
-    match write_line(out, benchmark, measured, elapsed.as_nanos()) {
-        Ok(()) => Ok(bench),
-        Err(_) => Err(BenchFault::Write),
-    }
+    let begun = begin_now(rt)?;
+    let mut found = Found::nothing();
+    let mark = run_one(
+        rt, alloc, store, background, tools, mark, benchmark, options, &mut found,
+    )?;
+    let measured = measured(benchmark, options, found);
+    mark_after(write_measured(rt, out, benchmark, measured, begun), mark)
 }
 
-/// Runs these benchmarks, one after another, and writes a line for each.
+/// Runs these benchmarks, one after another, and writes a line for each. How far the store is then.
 pub(crate) fn measure_all<N, S, O, R, W>(
     rt: &R,
     alloc: Global,
     store: &Store<N, S, Grown<O>>,
     background: &Background,
-    bench: Bench<N, S, O>,
+    tools: &mut Tools<N, S>,
+    mark: Mark<N, O>,
     benchmarks: &[Benchmark],
     options: &BenchOptions,
     out: &mut W,
-) -> Result<Bench<N, S, O>, BenchFault>
+) -> Result<Mark<N, O>, BenchFault>
 where
     N: Boarded,
     S: Shelf,
     O: Origin,
     R: Threads + Wait + Clock + Sync,
     W: Write,
-    ensures { IfOk result (λ b. RunsAll options.now.num options.now.value_size benchmarks.now
-        bench.mark b.mark) }
+    ensures { IfOk result
+        (RunsAll options.now.num options.now.value_size benchmarks.now mark) }
 {
     match benchmarks {
-        [] => Ok(bench),
+        [] => Ok(mark),
         [first, rest @ ..] => {
-            let after = measure(rt, alloc, store, background, bench, *first, options, out)?;
-            measure_all(rt, alloc, store, background, after, rest, options, out)
+            let after = measure(
+                rt, alloc, store, background, tools, mark, *first, options, out,
+            )?;
+            measure_all(
+                rt, alloc, store, background, tools, after, rest, options, out,
+            )
         }
     }
 }

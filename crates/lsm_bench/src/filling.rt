@@ -10,10 +10,10 @@ ghost use Rattle.lsm_bench.specs.Pairs.{ArePairs, IsPairAt};
 use crate::bench_fault::BenchFault;
 use crate::draws::Draws;
 use crate::key::key_of;
-use lsm_batch::Write as KeyWrite;
+use lsm_batch::{Batch, Write as KeyWrite};
 use lsm_codec::Bytes;
 use lsm_lines::{PutFault, WriteBuffer};
-use lsm_loading::{Grown, Mark, Origin};
+use lsm_loading::{Grown, Mark, Origin, bring_in};
 use lsm_slots::Boarded;
 use lsm_state::StateFault;
 use lsm_store::{Background, Store};
@@ -80,41 +80,69 @@ fn put(buffer: &mut WriteBuffer, write: KeyWrite) -> Result<(), BenchFault>
     }
 }
 
-/// The pairs that come in with the next batch, so many, of which the first has this place.
+/// Gathers the pairs that come in with the next batch, so many, of which the first has this place.
 fn gather(
     alloc: Global,
     filling: Filling,
     first: u64,
     count: u64,
     draws: &mut Draws,
-) -> Result<WriteBuffer, BenchFault>
-    requires { first + count ≤ filling.keys }
-    ensures pairs { IfOk result (ArePairs filling.keys filling.size filling.ascends first) }
-    ensures count { IfOk result (λ b. length b ≡ count) }
+    buffer: &mut WriteBuffer,
+) -> Result<(), BenchFault>
+    requires within { first + count ≤ filling.keys }
+    requires none { buffer.old ≡ [] }
+    ensures pairs { OnOk result
+        (ArePairs filling.keys filling.size filling.ascends first buffer.new) }
+    ensures count { OnOk result (length buffer.new ≡ count) }
 {
-    let mut buffer = WriteBuffer::new(alloc);
     'pairs: for place in 0..count {
         let write = pair_at(alloc, filling, first + place, draws)?;
-        put(&mut buffer, write)?;
+        put(buffer, write)?;
     }
-    Ok(buffer)
+    Ok(())
 }
 
-/// Brings the last writes of what was gathered in. Where level 0 is full it waits for the workers.
-fn bring_in<N: Boarded, S: Shelf, O: Origin, R: Wait>(
+/// The next batch: of so many pairs, of which the first has this place, the last write of each key.
+fn next_batch(
+    alloc: Global,
+    filling: Filling,
+    first: u64,
+    count: u64,
+    draws: &mut Draws,
+) -> Result<Batch, BenchFault>
+    requires { first + count ≤ filling.keys }
+    ensures { IfOk result (λ b. (ws : List Write)
+        × ArePairs filling.keys filling.size filling.ascends first ws × (length ws ≡ count)
+        × KeepsLast ws b) }
+{
+    let mut buffer = WriteBuffer::new(alloc);
+    gather(alloc, filling, first, count, draws, &mut buffer)?;
+    match buffer.into_batch(alloc) {
+        Ok(batch) => Ok(batch),
+        Err(error) => Err(BenchFault::from(error)),
+    }
+}
+
+/// Brings the next batch in. Where level 0 is full it waits for the workers.
+fn bring_next<N: Boarded, S: Shelf, O: Origin, R: Wait>(
     rt: &R,
     alloc: Global,
     store: &Store<N, S, Grown<O>>,
     background: &Background,
     shelf: &mut NamedShelf<N, S>,
-    buffer: WriteBuffer,
+    filling: Filling,
+    first: u64,
+    count: u64,
+    draws: &mut Draws,
     mark: Mark<N, O>,
 ) -> Result<Mark<N, O>, BenchFault>
-    ensures { IfOk result (λ m. (batch : List Write) × KeepsLast buffer batch
-        × ComesNext batch mark m) }
+    requires { first + count ≤ filling.keys }
+    ensures { IfOk result (λ m. (ws : List Write)
+        × ArePairs filling.keys filling.size filling.ascends first ws × (length ws ≡ count)
+        × (batch : List Write) × KeepsLast ws batch × ComesNext batch mark m) }
 {
-    let batch = buffer.into_batch(alloc)?;
-    match lsm_loading::bring_in(rt, alloc, store, background, shelf, &batch, mark) {
+    let batch = next_batch(alloc, filling, first, count, draws)?;
+    match bring_in(rt, alloc, store, background, shelf, &batch, mark) {
         Ok(mark) => Ok(mark),
         Err((fault, _later)) => Err(BenchFault::of_batch(fault)),
     }
@@ -140,8 +168,9 @@ pub(crate) fn fill<N: Boarded, S: Shelf, O: Origin, R: Wait>(
     let mut taken = 0;
     'batches: while taken < filling.pairs {
         let count = next_count(filling, filling.pairs - taken);
-        let buffer = gather(alloc, filling, taken, count, draws)?;
-        mark = bring_in(rt, alloc, store, background, shelf, buffer, mark)?;
+        mark = bring_next(
+            rt, alloc, store, background, shelf, filling, taken, count, draws, mark,
+        )?;
         taken += count;
     }
     Ok(mark)

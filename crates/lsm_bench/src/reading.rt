@@ -3,8 +3,9 @@
 use crate::bench_fault::BenchFault;
 use crate::draws::Draws;
 use crate::key::key_of;
-use crate::views::view_now;
+use crate::views::{end, view_now};
 use lsm_loading::{Grown, Origin};
+use lsm_reads::Scan;
 use lsm_slots::Boarded;
 use lsm_store::{Reader, Store, View};
 use lsm_table::{ReadFault, Shelf};
@@ -25,12 +26,10 @@ impl Found {
     }
 
     /// A pair more, whose key and value have so many bytes.
-    pub(crate) fn with(self, key: usize, value: usize) -> Found {
+    fn add(&mut self, key: usize, value: usize) {
         let pair = (key as u64).saturating_add(value as u64);
-        Found {
-            pairs: self.pairs.saturating_add(1),
-            bytes: self.bytes.saturating_add(pair),
-        }
+        self.pairs = self.pairs.saturating_add(1);
+        self.bytes = self.bytes.saturating_add(pair);
     }
 }
 
@@ -39,21 +38,21 @@ fn read_key<N: Boarded, S: Shelf, O: Origin, R: Wait>(
     rt: &R,
     alloc: Global,
     store: &Store<N, S, Grown<O>>,
-    reader: Reader<N, S>,
+    readers: &mut Vec<Reader<N, S>>,
     key: &[u8],
-    found: Found,
-) -> (Reader<N, S>, Result<Found, BenchFault>) {
-    let mut view = match view_now(rt, store, reader) {
-        Ok(view) => view,
-        Err((reader, fault)) => return (reader, Err(BenchFault::State(fault))),
-    };
+    found: &mut Found,
+) -> Result<(), BenchFault> {
+    let mut view = view_now(rt, store, readers)?;
     let last = view.last();
     let value = view.get(alloc, key, last);
-    let reader = view.end();
+    end(view, readers);
     match value {
-        Ok(Some(value)) => (reader, Ok(found.with(key.len(), value.len()))),
-        Ok(None) => (reader, Ok(found)),
-        Err(fault) => (reader, Err(BenchFault::of_read(fault))),
+        Ok(Some(value)) => {
+            found.add(key.len(), value.len());
+            Ok(())
+        }
+        Ok(None) => Ok(()),
+        Err(fault) => Err(BenchFault::of_read(fault)),
     }
 }
 
@@ -62,39 +61,45 @@ pub(crate) fn read_drawn<N: Boarded, S: Shelf, O: Origin, R: Wait>(
     rt: &R,
     alloc: Global,
     store: &Store<N, S, Grown<O>>,
-    reader: Reader<N, S>,
+    readers: &mut Vec<Reader<N, S>>,
     keys: u64,
     draws: &mut Draws,
-) -> (Reader<N, S>, Result<Found, BenchFault>) {
-    let mut reader = reader;
-    let mut found = Found::nothing();
+    found: &mut Found,
+) -> Result<(), BenchFault> {
     for _ in 0..keys {
         let key = key_of(draws.number_below(keys));
-        let (after, read) = read_key(rt, alloc, store, reader, &key, found);
-        reader = after;
-        match read {
-            Ok(more) => found = more,
-            Err(fault) => return (reader, Err(fault)),
-        }
+        read_key(rt, alloc, store, readers, &key, found)?;
     }
-    (reader, Ok(found))
+    Ok(())
+}
+
+/// Goes on through all pairs of a scan.
+fn go_through<N: Boarded, S: Shelf>(
+    alloc: Global,
+    view: &mut View<N, S>,
+    scan: &mut Scan<N, S>,
+    found: &mut Found,
+) -> Result<(), ReadFault> {
+    for _ in 0..u64::MAX {
+        if !view.step(alloc, scan)? {
+            return Ok(());
+        }
+        found.add(scan.user().len(), scan.value().len());
+    }
+    Ok(())
 }
 
 /// Goes through all pairs of a view.
-fn pairs_of<N: Boarded, S: Shelf>(
+fn read_pairs<N: Boarded, S: Shelf>(
     alloc: Global,
     view: &mut View<N, S>,
-) -> Result<Found, ReadFault> {
+    found: &mut Found,
+) -> Result<(), ReadFault> {
     let last = view.last();
     let mut scan = view.scan(alloc, last)?;
-    let mut found = Found::nothing();
-    for _ in 0..u64::MAX {
-        if !view.step(alloc, &mut scan)? {
-            return Ok(found);
-        }
-        found = found.with(scan.user().len(), scan.value().len());
-    }
-    Ok(found)
+    let read = go_through(alloc, view, &mut scan, found);
+    drop(scan);
+    read
 }
 
 /// Goes through all pairs of the newest version.
@@ -102,16 +107,14 @@ pub(crate) fn read_all<N: Boarded, S: Shelf, O: Origin, R: Wait>(
     rt: &R,
     alloc: Global,
     store: &Store<N, S, Grown<O>>,
-    reader: Reader<N, S>,
-) -> (Reader<N, S>, Result<Found, BenchFault>) {
-    let mut view = match view_now(rt, store, reader) {
-        Ok(view) => view,
-        Err((reader, fault)) => return (reader, Err(BenchFault::State(fault))),
-    };
-    let found = pairs_of(alloc, &mut view);
-    let reader = view.end();
-    match found {
-        Ok(found) => (reader, Ok(found)),
-        Err(fault) => (reader, Err(BenchFault::of_read(fault))),
+    readers: &mut Vec<Reader<N, S>>,
+    found: &mut Found,
+) -> Result<(), BenchFault> {
+    let mut view = view_now(rt, store, readers)?;
+    let read = read_pairs(alloc, &mut view, found);
+    end(view, readers);
+    match read {
+        Ok(()) => Ok(()),
+        Err(fault) => Err(BenchFault::of_read(fault)),
     }
 }

@@ -1,24 +1,25 @@
 //! Benchmarks on a new database, beside workers.
 
-ghost use Rattle.std.specs.Prelude.{◌≡◌, IfOk, IfSome, OnOk, vec_len};
+ghost use Rattle.std.specs.Prelude.{◌≡◌, ◌≤◌, IfOk, Ok, OnOk, vec_len};
 ghost use Rattle.lsm_bench.specs.Benched.{IsBenchedOn};
 ghost use Rattle.lsm_bench.specs.Filled.{RunsAll};
 ghost use Rattle.lsm_loading.specs.Marks.{IsEven, marked_in};
 ghost use Rattle.lsm_shelf.specs.Told.{Forked};
+ghost use Rattle.lsm_state.specs.Held.{Held, IsLawfulState};
 ghost use Rattle.lsm_state.specs.Making.{IsNewBoard, IsNewHistory};
 ghost use Rattle.lsm_store.specs.Readers.{SeatsPinners};
 ghost use Rattle.lsm_writing.specs.Starting.{usual};
 
 use crate::beginning::begin;
-use crate::bench::{Bench, measure_all};
+use crate::bench::{Tools, mark_after, measure_all};
 use crate::bench_fault::BenchFault;
 use crate::draws::Draws;
 use crate::report::write_head;
 use lsm_loading::{Grown, Mark, Origin, forks};
 use lsm_slots::Boarded;
 use lsm_state::State;
-use lsm_store::{Background, Invariant, NoGate, Reader, Store, WorkerEnd, with_workers};
-use lsm_table::{NamedShelf, Shelf, ShelfFault};
+use lsm_store::{Background, NoGate, Reader, Store, WorkerEnd, with_workers};
+use lsm_table::{NamedShelf, Shelf};
 use lsm_text::BenchOptions;
 use lsm_writing::NewParts;
 use std::alloc::{AllocError, Global};
@@ -28,113 +29,20 @@ use std::rt::Clock;
 use std::sync::Wait;
 use std::thread::Threads;
 
-/// A store, a shelf for each worker, and what benchmarks run on.
-#[derive(Drop)]
-struct Crew<N: Boarded, S: Shelf, O: Origin>
-where
-    Grown<O>: Invariant,
-{
-    store: Store<N, S, Grown<O>>,
-    shelves: Vec<NamedShelf<N, S>>,
-    bench: Bench<N, S, O>,
-}
-
-/// Forks of a shelf: one for each worker, one for batches, and one for the store's readers.
-#[derive(Drop)]
-struct Forks<N: Boarded, S: Shelf> {
-    workers: Vec<NamedShelf<N, S>>,
-    own: NamedShelf<N, S>,
-    reading: NamedShelf<N, S>,
-}
-
-/// The forks for so many workers.
-#[tactic(auto, using(lsm_shelf::proofs::CallerLemmas::forked_then, lsm_shelf::proofs::CallerLemmas::forked_once, lsm_shelf::proofs::CallerLemmas::forked_same))]
-fn forks_for<N: Boarded, S: Shelf>(
+/// What benchmarks run on, with this shelf and these readers.
+fn tools_for<N: Boarded, S: Shelf>(
     alloc: Global,
-    shelf: &mut NamedShelf<N, S>,
-    count: usize,
-) -> Result<Forks<N, S>, ShelfFault>
-    ensures told { Forked shelf.old shelf.new }
-{
-    let workers = forks::<N, S>(alloc, shelf, count)?;
-    let own = shelf.fork(alloc)?;
-    let reading = shelf.fork(alloc)?;
-    Ok(Forks {
-        workers,
-        own,
-        reading,
-    })
-}
-
-/// What draws for the thread of the benchmarks, and what does for one beside it.
-fn draws_for(alloc: Global) -> Result<(Draws, Draws), BenchFault> {
+    shelf: NamedShelf<N, S>,
+    readers: Vec<Reader<N, S>>,
+) -> Result<Tools<N, S>, AllocError> {
     let draws = Draws::new(alloc, 301)?;
-    let more = Draws::new(alloc, 1000)?;
-    Ok((draws, more))
-}
-
-/// The last one of the readers.
-fn one_of<N: Boarded, S: Shelf>(readers: Vec<Reader<N, S>>) -> Result<Reader<N, S>, BenchFault> {
-    let mut readers = readers;
-    match readers.pop() {
-        Some(reader) => Ok(reader),
-        None => Err(BenchFault::from(AllocError)),
-    }
-}
-
-/// The store of a state, and one of its readers.
-#[tactic(auto, using(lsm_loading::proofs::CallerLemmas::even_seated))]
-fn store_of<N: Boarded, S: Shelf, O: Origin>(
-    alloc: Global,
-    state: State<N, S>,
-    reading: NamedShelf<N, S>,
-) -> Result<(Store<N, S, Grown<O>>, Reader<N, S>), BenchFault>
-    requires seats { SeatsPinners state }
-    requires found { O.found ≡ marked_in state }
-{
-    match Store::new(alloc, state, reading) {
-        Ok((store, readers)) => match one_of(readers) {
-            Ok(reader) => Ok((store, reader)),
-            Err(fault) => Err(fault),
-        },
-        Err((_state, _shelf, fault)) => Err(BenchFault::of_shelf(fault)),
-    }
-}
-
-/// The store of a state, and what is needed beside it. The mark is where the state was found.
-#[tactic(auto, using(lsm_loading::proofs::CallerLemmas::even_first))]
-fn crew_of<N: Boarded, S: Shelf, O: Origin>(
-    alloc: Global,
-    state: State<N, S>,
-    forks: Forks<N, S>,
-    draws: (Draws, Draws),
-) -> Result<Crew<N, S, O>, BenchFault>
-    requires seats { SeatsPinners state }
-    requires found { O.found ≡ marked_in state }
-    ensures mark { IfOk result (λ c. c.bench.mark ≡ marked_in state) }
-{
-    let mut state = state;
-    let Forks {
-        workers,
-        own,
-        reading,
-    } = forks;
-    let (draws, more_draws) = draws;
-    let mark: Mark<N, O> = Mark::of(&mut state);
-    match store_of::<N, S, O>(alloc, state, reading) {
-        Ok((store, reader)) => Ok(Crew {
-            store,
-            shelves: workers,
-            bench: Bench {
-                shelf: own,
-                reader,
-                draws,
-                more_draws,
-                mark,
-            },
-        }),
-        Err(fault) => Err(fault),
-    }
+    let more_draws = Draws::new(alloc, 1000)?;
+    Ok(Tools {
+        shelf,
+        readers,
+        draws,
+        more_draws,
+    })
 }
 
 /// That no worker ended early.
@@ -147,117 +55,183 @@ fn judge(ends: &[WorkerEnd]) -> Result<(), BenchFault> {
     Ok(())
 }
 
-/// The state behind the benchmarks, where it is just as far as the mark behind them.
-fn state_at<N: Boarded, S: Shelf, O: Origin>(
-    state: State<N, S>,
-    mark: Mark<N, O>,
-) -> Result<State<N, S>, BenchFault>
-    requires { IsEven O.found (marked_in state) }
-    ensures { IfOk result (λ s. marked_in s ≡ mark) }
+/// What benchmarks came to beside workers that ended so.
+fn judged<N: Boarded, O: Origin>(
+    came: Result<Mark<N, O>, BenchFault>,
+    ends: Vec<WorkerEnd>,
+) -> Result<Mark<N, O>, BenchFault>
+    ensures { IfOk result (λ m. came ≡ Ok m) }
 {
-    let mut state = state;
-    if mark.is_of(&mut state) {
-        return Ok(state);
-    }
-    Err(BenchFault::Other)
-}
-
-/// What the benchmarks came to, and the workers' ends.
-type Run<N, S, O> = (Result<Bench<N, S, O>, BenchFault>, Vec<WorkerEnd>);
-
-/// Runs the benchmarks on a store, while its workers compact. None where there was no memory for
-/// the workers.
-#[tactic(auto, using(lsm_loading::proofs::CallerLemmas::even_compacting))]
-fn run_beside<N, S, O, R, W>(
-    rt: &R,
-    alloc: Global,
-    crew: Crew<N, S, O>,
-    options: &BenchOptions,
-    out: &mut W,
-) -> (Option<Run<N, S, O>>, State<N, S>)
-where
-    N: Boarded,
-    S: Shelf,
-    O: Origin,
-    R: Threads + Wait + Clock + Sync,
-    W: Write,
-    ensures ran { IfSome result.0 (λ r. IfOk r.0 (λ b. RunsAll options.now.num
-        options.now.value_size options.now.benchmarks.items crew.bench.mark b.mark)) }
-    ensures even { IsEven O.found (marked_in result.1) }
-{
-    let Crew {
-        store,
-        shelves,
-        bench,
-    } = crew;
-    let lent = &store;
-    let told = &mut *out;
-    let run = with_workers(
-        rt,
-        alloc,
-        lent,
-        shelves,
-        &NoGate,
-        move |background: &Background| -> Result<Bench<N, S, O>, BenchFault>
-            ensures { IfOk result (λ b. RunsAll options.entry.now.num
-                options.entry.now.value_size options.entry.now.benchmarks.items bench.mark
-                b.mark) }
-        {
-            let benchmarks = options.benchmarks.as_slice();
-            measure_all(
-                rt, alloc, lent, background, bench, benchmarks, options, told,
-            )
-        },
-    );
-    match run {
-        Ok(run) => (Some(run), store.into_state()),
-        Err(refused) => {
-            drop(refused);
-            (None, store.into_state())
-        }
-    }
-}
-
-/// Runs the benchmarks on a store. The state behind them.
-fn run_crew<N, S, O, R, W>(
-    rt: &R,
-    alloc: Global,
-    crew: Crew<N, S, O>,
-    options: &BenchOptions,
-    out: &mut W,
-) -> Result<State<N, S>, BenchFault>
-where
-    N: Boarded,
-    S: Shelf,
-    O: Origin,
-    R: Threads + Wait + Clock + Sync,
-    W: Write,
-    ensures { IfOk result (λ s. RunsAll options.now.num options.now.value_size
-        options.now.benchmarks.items crew.bench.mark (marked_in s)) }
-{
-    let (run, state) = run_beside(rt, alloc, crew, options, out);
-    let Some((done, ends)) = run else {
-        return Err(BenchFault::from(AllocError));
-    };
-    let Bench { mark, .. } = done?;
-    let state = state_at(state, mark)?;
-    match judge(&ends) {
-        Ok(()) => Ok(state),
+    match came {
+        Ok(mark) => mark_after(judge(&ends), mark),
         Err(fault) => Err(fault),
     }
 }
 
-/// Runs the benchmarks on a state, of whose shelf only forks are asked. The state behind them.
-#[tactic(auto, using(lsm_shelf::proofs::CallerLemmas::forked_none))]
-fn run_state<N, S, O, R, W>(
+/// Writes the head, and runs the benchmarks on a store while its workers compact. How far the store
+/// is then.
+#[tactic(auto, using(lsm_loading::proofs::CallerLemmas::even_compacting))]
+fn run_beside<N, S, O, R, W>(
+    rt: &R,
+    alloc: Global,
+    store: &Store<N, S, Grown<O>>,
+    shelves: Vec<NamedShelf<N, S>>,
+    tools: &mut Tools<N, S>,
+    mark: Mark<N, O>,
+    options: &BenchOptions,
+    out: &mut W,
+) -> Result<Mark<N, O>, BenchFault>
+where
+    N: Boarded,
+    S: Shelf,
+    O: Origin,
+    R: Threads + Wait + Clock + Sync,
+    W: Write,
+    ensures { IfOk result (RunsAll options.now.num options.now.value_size
+        options.now.benchmarks.items mark) }
+{
+    let run = with_workers(
+        rt,
+        alloc,
+        store,
+        shelves,
+        &NoGate,
+        move |background: &Background| -> Result<Mark<N, O>, BenchFault>
+            ensures { IfOk result (RunsAll options.entry.now.num options.entry.now.value_size
+                options.entry.now.benchmarks.items mark) }
+        {
+            let Ok(()) = write_head(out, options) else {
+                return Err(BenchFault::Write);
+            };
+            let benchmarks = options.benchmarks.as_slice();
+            measure_all(
+                rt, alloc, store, background, tools, mark, benchmarks, options, out,
+            )
+        },
+    );
+    match run {
+        Ok((came, ends)) => judged(came, ends),
+        Err(refused) => {
+            drop(refused);
+            Err(BenchFault::from(AllocError))
+        }
+    }
+}
+
+/// Runs the benchmarks on a store with these readers, and shelves for its workers and for batches.
+/// How far the store is then.
+fn run_with<N, S, O, R, W>(
+    rt: &R,
+    alloc: Global,
+    store: &Store<N, S, Grown<O>>,
+    readers: Vec<Reader<N, S>>,
+    shelves: Vec<NamedShelf<N, S>>,
+    mark: Mark<N, O>,
+    options: &BenchOptions,
+    out: &mut W,
+) -> Result<Mark<N, O>, BenchFault>
+where
+    N: Boarded,
+    S: Shelf,
+    O: Origin,
+    R: Threads + Wait + Clock + Sync,
+    W: Write,
+    requires { 1 ≤ vec_len shelves }
+    ensures { IfOk result (RunsAll options.now.num options.now.value_size
+        options.now.benchmarks.items mark) }
+{
+    let mut shelves = shelves;
+    let Some(own) = shelves.pop() else {
+        unreachable!()
+    };
+    match tools_for(alloc, own, readers) {
+        Ok(tools) => {
+            let mut tools = tools;
+            run_beside(rt, alloc, store, shelves, &mut tools, mark, options, out)
+        }
+        Err(error) => Err(BenchFault::from(error)),
+    }
+}
+
+/// That the state behind the benchmarks is just as far as the mark behind them.
+fn judge_state<N: Boarded, S: Shelf, O: Origin>(
+    state: &mut State<N, S>,
+    mark: Mark<N, O>,
+) -> Result<(), BenchFault>
+    requires { IsEven O.found (marked_in state.old) }
+    ensures mark { OnOk result (marked_in state.old ≡ mark) }
+    ensures lawful { IsLawfulState S.honest N.board state.old }
+{
+    // The law of the state is told by this call.
+    let _options = state.options();
+    if mark.is_of(state) {
+        return Ok(());
+    }
+    Err(BenchFault::Other)
+}
+
+/// Runs the benchmarks on a store. A lawful state is behind them, and is let go.
+#[tactic(auto, using(lsm_loading::proofs::CallerLemmas::even_out, crate::proofs::RunLaws::left_at))]
+fn run_store<N, S, O, R, W>(
+    rt: &R,
+    alloc: Global,
+    store: Store<N, S, Grown<O>>,
+    readers: Vec<Reader<N, S>>,
+    shelves: Vec<NamedShelf<N, S>>,
+    mark: Mark<N, O>,
+    options: &BenchOptions,
+    out: &mut W,
+) -> Result<(), BenchFault>
+where
+    N: Boarded,
+    S: Shelf,
+    O: Origin,
+    R: Threads + Wait + Clock + Sync,
+    W: Write,
+    requires { 1 ≤ vec_len shelves }
+    ensures { OnOk result ((left : Held) × IsLawfulState S.honest N.board left
+        × RunsAll options.now.num options.now.value_size options.now.benchmarks.items
+        mark (marked_in left)) }
+{
+    let came = run_with(rt, alloc, &store, readers, shelves, mark, options, out);
+    let mut state = store.into_state();
+    match came {
+        Ok(mark) => judge_state(&mut state, mark),
+        Err(fault) => Err(fault),
+    }
+}
+
+/// The store of a state, and its readers.
+#[tactic(auto, using(lsm_loading::proofs::CallerLemmas::even_seated))]
+fn store_of<N: Boarded, S: Shelf, O: Origin>(
+    alloc: Global,
+    state: State<N, S>,
+    reading: NamedShelf<N, S>,
+) -> Result<(Store<N, S, Grown<O>>, Vec<Reader<N, S>>), BenchFault>
+    requires seats { SeatsPinners state }
+    requires found { O.found ≡ marked_in state }
+{
+    match Store::new(alloc, state, reading) {
+        Ok(made) => Ok(made),
+        Err(refused) => {
+            let fault = refused.2;
+            drop(refused);
+            Err(BenchFault::of_shelf(fault))
+        }
+    }
+}
+
+/// Runs the benchmarks on a state, with a shelf for each worker, one for batches, and one for the
+/// store's readers. A lawful state is behind them, and is let go.
+#[tactic(auto, using(lsm_loading::proofs::CallerLemmas::even_first))]
+fn run_shelves<N, S, O, R, W>(
     rt: &R,
     alloc: Global,
     state: State<N, S>,
-    shelf: &mut NamedShelf<N, S>,
-    draws: (Draws, Draws),
+    shelves: Vec<NamedShelf<N, S>>,
     options: &BenchOptions,
     out: &mut W,
-) -> Result<State<N, S>, BenchFault>
+) -> Result<(), BenchFault>
 where
     N: Boarded,
     S: Shelf,
@@ -266,21 +240,51 @@ where
     W: Write,
     requires seats { SeatsPinners state }
     requires found { O.found ≡ marked_in state }
-    ensures ran { IfOk result (λ s. RunsAll options.now.num options.now.value_size
-        options.now.benchmarks.items (marked_in state) (marked_in s)) }
+    requires shelves { 2 ≤ vec_len shelves }
+    ensures { OnOk result ((left : Held) × IsLawfulState S.honest N.board left
+        × RunsAll options.now.num options.now.value_size options.now.benchmarks.items
+        (marked_in state) (marked_in left)) }
+{
+    let (mut state, mut shelves) = (state, shelves);
+    let Some(reading) = shelves.pop() else {
+        unreachable!()
+    };
+    let mark: Mark<N, O> = Mark::of(&mut state);
+    match store_of::<N, S, O>(alloc, state, reading) {
+        Ok((store, readers)) => run_store(rt, alloc, store, readers, shelves, mark, options, out),
+        Err(fault) => Err(fault),
+    }
+}
+
+/// Runs the benchmarks on a state, of whose shelf only forks are asked. A lawful state is behind
+/// them, and is let go.
+fn run_state<N, S, O, R, W>(
+    rt: &R,
+    alloc: Global,
+    state: State<N, S>,
+    shelf: &mut NamedShelf<N, S>,
+    options: &BenchOptions,
+    out: &mut W,
+) -> Result<(), BenchFault>
+where
+    N: Boarded,
+    S: Shelf,
+    O: Origin,
+    R: Threads + Wait + Clock + Sync,
+    W: Write,
+    requires seats { SeatsPinners state }
+    requires found { O.found ≡ marked_in state }
+    ensures ran { OnOk result ((left : Held) × IsLawfulState S.honest N.board left
+        × RunsAll options.now.num options.now.value_size options.now.benchmarks.items
+        (marked_in state) (marked_in left)) }
     ensures told { Forked shelf.old shelf.new }
 {
-    let forks = match forks_for(alloc, shelf, options.workers) {
-        Ok(forks) => forks,
-        Err(fault) => return Err(BenchFault::of_shelf(fault)),
-    };
-    let crew = match crew_of::<N, S, O>(alloc, state, forks, draws) {
-        Ok(crew) => crew,
-        Err(fault) => return Err(fault),
-    };
-    match write_head(out, options) {
-        Ok(()) => run_crew(rt, alloc, crew, options, out),
-        Err(_) => Err(BenchFault::Write),
+    match forks::<N, S>(alloc, shelf, options.workers.saturating_add(2)) {
+        Ok(shelves) => run_shelves::<N, S, O, R, W>(rt, alloc, state, shelves, options, out),
+        Err(fault) => {
+            drop(state);
+            Err(BenchFault::of_shelf(fault))
+        }
     }
 }
 
@@ -301,14 +305,9 @@ fn run_named<N: Boarded, S: Shelf, R: Threads + Wait + Clock + Sync, W: Write>(
     ensures { OnOk result (IsBenchedOn S.honest number options.now shelf.old shelf.new) }
 {
     let parts = parts.named(alloc)?;
-    let draws = draws_for(alloc)?;
     let state: State<N, S> = begin(rt, alloc, shelf, number, parts)?;
-    match run_state::<N, S, Brand, R, W>(rt, alloc, state, shelf, draws, options, out) {
-        Ok(left) => {
-            // The law of the state is told by this call.
-            let _options = left.options();
-            Ok(())
-        }
+    match run_state::<N, S, Brand, R, W>(rt, alloc, state, shelf, options, out) {
+        Ok(()) => Ok(()),
         Err(fault) => Err(fault),
     }
 }

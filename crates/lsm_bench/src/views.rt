@@ -15,27 +15,40 @@ use std::sync::Wait;
 fn view_of<N: Boarded, S: Shelf>(
     state: &mut State<N, S>,
     reader: Reader<N, S>,
-) -> Result<View<N, S>, (Reader<N, S>, StateFault)>
+) -> Result<View<N, S>, StateFault>
     ensures { marked_in state.new ≡ marked_in state.old }
 {
     let mut reader = reader;
     if reader.refresh(state).is_err() {
-        return Err((reader, StateFault::OutOfMemory));
+        drop(reader);
+        return Err(StateFault::OutOfMemory);
     }
     match reader.begin() {
         Ok(view) => Ok(view),
-        Err((reader, _)) => Err((reader, StateFault::PinsSpent)),
+        Err(refused) => {
+            drop(refused);
+            Err(StateFault::PinsSpent)
+        }
     }
 }
 
-/// A view of the newest version. The lock is taken only where the reader has not learnt it.
+/// A view of the newest version by the last one of the readers, which is taken from them. The lock
+/// is taken only where it has not learnt that version.
 pub(crate) fn view_now<N: Boarded, S: Shelf, O: Origin, R: Wait>(
     rt: &R,
     store: &Store<N, S, Grown<O>>,
-    reader: Reader<N, S>,
-) -> Result<View<N, S>, (Reader<N, S>, StateFault)> {
+    readers: &mut Vec<Reader<N, S>>,
+) -> Result<View<N, S>, StateFault> {
+    let Some(reader) = readers.pop() else {
+        return Err(StateFault::OutOfMemory);
+    };
     match reader.begin() {
         Ok(view) => Ok(view),
         Err((reader, _)) => view_of(&mut store.lock(rt).state, reader),
     }
+}
+
+/// Ends a view, and puts its reader behind the others, where its room is.
+pub(crate) fn end<N: Boarded, S: Shelf>(view: View<N, S>, readers: &mut Vec<Reader<N, S>>) {
+    let _ = readers.push(view.end());
 }

@@ -12,7 +12,7 @@ pub batches-preserved : goal.batches-preserved
 batches-preserved g c =
     let f = c.args.filling in
     let came = c.in_ok-mark.ensures in record {
-      filled = fills_more f.keys f.size f.ascends c.batches.taken c.next_count-count.result c.args.mark c.batches.mark c.in_ok-mark.mark c.in_ok-buffer.buffer came.0 c.batches.invariant.filled
-          c.in_ok-buffer.ensures.pairs c.in_ok-buffer.ensures.count came.1 came.2;
+      filled = fills_more f.keys f.size f.ascends c.batches.taken c.next_count-count.result c.args.mark c.batches.mark c.in_ok-mark.mark came.0 came.3 c.batches.invariant.filled
+          came.1 came.2 came.4 came.5;
       within = omega arith;
     }

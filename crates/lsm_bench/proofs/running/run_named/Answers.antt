@@ -5,9 +5,9 @@ returns-in-Ok g c = record {
   found = c.in_ok-state.state;
   mid = c.begin.new.shelf;
   new = c.in_ok-state.ensures.begun;
-  left = c.in-Ok.left;
+  left = c.in-Ok.ensures.ran.0;
   board = g.N.Boarded.board;
-  lawful = c.options-options.ensures.law;
-  came = c.in-Ok.ensures.ran;
+  lawful = c.in-Ok.ensures.ran.1;
+  came = c.in-Ok.ensures.ran.2;
   forked = c.run_state.ensures.told;
 }
