@@ -7,12 +7,12 @@ ghost use Rattle.lsm_writing.specs.declared.faults.writer_fault.WriterFault.TheV
 ghost use Rattle.lsm_state.specs.declared.state_fault.StateFault.TheVariants.{OutOfMemory as StateMemory};
 
 use lsm_batch::Write as KeyWrite;
+use lsm_compacting::CompactFault;
 use lsm_directory::{DirectoryFault, Exit};
 use lsm_loading::LoadFault;
 use lsm_state::StateFault;
 use lsm_store::WorkerFault;
 use lsm_table::{ReadFault, ShelfFault};
-use lsm_compacting::CompactFault;
 use lsm_writing::WriterFault;
 use std::alloc::AllocError;
 use std::fmt;
