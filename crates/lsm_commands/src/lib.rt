@@ -2,9 +2,10 @@
 //! below.
 //!
 //! Stands on `lsm_text` for words, on `lsm_lists` for the commands on one input, on `lsm_reading`,
-//! `lsm_layout`, `lsm_writing`, `lsm_compacting`, `lsm_load`, `lsm_shell` and `lsm_bench` for those on
-//! a folder, and on `lsm_directory` for what these share. Its contract: `run` does what the words of a command line
-//! ask, by one clause for each exit status (what it does not say is in README.md).
+//! `lsm_layout`, `lsm_writing`, `lsm_compacting`, `lsm_load`, `lsm_shell` and `lsm_bench` for
+//! those on a folder, and on `lsm_directory` for what these share. Its contract: `run` does what
+//! the words of a command line ask, by one clause for each exit status (what it does not say is in
+//! README.md).
 #![tactic(auto)]
 
 // What words ask is done.

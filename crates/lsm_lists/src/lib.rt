@@ -1,11 +1,12 @@
-//! The commands of the program `lsm` on one input: `mktable`, `dump` and `manifest`, which print a list
-//! as a file and a file as a list, and `script`, which does a list of commands on a new database in
-//! memory.
+//! The commands of the program `lsm` on one input: `mktable`, `dump` and `manifest`, which print a
+//! list as a file and a file as a list, and `script`, which does a list of commands on a new
+//! database in memory.
 //!
-//! Stands on `lsm_text` for lists and texts, on `lsm_directory` for inputs and refusals, and on
-//! `lsm_script` for lists of commands. Its contracts: `convert` and `script` say what is written for
-//! an input, and what a refusal says of it; `run_convert` and `run_script` the same of the input that
-//! words name.
+//! Stands on `lsm_text` for lists and texts, on `lsm_directory` for inputs and refusals, on
+//! `lsm_script` for lists of commands, and on `lsm_writing` for what a new database is made with
+//! and for faults. Its contracts: `convert` and `script` say what is written for an input, and
+//! what a refusal says of it; `run_convert` and `run_script` the same of the input that words
+//! name.
 #![tactic(auto)]
 
 // mktable, dump and manifest: an input is printed in another form.

@@ -1,5 +1,5 @@
-//! What the program `lsm` does because there is a person at a terminal, or a stream that is closed: a
-//! line that says how far a command is, the prompt of a shell, and `/dev/null` in the place of
+//! What the program `lsm` does because there is a person at a terminal, or a stream that is closed:
+//! a line that says how far a command is, the prompt of a shell, and `/dev/null` in the place of
 //! standard streams that are closed.
 //!
 //! Stands on nothing of this repository. Its contract: that it is safe. What a terminal shows is

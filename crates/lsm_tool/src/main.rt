@@ -1,7 +1,7 @@
 //! The program `lsm`: makes LevelDB's files, and shows what is in them and in a folder of them.
 //!
-//! Stands on `lsm_commands`, which does what the words ask, and on `lsm_terminal` for what a terminal
-//! shows. Here stand the words themselves, standard input and output, and the exit status.
+//! Stands on `lsm_commands`, which does what the words ask, and on `lsm_terminal` for what a
+//! terminal shows. Here stand the words themselves, standard input and output, and the exit status.
 #![tactic(auto)]
 
 use lsm_commands::{refuse_words, run};
