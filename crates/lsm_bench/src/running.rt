@@ -171,7 +171,6 @@ fn judge_state<N: Boarded, S: Shelf, O: Origin>(
 }
 
 /// Runs the benchmarks on a store. A lawful state is behind them, and is let go.
-#[tactic(auto, using(lsm_loading::proofs::CallerLemmas::even_out, crate::proofs::RunLaws::left_at))]
 fn run_store<N, S, O, R, W>(
     rt: &R,
     alloc: Global,
