@@ -1,5 +1,7 @@
 //! How far a command is, in one line of a terminal.
 
+ghost use Rattle.std.specs.Prelude.{◌≡◌};
+
 use std::alloc::{AllocError, Global};
 use std::fs;
 use std::io::{self, IsTerminal, Write};
@@ -78,7 +80,8 @@ fn marks_of(line: &[u8]) -> Option<u64> {
 }
 
 /// Standard error. Where it shows how far a command is, each line that says so takes the place of
-/// the one before it, and the last one is gone at the end; all other lines stay.
+/// the one before it, and the last one is gone at the end; all other lines stay. Contracts see what
+/// it holds where it shows nothing: just what is written.
 #[derive(Drop)]
 pub struct OneLine<E: Write + Drop> {
     out: E,
@@ -91,7 +94,10 @@ pub struct OneLine<E: Write + Drop> {
 
 impl<E: Write + Drop> OneLine<E> {
     /// One that writes there.
-    pub fn new(alloc: Global, out: E, shows: bool) -> OneLine<E> {
+    pub fn new(alloc: Global, out: E, shows: bool) -> OneLine<E>
+        ensures out { result.out ≡ out }
+        ensures shows { result.shows ≡ shows }
+    {
         OneLine {
             out,
             shows,
@@ -153,6 +159,10 @@ impl<E: Write + Drop> OneLine<E> {
 }
 
 impl<E: Write + Drop> Write for OneLine<E> {
+    ghost use Rattle.std.specs.Prelude.{None, cond};
+
+    ghost contents = { λ o. cond o.shows None (E.contents o.out) };
+
     fn write(&mut self, buf: &[u8]) -> io::Result<usize> {
         if !self.shows {
             return self.out.write(buf);
@@ -167,7 +177,7 @@ impl<E: Write + Drop> Write for OneLine<E> {
 }
 
 /// An output that may be the terminal whose line says how far a command is: before each write the
-/// line is cleared there, if it is.
+/// line is cleared there, if it is. Contracts see what the output holds: just what is written.
 #[derive(Drop)]
 pub struct BesideLine<O: Write + Drop, E: Write + Drop> {
     out: O,
@@ -176,12 +186,16 @@ pub struct BesideLine<O: Write + Drop, E: Write + Drop> {
 
 impl<O: Write + Drop, E: Write + Drop> BesideLine<O, E> {
     /// An output, and the terminal if it is one.
-    pub fn new(out: O, terminal: Option<E>) -> BesideLine<O, E> {
+    pub fn new(out: O, terminal: Option<E>) -> BesideLine<O, E>
+        ensures { result.out ≡ out }
+    {
         BesideLine { out, terminal }
     }
 }
 
 impl<O: Write + Drop, E: Write + Drop> Write for BesideLine<O, E> {
+    ghost contents = { λ b. O.contents b.out };
+
     fn write(&mut self, buf: &[u8]) -> io::Result<usize> {
         if let Some(terminal) = &mut self.terminal {
             let _ = terminal.write_all(CLEAR);
