@@ -2,8 +2,9 @@
 //! a line that says how far a command is, the prompt of a shell, and `/dev/null` in the place of
 //! standard streams that are closed.
 //!
-//! Stands on nothing of this repository. Its contract: that it is safe. What a terminal shows is
-//! tested (README.md).
+//! Stands on nothing of this repository. Its contracts: an input is read as it is, and an output
+//! holds just what is written, unless it shows how far a command is. What a terminal shows is tested
+//! (README.md).
 #![tactic(auto)]
 
 mod far;
