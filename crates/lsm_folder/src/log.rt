@@ -1,6 +1,7 @@
 //! A list of calls that only contracts read.
 
-ghost use Rattle.std.specs.Prelude.{◌≡◌, ℕ, Ok, Err, List, [], ◌∷◌, map, string_bytes};
+ghost use Rattle.std.specs.Prelude.{◌≡◌, ℕ, Ok, Err, List, [], ◌∷◌, map, string_bytes, MatchResult};
+ghost use Rattle.std.specs.Result.{result_map_both};
 ghost use Rattle.std.specs.Borrow.{ftrue};
 ghost use Rattle.lsm_folder.specs.Calls.{Call, Answer, answer_of, opened, made, wrote, appended};
 ghost use Rattle.lsm_folder.specs.Calls.{synced, folder_synced, renamed, removed, measured, read};
@@ -125,71 +126,48 @@ impl<'a, K: Kind> Tells<Asked<'a>> for Last<K> {
     ghost calls = { λ a. K.Kind.call a.name.now a.bytes.now a.answer.now ∷ a.older.now.calls };
 }
 
-/// A call that was refused, with the calls before it.
+/// A file that was to be read whole, with the calls before it.
 #[derive(Drop)]
-struct Refusal<'a> {
+struct Loading<'a, T> {
     older: &'a Log,
     name: &'a [u8],
-    fault: FolderFault,
+    answer: &'a Result<(T, Vec<u8>), FolderFault>,
 }
 
-/// A file that was read whole, with the calls before it.
-#[derive(Drop)]
-struct Loading<'a> {
-    older: &'a Log,
-    name: &'a [u8],
-    bytes: &'a [u8],
+struct Loaded;
+
+impl<'a, T> Tells<Loading<'a, T>> for Loaded {
+    ghost calls = { λ a. loaded a.name.now
+        (result_map_both (λ r. r.1.items) (λ e. e) a.answer.now) ∷ a.older.now.calls };
 }
 
-struct LoadOk;
-
-impl<'a> Tells<Loading<'a>> for LoadOk {
-    ghost calls = { λ a. loaded a.name.now (Ok a.bytes.now) ∷ a.older.now.calls };
-}
-
-struct LoadFailed;
-
-impl<'a> Tells<Refusal<'a>> for LoadFailed {
-    ghost calls = { λ a. loaded a.name.now (Err a.fault) ∷ a.older.now.calls };
-}
-
-/// A file's length, with the calls before it.
+/// A file's length that was asked, with the calls before it.
 #[derive(Drop)]
 struct Measuring<'a> {
     older: &'a Log,
     name: &'a [u8],
-    length: u64,
+    answer: &'a Result<u64, FolderFault>,
 }
 
-struct MeasureOk;
+struct Measured;
 
-impl<'a> Tells<Measuring<'a>> for MeasureOk {
-    ghost calls = { λ a. measured a.name.now (Ok a.length) ∷ a.older.now.calls };
+impl<'a> Tells<Measuring<'a>> for Measured {
+    ghost calls = { λ a. measured a.name.now
+        (result_map_both (λ n. n) (λ e. e) a.answer.now) ∷ a.older.now.calls };
 }
 
-struct MeasureFailed;
-
-impl<'a> Tells<Refusal<'a>> for MeasureFailed {
-    ghost calls = { λ a. measured a.name.now (Err a.fault) ∷ a.older.now.calls };
-}
-
-/// Names that were listed, with the calls before it.
+/// Names that were to be listed, with the calls before it.
 #[derive(Drop)]
 struct Listing<'a> {
     older: &'a Log,
-    names: &'a [String],
+    answer: &'a Result<Vec<String>, FolderFault>,
 }
 
-struct ListOk;
+struct Listed;
 
-impl<'a> Tells<Listing<'a>> for ListOk {
-    ghost calls = { λ a. listed (Ok (map string_bytes a.names.now)) ∷ a.older.now.calls };
-}
-
-struct ListFailed;
-
-impl<'a> Tells<Refusal<'a>> for ListFailed {
-    ghost calls = { λ a. listed (Err a.fault) ∷ a.older.now.calls };
+impl<'a> Tells<Listing<'a>> for Listed {
+    ghost calls = { λ a. listed (result_map_both (λ v. map string_bytes v.items) (λ e. e)
+        a.answer.now) ∷ a.older.now.calls };
 }
 
 /// A lock that was asked for, with the calls before it.
@@ -207,7 +185,7 @@ impl<'a> Tells<Locking<'a>> for Locked {
     ghost calls = { λ a. locked a.name.now a.kind a.answer.now ∷ a.older.now.calls };
 }
 
-/// What was to be read, with the calls before it.
+/// A part that was to be read, with the calls before it.
 #[derive(Drop)]
 struct Reading<'a> {
     older: &'a Log,
@@ -215,34 +193,14 @@ struct Reading<'a> {
     image: &'a Tag,
     offset: u64,
     len: usize,
+    answer: &'a Result<Vec<u8>, FolderFault>,
 }
 
-/// A read that answered these bytes.
-#[derive(Drop)]
-struct ReadGiven<'a> {
-    reading: Reading<'a>,
-    bytes: &'a [u8],
-}
+struct Read;
 
-struct ReadOk;
-
-impl<'a> Tells<ReadGiven<'a>> for ReadOk {
-    ghost calls = { λ a. read a.reading.name.now a.reading.image.now.numbers a.reading.offset
-        a.reading.len (Ok a.bytes.now) ∷ a.reading.older.now.calls };
-}
-
-/// A read that was refused.
-#[derive(Drop)]
-struct ReadRefused<'a> {
-    reading: Reading<'a>,
-    fault: FolderFault,
-}
-
-struct ReadFailed;
-
-impl<'a> Tells<ReadRefused<'a>> for ReadFailed {
-    ghost calls = { λ a. read a.reading.name.now a.reading.image.now.numbers a.reading.offset
-        a.reading.len (Err a.fault) ∷ a.reading.older.now.calls };
+impl<'a> Tells<Reading<'a>> for Read {
+    ghost calls = { λ a. read a.name.now a.image.now.numbers a.offset a.len
+        (result_map_both (λ v. v.items) (λ e. e) a.answer.now) ∷ a.older.now.calls };
 }
 
 /// The answer of a call without what it gave.
@@ -271,142 +229,98 @@ impl Log {
     }
 
     /// One call more.
-    pub(crate) fn with<K: Kind>(
-        &self,
+    pub(crate) fn add<K: Kind>(
+        &mut self,
         name: &[u8],
         bytes: &[u8],
         answer: &Result<(), FolderFault>,
-    ) -> Log
-        ensures { result.calls ≡ K.Kind.call name.now bytes.now answer.now ∷ self.now.calls }
+    )
+        ensures { self.new.calls ≡ K.Kind.call name.now bytes.now answer.now ∷ self.old.calls }
     {
-        Log::of::<Asked, Last<K>>(&Asked {
+        *self = Log::of::<Asked, Last<K>>(&Asked {
             older: self,
             name,
             bytes,
             answer,
-        })
+        });
     }
 
-    /// A read more, which answered these bytes.
-    pub(crate) fn with_read(
-        &self,
+    /// A read more, with its answer.
+    pub(crate) fn add_read(
+        &mut self,
         name: &[u8],
         image: &Tag,
         offset: u64,
         len: usize,
-        bytes: &[u8],
-    ) -> Log
-        ensures { result.calls
-            ≡ read name.now image.now.numbers offset len (Ok bytes.now) ∷ self.now.calls }
+        answer: &Result<Vec<u8>, FolderFault>,
+    )
+        ensures { MatchResult answer.now (λ v. self.new.calls
+            ≡ read name.now image.now.numbers offset len (Ok v.items) ∷ self.old.calls)
+            (λ e. self.new.calls
+            ≡ read name.now image.now.numbers offset len (Err e) ∷ self.old.calls) }
     {
-        let reading = Reading {
+        *self = Log::of::<Reading, Read>(&Reading {
             older: self,
             name,
             image,
             offset,
             len,
-        };
-        Log::of::<ReadGiven, ReadOk>(&ReadGiven { reading, bytes })
+            answer,
+        });
     }
 
-    /// A read more, which was refused.
-    pub(crate) fn with_failed_read(
-        &self,
-        name: &[u8],
-        image: &Tag,
-        offset: u64,
-        len: usize,
-        fault: FolderFault,
-    ) -> Log
-        ensures { result.calls
-            ≡ read name.now image.now.numbers offset len (Err fault) ∷ self.now.calls }
+    /// A file more that was to be read whole, with the answer.
+    pub(crate) fn add_load<T>(&mut self, name: &[u8], answer: &Result<(T, Vec<u8>), FolderFault>)
+        ensures { MatchResult answer.now
+            (λ r. self.new.calls ≡ loaded name.now (Ok r.1.items) ∷ self.old.calls)
+            (λ e. self.new.calls ≡ loaded name.now (Err e) ∷ self.old.calls) }
     {
-        let reading = Reading {
+        *self = Log::of::<Loading<T>, Loaded>(&Loading {
             older: self,
             name,
-            image,
-            offset,
-            len,
-        };
-        Log::of::<ReadRefused, ReadFailed>(&ReadRefused { reading, fault })
+            answer,
+        });
     }
 
-    /// A file more that was read whole.
-    pub(crate) fn with_load(&self, name: &[u8], bytes: &[u8]) -> Log
-        ensures { result.calls ≡ loaded name.now (Ok bytes.now) ∷ self.now.calls }
+    /// A file more whose length was asked, with the answer.
+    pub(crate) fn add_length(&mut self, name: &[u8], answer: &Result<u64, FolderFault>)
+        ensures { MatchResult answer.now
+            (λ n. self.new.calls ≡ measured name.now (Ok n) ∷ self.old.calls)
+            (λ e. self.new.calls ≡ measured name.now (Err e) ∷ self.old.calls) }
     {
-        Log::of::<Loading, LoadOk>(&Loading {
+        *self = Log::of::<Measuring, Measured>(&Measuring {
             older: self,
             name,
-            bytes,
-        })
+            answer,
+        });
     }
 
-    /// A load more, which was refused.
-    pub(crate) fn with_failed_load(&self, name: &[u8], fault: FolderFault) -> Log
-        ensures { result.calls ≡ loaded name.now (Err fault) ∷ self.now.calls }
-    {
-        Log::of::<Refusal, LoadFailed>(&Refusal {
-            older: self,
-            name,
-            fault,
-        })
-    }
-
-    /// A file more whose length was asked.
-    pub(crate) fn with_length(&self, name: &[u8], length: u64) -> Log
-        ensures { result.calls ≡ measured name.now (Ok length) ∷ self.now.calls }
-    {
-        Log::of::<Measuring, MeasureOk>(&Measuring {
-            older: self,
-            name,
-            length,
-        })
-    }
-
-    /// A length more, which was refused.
-    pub(crate) fn with_failed_length(&self, name: &[u8], fault: FolderFault) -> Log
-        ensures { result.calls ≡ measured name.now (Err fault) ∷ self.now.calls }
-    {
-        Log::of::<Refusal, MeasureFailed>(&Refusal {
-            older: self,
-            name,
-            fault,
-        })
-    }
-
-    /// A lock more that was asked for.
-    pub(crate) fn with_lock(
-        &self,
+    /// A lock more that was asked for, with the answer.
+    pub(crate) fn add_lock(
+        &mut self,
         name: &[u8],
         kind: LockKind,
         answer: &Result<bool, FolderFault>,
-    ) -> Log
-        ensures { result.calls ≡ locked name.now kind answer.now ∷ self.now.calls }
+    )
+        ensures { self.new.calls ≡ locked name.now kind answer.now ∷ self.old.calls }
     {
-        Log::of::<Locking, Locked>(&Locking {
+        *self = Log::of::<Locking, Locked>(&Locking {
             older: self,
             name,
             kind,
             answer,
-        })
+        });
     }
 
-    /// A list more, which answered these names.
-    pub(crate) fn with_list(&self, names: &[String]) -> Log
-        ensures { result.calls ≡ listed (Ok (map string_bytes names.now)) ∷ self.now.calls }
+    /// A list more, with its answer.
+    pub(crate) fn add_list(&mut self, answer: &Result<Vec<String>, FolderFault>)
+        ensures { MatchResult answer.now
+            (λ v. self.new.calls ≡ listed (Ok (map string_bytes v.items)) ∷ self.old.calls)
+            (λ e. self.new.calls ≡ listed (Err e) ∷ self.old.calls) }
     {
-        Log::of::<Listing, ListOk>(&Listing { older: self, names })
-    }
-
-    /// A list more, which was refused.
-    pub(crate) fn with_failed_list(&self, fault: FolderFault) -> Log
-        ensures { result.calls ≡ listed (Err fault) ∷ self.now.calls }
-    {
-        Log::of::<Refusal, ListFailed>(&Refusal {
+        *self = Log::of::<Listing, Listed>(&Listing {
             older: self,
-            name: &[],
-            fault,
-        })
+            answer,
+        });
     }
 }

@@ -8,12 +8,14 @@ ghost use Rattle.lsm_folder.specs.Calls.{AreHonest};
 
 use crate::folder_calls::FolderCalls;
 use crate::folder_fault::FolderFault;
+use crate::image::Image;
 use crate::lock_kind::LockKind;
 use crate::log::{Appended, FolderSynced, Log, Made, Removed, Renamed, Synced, Wrote, answered};
 use crate::memory_files::MemoryFiles;
 use crate::memory_folder::MemoryFolder;
 use crate::memory_mark::MemoryMark;
 use crate::tags::tag_of;
+use boxcar::Pushed;
 use boxcar::tag::{Names, Tag};
 use std::alloc::{AllocError, Global};
 use std::sync::{Arc, Wait};
@@ -36,6 +38,17 @@ fn image_of(mark: &MemoryMark) -> Tag
     ensures { result.numbers ≡ memory_mark_image mark.now }
 {
     Tag::of::<MemoryMark, OfMark>(mark)
+}
+
+/// The mark of a file of this name.
+fn mark_of(name: &str, token: Pushed<Image>) -> MemoryMark
+    ensures name { result.name.numbers ≡ name.now }
+    ensures token { result.token ≡ token }
+{
+    MemoryMark {
+        name: tag_of(name.as_bytes()),
+        token,
+    }
 }
 
 impl MemoryFolder {
@@ -104,82 +117,58 @@ impl FolderCalls for MemoryFolder {
         bytes: &[u8],
     ) -> Result<MemoryMark, FolderFault> {
         let answer = self.files.make(rt, self.alloc, name, bytes);
-        self.log = self
-            .log
-            .with::<Made>(name.as_bytes(), bytes, &answered(&answer));
-        let token = answer?;
-        Ok(MemoryMark {
-            name: tag_of(name.as_bytes()),
-            token,
-        })
+        self.log
+            .add::<Made>(name.as_bytes(), bytes, &answered(&answer));
+        Ok(mark_of(name, answer?))
     }
 
     fn write<R: Wait>(&mut self, rt: &R, name: &str, bytes: &[u8]) -> Result<(), FolderFault> {
         let answer = self.files.write(rt, self.alloc, name, bytes);
-        self.log = self.log.with::<Wrote>(name.as_bytes(), bytes, &answer);
+        self.log.add::<Wrote>(name.as_bytes(), bytes, &answer);
         answer
     }
 
     fn append<R: Wait>(&mut self, rt: &R, name: &str, bytes: &[u8]) -> Result<(), FolderFault> {
         let answer = self.files.append(rt, self.alloc, name, bytes);
-        self.log = self.log.with::<Appended>(name.as_bytes(), bytes, &answer);
+        self.log.add::<Appended>(name.as_bytes(), bytes, &answer);
         answer
     }
 
     fn sync<R: Wait>(&mut self, rt: &R, name: &str) -> Result<(), FolderFault> {
         let answer = self.files.sync(rt, name);
-        self.log = self.log.with::<Synced>(name.as_bytes(), &[], &answer);
+        self.log.add::<Synced>(name.as_bytes(), &[], &answer);
         answer
     }
 
     fn sync_folder<R: Wait>(&mut self, rt: &R) -> Result<(), FolderFault> {
         let answer = self.files.sync_folder(rt);
-        self.log = self.log.with::<FolderSynced>(&[], &[], &answer);
+        self.log.add::<FolderSynced>(&[], &[], &answer);
         answer
     }
 
     fn rename<R: Wait>(&mut self, rt: &R, from: &str, to: &str) -> Result<(), FolderFault> {
         let answer = self.files.rename(rt, self.alloc, from, to);
-        self.log = self
-            .log
-            .with::<Renamed>(from.as_bytes(), to.as_bytes(), &answer);
+        self.log
+            .add::<Renamed>(from.as_bytes(), to.as_bytes(), &answer);
         answer
     }
 
     fn remove<R: Wait>(&mut self, rt: &R, name: &str) -> Result<(), FolderFault> {
         let answer = self.files.remove(rt, name);
-        self.log = self.log.with::<Removed>(name.as_bytes(), &[], &answer);
+        self.log.add::<Removed>(name.as_bytes(), &[], &answer);
         answer
     }
 
     fn lock<R: Wait>(&mut self, rt: &R, name: &str, kind: LockKind) -> Result<bool, FolderFault> {
-        match self.files.lock(rt, self.alloc, name, kind) {
-            Ok(taken) => {
-                let held = taken.is_some();
-                self.log = self.log.with_lock(name.as_bytes(), kind, &Ok(held));
-                if held {
-                    self.held = taken;
-                }
-                Ok(held)
-            }
-            Err(fault) => {
-                self.log = self.log.with_lock(name.as_bytes(), kind, &Err(fault));
-                Err(fault)
-            }
-        }
+        let answer = self.files.lock(rt, self.alloc, name, kind, &mut self.held);
+        self.log.add_lock(name.as_bytes(), kind, &answer);
+        answer
     }
 
     fn length<R: Wait>(&mut self, rt: &R, name: &str) -> Result<u64, FolderFault> {
-        match self.files.length(rt, name) {
-            Ok(length) => {
-                self.log = self.log.with_length(name.as_bytes(), length);
-                Ok(length)
-            }
-            Err(fault) => {
-                self.log = self.log.with_failed_length(name.as_bytes(), fault);
-                Err(fault)
-            }
-        }
+        let answer = self.files.length(rt, name);
+        self.log.add_length(name.as_bytes(), &answer);
+        answer
     }
 
     fn read_part(
@@ -190,21 +179,10 @@ impl FolderCalls for MemoryFolder {
         offset: u64,
         len: usize,
     ) -> Result<Vec<u8>, FolderFault> {
-        let image = image_of(mark);
-        match self.files.part(alloc, &mark.token, offset, len) {
-            Ok(bytes) => {
-                self.log = self
-                    .log
-                    .with_read(name.as_bytes(), &image, offset, len, bytes.as_slice());
-                Ok(bytes)
-            }
-            Err(fault) => {
-                self.log = self
-                    .log
-                    .with_failed_read(name.as_bytes(), &image, offset, len, fault);
-                Err(fault)
-            }
-        }
+        let answer = self.files.part(alloc, &mark.token, offset, len);
+        self.log
+            .add_read(name.as_bytes(), &image_of(mark), offset, len, &answer);
+        answer
     }
 
     fn load<R: Wait>(
@@ -213,33 +191,16 @@ impl FolderCalls for MemoryFolder {
         alloc: Global,
         name: &str,
     ) -> Result<(MemoryMark, Vec<u8>), FolderFault> {
-        match self.files.load(rt, alloc, name) {
-            Ok((token, bytes)) => {
-                self.log = self.log.with_load(name.as_bytes(), bytes.as_slice());
-                let mark = MemoryMark {
-                    name: tag_of(name.as_bytes()),
-                    token,
-                };
-                Ok((mark, bytes))
-            }
-            Err(fault) => {
-                self.log = self.log.with_failed_load(name.as_bytes(), fault);
-                Err(fault)
-            }
-        }
+        let answer = self.files.load(rt, alloc, name);
+        self.log.add_load(name.as_bytes(), &answer);
+        let (token, bytes) = answer?;
+        Ok((mark_of(name, token), bytes))
     }
 
     fn list<R: Wait>(&mut self, rt: &R, alloc: Global) -> Result<Vec<String>, FolderFault> {
-        match self.files.list(rt, alloc) {
-            Ok(names) => {
-                self.log = self.log.with_list(names.as_slice());
-                Ok(names)
-            }
-            Err(fault) => {
-                self.log = self.log.with_failed_list(fault);
-                Err(fault)
-            }
-        }
+        let answer = self.files.list(rt, alloc);
+        self.log.add_list(&answer);
+        answer
     }
 
     fn fork(&self) -> Result<MemoryFolder, FolderFault> {

@@ -87,17 +87,53 @@ impl MemoryFiles {
         }
     }
 
+    /// The number of the file of this name, and what shows its image.
+    fn found(
+        &self,
+        directory: &Directory,
+        name: &str,
+    ) -> Result<(usize, Pushed<Image>), FolderFault>
+        ensures ok { IfOk result (λ f. Shows self.now.images f.1) }
+        ensures err { IfErr result NotExists }
+    {
+        let Some(number) = directory.find(name) else {
+            return Err(FolderFault::Missing);
+        };
+        match self.shown(directory, number) {
+            Ok(token) => Ok((number, token)),
+            Err(fault) => Err(fault),
+        }
+    }
+
     /// Marks the file of this name as gone, if there is one.
     fn lose(&self, directory: &Directory, name: &str) {
-        let Some(number) = directory.find(name) else {
-            return;
-        };
-        if let Ok(token) = self.shown(directory, number) {
+        if let Ok((_, token)) = self.found(directory, name) {
             self.images
                 .value(&token)
                 .life
                 .gone
                 .store(true, Ordering::SeqCst);
+        }
+    }
+
+    /// Adds a file whose name no other has.
+    fn add<R: Wait>(
+        &self,
+        rt: &R,
+        alloc: Global,
+        directory: &mut Directory,
+        name: &str,
+        bytes: &[u8],
+    ) -> Result<Pushed<Image>, FolderFault>
+        ensures ok { IfOk result (λ t. (t.value.bytes.items ≡ bytes.now)
+            × Shows self.now.images t) }
+        ensures err { IfErr result (λ e. e ≡ FolderFault.OutOfMemory) }
+    {
+        let name = String::from_str(alloc, name)?;
+        let token = self.image(rt, alloc, bytes)?;
+        match directory.add(name, token.again(), 0) {
+            Ok(()) => Ok(token),
+            Err(_) => Err(FolderFault::OutOfMemory),
         }
     }
 
@@ -113,14 +149,25 @@ impl MemoryFiles {
         ensures err { IfErr result NotMissing }
     {
         let turn = self.stops.begin()?;
-        let mut directory = self.directory.lock(rt);
-        if directory.find(name).is_some() {
-            return Err(FolderFault::Exists);
+        turn.end(self.make_in(rt, alloc, &mut self.directory.lock(rt), name, bytes))
+    }
+
+    fn make_in<R: Wait>(
+        &self,
+        rt: &R,
+        alloc: Global,
+        directory: &mut Directory,
+        name: &str,
+        bytes: &[u8],
+    ) -> Result<Pushed<Image>, FolderFault>
+        ensures ok { IfOk result (λ t. (t.value.bytes.items ≡ bytes.now)
+            × Shows self.now.images t) }
+        ensures err { IfErr result NotMissing }
+    {
+        match directory.find(name) {
+            Some(_) => Err(FolderFault::Exists),
+            None => self.add(rt, alloc, directory, name, bytes),
         }
-        let token = self.image(rt, alloc, bytes)?;
-        directory.add(String::from_str(alloc, name)?, token.again(), 0)?;
-        turn.end()?;
-        Ok(token)
     }
 
     pub(crate) fn write<R: Wait>(
@@ -133,16 +180,27 @@ impl MemoryFiles {
         ensures { IfErr result NotNamed }
     {
         let turn = self.stops.begin()?;
-        let mut directory = self.directory.lock(rt);
+        turn.end(self.write_in(rt, alloc, &mut self.directory.lock(rt), name, bytes))
+    }
+
+    fn write_in<R: Wait>(
+        &self,
+        rt: &R,
+        alloc: Global,
+        directory: &mut Directory,
+        name: &str,
+        bytes: &[u8],
+    ) -> Result<(), FolderFault>
+        ensures { IfErr result NotNamed }
+    {
+        let Some(number) = directory.find(name) else {
+            self.add(rt, alloc, directory, name, bytes)?;
+            return Ok(());
+        };
         let token = self.image(rt, alloc, bytes)?;
-        match directory.find(name) {
-            None => directory.add(String::from_str(alloc, name)?, token, 0)?,
-            Some(number) => {
-                self.lose(&directory, name);
-                directory.replace(number, token, 0);
-            }
-        }
-        turn.end()
+        self.lose(directory, name);
+        directory.replace(number, token, 0);
+        Ok(())
     }
 
     pub(crate) fn append<R: Wait>(
@@ -155,13 +213,24 @@ impl MemoryFiles {
         ensures { IfErr result NotExists }
     {
         let turn = self.stops.begin()?;
-        let mut directory = self.directory.lock(rt);
-        let number = directory.find(name).ok_or(FolderFault::Missing)?;
+        turn.end(self.append_in(rt, alloc, &mut self.directory.lock(rt), name, bytes))
+    }
+
+    fn append_in<R: Wait>(
+        &self,
+        rt: &R,
+        alloc: Global,
+        directory: &mut Directory,
+        name: &str,
+        bytes: &[u8],
+    ) -> Result<(), FolderFault>
+        ensures { IfErr result NotExists }
+    {
+        let (number, token) = self.found(directory, name)?;
         let durable = directory.durable_of(number);
-        let token = self.shown(&directory, number)?;
-        let token = self.longer(rt, alloc, &token, bytes)?;
-        directory.replace(number, token, durable);
-        turn.end()
+        let longer = self.longer(rt, alloc, &token, bytes)?;
+        directory.replace(number, longer, durable);
+        Ok(())
     }
 
     /// An image with these bytes behind those of another, for the same file.
@@ -188,20 +257,31 @@ impl MemoryFiles {
         ensures { IfErr result NotExists }
     {
         let turn = self.stops.begin()?;
-        let mut directory = self.directory.lock(rt);
-        let number = directory.find(name).ok_or(FolderFault::Missing)?;
-        let token = self.shown(&directory, number)?;
+        turn.end(self.sync_in(&mut self.directory.lock(rt), name))
+    }
+
+    fn sync_in(&self, directory: &mut Directory, name: &str) -> Result<(), FolderFault>
+        ensures { IfErr result NotExists }
+    {
+        let (number, token) = self.found(directory, name)?;
         let len = self.images.value(&token).bytes.len();
         directory.replace(number, token, len);
-        turn.end()
+        Ok(())
     }
 
     pub(crate) fn sync_folder<R: Wait>(&self, rt: &R) -> Result<(), FolderFault>
         ensures { IfErr result NotNamed }
     {
         let turn = self.stops.begin()?;
-        self.directory.lock(rt).keep_names()?;
-        turn.end()
+        turn.end(self.keep_names(rt))
+    }
+
+    /// Makes the names durable.
+    fn keep_names<R: Wait>(&self, rt: &R) -> Result<(), FolderFault>
+        ensures { IfErr result (λ e. e ≡ FolderFault.OutOfMemory) }
+    {
+        let kept = self.directory.lock(rt).keep_names();
+        Ok(kept?)
     }
 
     pub(crate) fn rename<R: Wait>(
@@ -214,39 +294,59 @@ impl MemoryFiles {
         ensures { IfErr result NotExists }
     {
         let turn = self.stops.begin()?;
-        let mut directory = self.directory.lock(rt);
+        turn.end(self.rename_in(alloc, &mut self.directory.lock(rt), from, to))
+    }
+
+    fn rename_in(
+        &self,
+        alloc: Global,
+        directory: &mut Directory,
+        from: &str,
+        to: &str,
+    ) -> Result<(), FolderFault>
+        ensures { IfErr result NotExists }
+    {
         let Some(number) = directory.find(from) else {
             return Err(FolderFault::Missing);
         };
-        if from != to {
-            let to_name = String::from_str(alloc, to)?;
-            self.lose(&directory, to);
-            directory.rename(from, to_name, number)?;
+        if from == to {
+            return Ok(());
         }
-        turn.end()
+        let to_name = String::from_str(alloc, to)?;
+        self.lose(directory, to);
+        directory.rename(from, to_name, number)?;
+        Ok(())
     }
 
     pub(crate) fn remove<R: Wait>(&self, rt: &R, name: &str) -> Result<(), FolderFault>
         ensures { IfErr result NotExists }
     {
         let turn = self.stops.begin()?;
-        let mut directory = self.directory.lock(rt);
+        turn.end(self.remove_in(&mut self.directory.lock(rt), name))
+    }
+
+    fn remove_in(&self, directory: &mut Directory, name: &str) -> Result<(), FolderFault>
+        ensures { IfErr result NotExists }
+    {
         if directory.find(name).is_none() {
             return Err(FolderFault::Missing);
         }
-        self.lose(&directory, name);
+        self.lose(directory, name);
         directory.remove(name);
-        turn.end()
+        Ok(())
     }
 
     pub(crate) fn length<R: Wait>(&self, rt: &R, name: &str) -> Result<u64, FolderFault>
         ensures { IfErr result NotExists }
     {
         let turn = self.stops.begin()?;
-        let directory = self.directory.lock(rt);
-        let number = directory.find(name).ok_or(FolderFault::Missing)?;
-        let token = self.shown(&directory, number)?;
-        turn.end()?;
+        turn.end(self.length_in(&self.directory.lock(rt), name))
+    }
+
+    fn length_in(&self, directory: &Directory, name: &str) -> Result<u64, FolderFault>
+        ensures { IfErr result NotExists }
+    {
+        let (_, token) = self.found(directory, name)?;
         Ok(self.images.value(&token).bytes.len() as u64)
     }
 
@@ -266,12 +366,26 @@ impl MemoryFiles {
         ensures err { IfErr result NotExists }
     {
         let turn = self.stops.begin()?;
+        turn.end(self.part_now(alloc, token, offset as usize, len))
+    }
+
+    fn part_now(
+        &self,
+        alloc: Global,
+        token: &Pushed<Image>,
+        offset: usize,
+        len: usize,
+    ) -> Result<Vec<u8>, FolderFault>
+        requires here { Shows self.now.images token.now }
+        requires inside { offset + len ≤ length token.now.value.bytes.items }
+        ensures ok { IfOk result (λ v.
+            v.items ≡ take len (drop offset token.now.value.bytes.items)) }
+        ensures err { IfErr result NotExists }
+    {
         let image = self.images.value(token);
         if image.life.gone.load(Ordering::SeqCst) {
             return Err(FolderFault::Missing);
         }
-        turn.end()?;
-        let offset = offset as usize;
         Ok(Vec::from_slice(alloc, &image.bytes[offset..offset + len])?)
     }
 
@@ -287,15 +401,26 @@ impl MemoryFiles {
         ensures err { IfErr result NotExists }
     {
         let turn = self.stops.begin()?;
-        let directory = self.directory.lock(rt);
-        let number = directory.find(name).ok_or(FolderFault::Missing)?;
-        let token = self.shown(&directory, number)?;
+        turn.end(self.load_in(alloc, &self.directory.lock(rt), name))
+    }
+
+    fn load_in(
+        &self,
+        alloc: Global,
+        directory: &Directory,
+        name: &str,
+    ) -> Result<(Pushed<Image>, Vec<u8>), FolderFault>
+        ensures ok { IfOk result (λ r. (r.0.value.bytes.items ≡ r.1.items)
+            × Shows self.now.images r.0) }
+        ensures limit { IfOk result (λ r. length r.1.items ≤ 2 ^ 30) }
+        ensures err { IfErr result NotExists }
+    {
+        let (_, token) = self.found(directory, name)?;
         let image = self.images.value(&token);
         if image.bytes.len() > MAX_LOAD {
             return Err(FolderFault::Failed);
         }
         let bytes = Vec::from_slice(alloc, image.bytes.as_slice())?;
-        turn.end()?;
         Ok((token, bytes))
     }
 
@@ -303,9 +428,13 @@ impl MemoryFiles {
         ensures { IfErr result NotNamed }
     {
         let turn = self.stops.begin()?;
-        let names = self.directory.lock(rt).listed(alloc)?;
-        turn.end()?;
-        Ok(names)
+        turn.end(self.list_in(&self.directory.lock(rt), alloc))
+    }
+
+    fn list_in(&self, directory: &Directory, alloc: Global) -> Result<Vec<String>, FolderFault>
+        ensures { IfErr result NotNamed }
+    {
+        Ok(directory.listed(alloc)?)
     }
 
     /// What shows the image of a file that is to be locked, which an exclusive lock makes.
@@ -323,31 +452,47 @@ impl MemoryFiles {
         match directory.find(name) {
             Some(number) => self.shown(directory, number),
             None if kind == LockKind::Shared => Err(FolderFault::Missing),
-            None => {
-                let token = self.image(rt, alloc, &[])?;
-                directory.add(String::from_str(alloc, name)?, token.again(), 0)?;
-                Ok(token)
-            }
+            None => self.add(rt, alloc, directory, name, &[]),
         }
     }
 
-    /// `None` where another holds the lock.
+    /// Holds the lock from now on. False where another holds it.
     pub(crate) fn lock<R: Wait>(
         &self,
         rt: &R,
         alloc: Global,
         name: &str,
         kind: LockKind,
-    ) -> Result<Option<MemoryLock>, FolderFault>
+        held: &mut Option<MemoryLock>,
+    ) -> Result<bool, FolderFault>
         ensures { IfErr result NotExists }
     {
         let turn = self.stops.begin()?;
-        let mut directory = self.directory.lock(rt);
-        let token = self.lockable(rt, alloc, &mut directory, name, kind)?;
+        let answer = self.lock_in(rt, alloc, &mut self.directory.lock(rt), name, kind);
+        match turn.end(answer) {
+            Ok(None) => Ok(false),
+            Ok(taken) => {
+                *held = taken;
+                Ok(true)
+            }
+            Err(fault) => Err(fault),
+        }
+    }
+
+    /// `None` where another holds the lock.
+    fn lock_in<R: Wait>(
+        &self,
+        rt: &R,
+        alloc: Global,
+        directory: &mut Directory,
+        name: &str,
+        kind: LockKind,
+    ) -> Result<Option<MemoryLock>, FolderFault>
+        ensures { IfErr result NotExists }
+    {
+        let token = self.lockable(rt, alloc, directory, name, kind)?;
         let life = Arc::try_clone(&self.images.value(&token).life)?;
-        let held = MemoryLock::take(life, kind);
-        turn.end()?;
-        Ok(held)
+        Ok(MemoryLock::take(life, kind))
     }
 
     /// Leaves a file to another folder: its durable bytes, and `keep` of those behind them.
@@ -377,6 +522,24 @@ impl MemoryFiles {
         Ok(())
     }
 
+    /// Leaves each of the names that a crash leaves to another folder.
+    fn leave_all<R: Wait>(
+        &self,
+        rt: &R,
+        alloc: Global,
+        directory: &Directory,
+        keep: usize,
+        names_stay: bool,
+        left: &MemoryFiles,
+    ) -> Result<(), FolderFault>
+        ensures { IfErr result NotNamed }
+    {
+        for (name, number) in directory.names_after(names_stay).iter() {
+            self.leave(rt, alloc, directory, name.as_str(), *number, keep, left)?;
+        }
+        left.keep_names(rt)
+    }
+
     /// What a crash leaves.
     pub(crate) fn after_crash<R: Wait>(
         &self,
@@ -388,11 +551,8 @@ impl MemoryFiles {
         ensures { IfErr result NotNamed }
     {
         let left = MemoryFiles::new(alloc)?;
-        let directory = self.directory.lock(rt);
-        for (name, number) in directory.names_after(names_stay).iter() {
-            self.leave(rt, alloc, &directory, name.as_str(), *number, keep, &left)?;
-        }
-        left.directory.lock(rt).keep_names()?;
+        let outcome = self.leave_all(rt, alloc, &self.directory.lock(rt), keep, names_stay, &left);
+        outcome?;
         Ok(left)
     }
 }

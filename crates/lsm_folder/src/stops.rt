@@ -1,6 +1,6 @@
 //! At which call a folder in memory stops.
 
-ghost use Rattle.std.specs.Prelude.{◌≡◌, IfErr};
+ghost use Rattle.std.specs.Prelude.{◌≡◌, ◌⊎◌, Ok, Err, IfOk, IfErr};
 
 use crate::folder_fault::FolderFault;
 use std::sync::atomic::{AtomicBool, AtomicU64, Ordering};
@@ -52,13 +52,14 @@ impl Stops {
 }
 
 impl Turn {
-    /// Ends a call that acted. `Failed` where it was cut.
-    pub(crate) fn end(self) -> Result<(), FolderFault>
-        ensures { IfErr result (λ e. e ≡ FolderFault.Failed) }
+    /// Ends a call that acted, with this answer. `Failed` where it was cut.
+    pub(crate) fn end<T: Drop>(self, answer: Result<T, FolderFault>) -> Result<T, FolderFault>
+        ensures ok { IfOk result (λ v. answer ≡ Ok v) }
+        ensures err { IfErr result (λ e. (e ≡ FolderFault.Failed) ⊎ (answer ≡ Err e)) }
     {
-        if self.cut {
+        if self.cut && answer.is_ok() {
             return Err(FolderFault::Failed);
         }
-        Ok(())
+        answer
     }
 }

@@ -1,7 +1,6 @@
 //! The calls on a folder of the system. Each makes one, and notes it with its answer.
 
-ghost use Rattle.std.specs.Prelude.{◌≡◌, ◌≤◌, ◌^◌, ◌∷◌, [], length, IfOk, IfErr};
-ghost use Rattle.std.specs.Arc.{arc_value};
+ghost use Rattle.std.specs.Prelude.{◌≡◌, ◌≤◌, ◌^◌, ◌∷◌, [], length, IfOk, IfErr, string_bytes};
 ghost use Rattle.boxcar.specs.Table.{Shows};
 ghost use Rattle.lsm_folder.specs.Calls.{opened};
 ghost use Rattle.lsm_folder.specs.FolderFault.{NotMissing, NotExists, NotNamed};
@@ -13,18 +12,14 @@ use crate::folder_calls::FolderCalls;
 use crate::folder_fault::FolderFault;
 use crate::lock_kind::LockKind;
 use crate::log::{Appended, FolderSynced, Log, Made, Removed, Renamed, Synced, Wrote, answered};
-use crate::open_files::OpenFiles;
 use crate::reasons::Reasons;
-use crate::system_fault::SystemFault;
-use crate::system_files::{self, open_regular, path_of};
+use crate::system_files::SystemFiles;
 use crate::system_folder::SystemFolder;
-use crate::system_locks;
 use crate::system_mark::{Facts, SystemMark};
 use crate::tags::tag_of;
 use boxcar::tag::{Names, Tag};
-use std::alloc::Global;
-use std::fs::{self, File, Files, OpenOptions};
-use std::os::unix::fs::FileExt;
+use std::alloc::{AllocError, Global};
+use std::fs::{File, Files};
 use std::sync::{Arc, Wait};
 
 /// The image of a mark, for contracts alone.
@@ -64,6 +59,51 @@ fn marked<W: Wait>(
     }
 }
 
+/// Makes a file. What its mark needs is taken before.
+fn make_marked<R: Files<File = File> + AllocGlobal + Clone + Drop, W: Wait>(
+    rt: &W,
+    files: &mut SystemFiles<R>,
+    marks: &boxcar::Vec<Facts>,
+    folder: &str,
+    name: &str,
+    bytes: &[u8],
+) -> Result<SystemMark, FolderFault>
+    ensures name { IfOk result (λ m. system_mark_name m ≡ name.now) }
+    ensures image { IfOk result (λ m. system_mark_image m ≡ bytes.now) }
+    ensures here { IfOk result (λ m. Shows marks.now m.token) }
+    ensures err { IfErr result NotMissing }
+{
+    let mark = marked(rt, marks, name, bytes)?;
+    let made = files.make(folder, name, bytes);
+    match files.exists("make", folder, name, made) {
+        Ok(()) => Ok(mark),
+        Err(fault) => Err(fault),
+    }
+}
+
+/// Reads a file whole.
+fn load_marked<R: Files<File = File> + AllocGlobal + Clone + Drop, W: Wait>(
+    rt: &W,
+    files: &mut SystemFiles<R>,
+    marks: &boxcar::Vec<Facts>,
+    alloc: Global,
+    folder: &str,
+    name: &str,
+) -> Result<(SystemMark, Vec<u8>), FolderFault>
+    ensures name { IfOk result (λ r. system_mark_name r.0 ≡ name.now) }
+    ensures image { IfOk result (λ r. system_mark_image r.0 ≡ r.1.items) }
+    ensures here { IfOk result (λ r. Shows marks.now r.0.token) }
+    ensures limit { IfOk result (λ r. length r.1.items ≤ 2 ^ 30) }
+    ensures err { IfErr result NotExists }
+{
+    let loaded = files.load(alloc, folder, name);
+    let bytes = files.missing("read", folder, name, loaded)?;
+    match marked(rt, marks, name, bytes.as_slice()) {
+        Ok(mark) => Ok((mark, bytes)),
+        Err(fault) => Err(fault),
+    }
+}
+
 impl<R: Files<File = File> + AllocGlobal + Clone + Drop> SystemFolder<R> {
     /// The folder of this path, or the one to which it is a link. `Failed` where it is no folder
     /// that can be opened.
@@ -84,142 +124,36 @@ impl<R: Files<File = File> + AllocGlobal + Clone + Drop> SystemFolder<R> {
         ensures err { IfErr result NotNamed }
     {
         let alloc = rt.alloc();
-        if let Err(error) = fs::read_dir(&rt, path) {
-            reasons.note("open", String::from_str(alloc, path), error);
-            return Err(SystemFault::from(error).failed());
-        }
-        let open_files = OpenFiles::new(&rt).map_err(|e| SystemFault::from(e).failed())?;
-        Ok(SystemFolder {
-            path: String::from_str(alloc, path)?,
-            marks: Arc::new(alloc, boxcar::Vec::new(alloc)?)?,
-            held: None,
-            open_files,
-            reasons: reasons.again()?,
-            rt,
-            log: Log::opened(),
-        })
-    }
-
-    /// Keeps why the system refused a call.
-    fn note(&self, call: &'static str, name: &str, fault: SystemFault) {
-        let path = path_of(self.rt.alloc(), self.path.as_str(), name);
-        self.reasons.note(call, path, fault.error());
-    }
-
-    /// A refusal of a call that needs no name.
-    fn failed(&self, call: &'static str, name: &str, fault: SystemFault) -> FolderFault
-        ensures { NotNamed result }
-    {
-        self.note(call, name, fault);
-        fault.failed()
-    }
-
-    /// A refusal of a call on a file that must be there.
-    fn missing(&self, call: &'static str, name: &str, fault: SystemFault) -> FolderFault
-        ensures { NotExists result }
-    {
-        self.note(call, name, fault);
-        fault.missing()
-    }
-
-    /// Makes a file. What its mark needs is taken before.
-    fn try_make<W: Wait>(
-        &mut self,
-        rt: &W,
-        name: &str,
-        bytes: &[u8],
-    ) -> Result<SystemMark, FolderFault>
-        ensures log { self.new.log ≡ self.old.log }
-        ensures place { system_place self.new ≡ system_place self.old }
-        ensures name { IfOk result (λ m. system_mark_name m ≡ name.now) }
-        ensures image { IfOk result (λ m. system_mark_image m ≡ bytes.now) }
-        ensures here { IfOk result (λ m. Shows (arc_value self.old.marks) m.token) }
-        ensures err { IfErr result NotMissing }
-    {
-        let mark = marked(rt, &self.marks, name, bytes)?;
-        let files = &mut self.open_files;
-        match system_files::make(&self.rt, files, self.path.as_str(), name, bytes) {
-            Ok(()) => Ok(mark),
-            Err(fault) => {
-                self.note("make", name, fault);
-                Err(fault.exists())
-            }
+        match SystemFiles::open(rt, path, reasons) {
+            Ok(files) => SystemFolder::at(alloc, path, files),
+            Err(fault) => Err(fault.failed()),
         }
     }
 
-    /// Reads a file whole.
-    fn try_load<W: Wait>(
-        &mut self,
-        rt: &W,
-        alloc: Global,
-        name: &str,
-    ) -> Result<(SystemMark, Vec<u8>), FolderFault>
-        ensures log { self.new.log ≡ self.old.log }
-        ensures place { system_place self.new ≡ system_place self.old }
-        ensures name { IfOk result (λ r. system_mark_name r.0 ≡ name.now) }
-        ensures image { IfOk result (λ r. system_mark_image r.0 ≡ r.1.items) }
-        ensures here { IfOk result (λ r. Shows (arc_value self.old.marks) r.0.token) }
-        ensures limit { IfOk result (λ r. length r.1.items ≤ 2 ^ 30) }
-        ensures err { IfErr result NotExists }
+    /// The folder of this path, of which nothing was asked but that it be opened.
+    fn at(alloc: Global, path: &str, files: SystemFiles<R>) -> Result<SystemFolder<R>, FolderFault>
+        ensures calls { IfOk result (λ f. system_calls f ≡ opened ∷ []) }
+        ensures place { IfOk result (λ f. IsAtPath path.now (system_place f)) }
+        ensures err { IfErr result NotNamed }
     {
-        let files = &mut self.open_files;
-        match system_files::load(&self.rt, files, alloc, self.path.as_str(), name) {
-            Ok(bytes) => {
-                let mark = marked(rt, &self.marks, name, bytes.as_slice())?;
-                Ok((mark, bytes))
-            }
-            Err(fault) => Err(self.missing("read", name, fault)),
+        match named(alloc, path) {
+            Ok((path, marks)) => Ok(SystemFolder {
+                path,
+                marks,
+                files,
+                log: Log::opened(),
+            }),
+            Err(_) => Err(FolderFault::OutOfMemory),
         }
     }
+}
 
-    /// Reads a part of a file: with the one that is kept open for the mark of this index, or it is
-    /// opened and kept.
-    fn try_read(
-        &mut self,
-        alloc: Global,
-        name: &str,
-        mark: usize,
-        offset: u64,
-        len: usize,
-    ) -> Result<Vec<u8>, SystemFault>
-        ensures log { self.new.log ≡ self.old.log }
-        ensures place { system_place self.new ≡ system_place self.old }
-    {
-        let mut bytes = vec![in alloc; 0u8; len]?;
-        let files = &mut self.open_files;
-        if let Some(file) = files.of(mark) {
-            let read = file.read_exact_at(bytes.as_mut_slice(), offset);
-            if read.is_err() {
-                files.make_room(mark);
-            }
-            read?;
-            return Ok(bytes);
-        }
-        files.make_room(mark);
-        let mut options = OpenOptions::new();
-        options.read(true);
-        let file = open_regular(&self.rt, files, self.path.as_str(), name, &options)?;
-        file.read_exact_at(bytes.as_mut_slice(), offset)?;
-        files.keep(mark, file);
-        Ok(bytes)
-    }
-
-    /// Locks a file, and holds it where no other does.
-    fn try_lock(&mut self, name: &str, kind: LockKind) -> Result<bool, FolderFault>
-        ensures log { self.new.log ≡ self.old.log }
-        ensures place { system_place self.new ≡ system_place self.old }
-        ensures err { IfErr result NotExists }
-    {
-        let files = &mut self.open_files;
-        match system_locks::lock(&self.rt, files, self.path.as_str(), name, kind) {
-            Ok(None) => Ok(false),
-            Ok(held) => {
-                self.held = held;
-                Ok(true)
-            }
-            Err(fault) => Err(self.missing("lock", name, fault)),
-        }
-    }
+/// A path, and no marks yet.
+fn named(alloc: Global, path: &str) -> Result<(String, Arc<boxcar::Vec<Facts>>), AllocError>
+    ensures { IfOk result (λ r. string_bytes r.0 ≡ path.now) }
+{
+    let marks = Arc::new(alloc, boxcar::Vec::new(alloc)?)?;
+    Ok((String::from_str(alloc, path)?, marks))
 }
 
 impl<R: Files<File = File> + AllocGlobal + Clone + Drop> FolderCalls for SystemFolder<R> {
@@ -234,7 +168,7 @@ impl<R: Files<File = File> + AllocGlobal + Clone + Drop> FolderCalls for SystemF
     ghost is_of = { IsOfSystem };
 
     fn alloc(&self) -> Global {
-        self.rt.alloc()
+        self.files.rt.alloc()
     }
 
     fn make<W: Wait>(
@@ -243,80 +177,76 @@ impl<R: Files<File = File> + AllocGlobal + Clone + Drop> FolderCalls for SystemF
         name: &str,
         bytes: &[u8],
     ) -> Result<SystemMark, FolderFault> {
-        let answer = self.try_make(rt, name, bytes);
-        self.log = self
-            .log
-            .with::<Made>(name.as_bytes(), bytes, &answered(&answer));
+        let folder = self.path.as_str();
+        let answer = make_marked(rt, &mut self.files, &self.marks, folder, name, bytes);
+        self.log
+            .add::<Made>(name.as_bytes(), bytes, &answered(&answer));
         answer
     }
 
     fn write<W: Wait>(&mut self, _rt: &W, name: &str, bytes: &[u8]) -> Result<(), FolderFault> {
-        let files = &mut self.open_files;
-        let outcome = system_files::write(&self.rt, files, self.path.as_str(), name, bytes);
-        let answer = outcome.map_err(|e| self.failed("write", name, e));
-        self.log = self.log.with::<Wrote>(name.as_bytes(), bytes, &answer);
+        let folder = self.path.as_str();
+        let outcome = self.files.write(folder, name, bytes);
+        let answer = self.files.failed("write", folder, name, outcome);
+        self.log.add::<Wrote>(name.as_bytes(), bytes, &answer);
         answer
     }
 
     fn append<W: Wait>(&mut self, _rt: &W, name: &str, bytes: &[u8]) -> Result<(), FolderFault> {
-        let files = &mut self.open_files;
-        let outcome = system_files::append(&self.rt, files, self.path.as_str(), name, bytes);
-        let answer = outcome.map_err(|e| self.missing("append", name, e));
-        self.log = self.log.with::<Appended>(name.as_bytes(), bytes, &answer);
+        let folder = self.path.as_str();
+        let outcome = self.files.append(folder, name, bytes);
+        let answer = self.files.missing("append", folder, name, outcome);
+        self.log.add::<Appended>(name.as_bytes(), bytes, &answer);
         answer
     }
 
     fn sync<W: Wait>(&mut self, _rt: &W, name: &str) -> Result<(), FolderFault> {
-        let files = &mut self.open_files;
-        let outcome = system_files::sync(&self.rt, files, self.path.as_str(), name);
-        let answer = outcome.map_err(|e| self.missing("sync", name, e));
-        self.log = self.log.with::<Synced>(name.as_bytes(), &[], &answer);
+        let folder = self.path.as_str();
+        let outcome = self.files.sync(folder, name);
+        let answer = self.files.missing("sync", folder, name, outcome);
+        self.log.add::<Synced>(name.as_bytes(), &[], &answer);
         answer
     }
 
     fn sync_folder<W: Wait>(&mut self, _rt: &W) -> Result<(), FolderFault> {
-        let files = &mut self.open_files;
-        let outcome = system_files::sync_folder(&self.rt, files, self.path.as_str());
-        let answer = outcome.map_err(|e| self.failed("sync", "", e));
-        self.log = self.log.with::<FolderSynced>(&[], &[], &answer);
+        let folder = self.path.as_str();
+        let outcome = self.files.sync_folder(folder);
+        let answer = self.files.failed("sync", folder, "", outcome);
+        self.log.add::<FolderSynced>(&[], &[], &answer);
         answer
     }
 
     fn rename<W: Wait>(&mut self, _rt: &W, from: &str, to: &str) -> Result<(), FolderFault> {
-        let outcome = system_files::rename(&self.rt, self.path.as_str(), from, to);
-        let answer = outcome.map_err(|e| self.missing("rename", from, e));
-        self.log = self
-            .log
-            .with::<Renamed>(from.as_bytes(), to.as_bytes(), &answer);
+        let folder = self.path.as_str();
+        let outcome = self.files.rename(folder, from, to);
+        let answer = self.files.missing("rename", folder, from, outcome);
+        self.log
+            .add::<Renamed>(from.as_bytes(), to.as_bytes(), &answer);
         answer
     }
 
     fn remove<W: Wait>(&mut self, _rt: &W, name: &str) -> Result<(), FolderFault> {
-        let outcome = system_files::remove(&self.rt, self.path.as_str(), name);
-        self.open_files.removed();
-        let answer = outcome.map_err(|e| self.missing("remove", name, e));
-        self.log = self.log.with::<Removed>(name.as_bytes(), &[], &answer);
+        let folder = self.path.as_str();
+        let outcome = self.files.remove(folder, name);
+        let answer = self.files.missing("remove", folder, name, outcome);
+        self.log.add::<Removed>(name.as_bytes(), &[], &answer);
         answer
     }
 
     fn lock<W: Wait>(&mut self, _rt: &W, name: &str, kind: LockKind) -> Result<bool, FolderFault> {
-        let answer = self.try_lock(name, kind);
-        self.log = self.log.with_lock(name.as_bytes(), kind, &answer);
+        let folder = self.path.as_str();
+        let outcome = self.files.lock(folder, name, kind);
+        let answer = self.files.missing("lock", folder, name, outcome);
+        self.log.add_lock(name.as_bytes(), kind, &answer);
         answer
     }
 
     fn length<W: Wait>(&mut self, _rt: &W, name: &str) -> Result<u64, FolderFault> {
-        match system_files::length(&self.rt, self.path.as_str(), name) {
-            Ok(length) => {
-                self.log = self.log.with_length(name.as_bytes(), length);
-                Ok(length)
-            }
-            Err(error) => {
-                let fault = self.missing("read", name, error);
-                self.log = self.log.with_failed_length(name.as_bytes(), fault);
-                Err(fault)
-            }
-        }
+        let folder = self.path.as_str();
+        let outcome = self.files.length(folder, name);
+        let answer = self.files.missing("read", folder, name, outcome);
+        self.log.add_length(name.as_bytes(), &answer);
+        answer
     }
 
     fn read_part(
@@ -327,22 +257,15 @@ impl<R: Files<File = File> + AllocGlobal + Clone + Drop> FolderCalls for SystemF
         offset: u64,
         len: usize,
     ) -> Result<Vec<u8>, FolderFault> {
-        let image = image_of(mark);
-        match self.try_read(alloc, name, mark.token.index(), offset, len) {
-            Ok(bytes) => {
-                self.log = self
-                    .log
-                    .with_read(name.as_bytes(), &image, offset, len, bytes.as_slice());
-                Ok(bytes)
-            }
-            Err(error) => {
-                let fault = self.missing("read", name, error);
-                self.log = self
-                    .log
-                    .with_failed_read(name.as_bytes(), &image, offset, len, fault);
-                Err(fault)
-            }
-        }
+        let folder = self.path.as_str();
+        let index = mark.token.index();
+        let outcome = self
+            .files
+            .read_part(alloc, folder, name, index, offset, len);
+        let answer = self.files.missing("read", folder, name, outcome);
+        self.log
+            .add_read(name.as_bytes(), &image_of(mark), offset, len, &answer);
+        answer
     }
 
     fn load<W: Wait>(
@@ -351,43 +274,32 @@ impl<R: Files<File = File> + AllocGlobal + Clone + Drop> FolderCalls for SystemF
         alloc: Global,
         name: &str,
     ) -> Result<(SystemMark, Vec<u8>), FolderFault> {
-        match self.try_load(rt, alloc, name) {
-            Ok((mark, bytes)) => {
-                self.log = self.log.with_load(name.as_bytes(), bytes.as_slice());
-                Ok((mark, bytes))
-            }
-            Err(fault) => {
-                self.log = self.log.with_failed_load(name.as_bytes(), fault);
-                Err(fault)
-            }
-        }
+        let folder = self.path.as_str();
+        let answer = load_marked(rt, &mut self.files, &self.marks, alloc, folder, name);
+        self.log.add_load(name.as_bytes(), &answer);
+        answer
     }
 
     fn list<W: Wait>(&mut self, _rt: &W, alloc: Global) -> Result<Vec<String>, FolderFault> {
-        let files = &mut self.open_files;
-        match system_files::list(&self.rt, files, alloc, self.path.as_str()) {
-            Ok(names) => {
-                self.log = self.log.with_list(names.as_slice());
-                Ok(names)
-            }
-            Err(error) => {
-                let fault = self.failed("list", "", error);
-                self.log = self.log.with_failed_list(fault);
-                Err(fault)
-            }
-        }
+        let folder = self.path.as_str();
+        let outcome = self.files.list(alloc, folder);
+        let answer = self.files.failed("list", folder, "", outcome);
+        self.log.add_list(&answer);
+        answer
     }
 
     fn fork(&self) -> Result<SystemFolder<R>, FolderFault> {
-        Ok(SystemFolder {
-            rt: self.rt.clone()?,
-            path: self.path.clone()?,
-            marks: Arc::try_clone(&self.marks)?,
-            held: None,
-            open_files: self.open_files.fork(self.rt.alloc())?,
-            reasons: self.reasons.again()?,
-            log: Log::empty(),
-        })
+        let path = self.path.clone()?;
+        let marks = Arc::try_clone(&self.marks)?;
+        match self.files.fork() {
+            Ok(files) => Ok(SystemFolder {
+                path,
+                marks,
+                files,
+                log: Log::empty(),
+            }),
+            Err(_) => Err(FolderFault::OutOfMemory),
+        }
     }
 
     fn same(&self, a: &SystemMark, b: &SystemMark) -> bool {

@@ -2,25 +2,55 @@
 //! at and opened to be read whole, written or synced; one of which a part is read stays open. No
 //! contract says what these do; they are to be read.
 
-ghost use Rattle.std.specs.Prelude.{◌≤◌, ◌^◌, length, IfOk};
+ghost use Rattle.std.specs.Prelude.{◌≡◌, ◌≤◌, ◌^◌, length, Ok, IfOk, IfErr};
+ghost use Rattle.lsm_folder.specs.FolderFault.{NotMissing, NotExists, NotNamed};
 
+use crate::folder_fault::FolderFault;
 use crate::open_files::OpenFiles;
+use crate::reasons::Reasons;
 use crate::system_fault::SystemFault;
 use std::alloc::{AllocError, Global};
 use std::fs::{self, File, Files, OpenFile, OpenOptions};
 use std::io::{self, Read, Write};
+use std::os::unix::fs::FileExt;
 
 /// The most bytes that a file may have to be read whole: 1 GiB.
 const MAX_LOAD: usize = 1 << 30;
 
+/// What the calls on a folder of the system are made with, whose path each is passed: the system,
+/// the lock that is held, the files that stay open, and where refusals are kept for people.
+#[derive(Drop)]
+pub(crate) struct SystemFiles<R: Files<File = File> + AllocGlobal + Clone + Drop> {
+    pub(crate) rt: R,
+    pub(crate) held: Option<File>,
+    pub(crate) open_files: OpenFiles,
+    reasons: Reasons,
+}
+
 /// The path of a file in a folder.
-pub(crate) fn path_of(alloc: Global, folder: &str, name: &str) -> Result<String, AllocError> {
+fn path_of(alloc: Global, folder: &str, name: &str) -> Result<String, AllocError> {
     format!(in alloc; "{folder}/{name}")
 }
 
 /// Why a file that is not a regular one is refused.
 fn irregular() -> SystemFault {
     SystemFault::Unacted(io::Error::other("not a regular file"))
+}
+
+/// The answer of a call that asks for a change, or for an open file.
+fn asked<T: Drop>(answer: io::Result<T>) -> Result<T, SystemFault> {
+    match answer {
+        Ok(value) => Ok(value),
+        Err(error) => Err(SystemFault::asked(error)),
+    }
+}
+
+/// The answer of a call on an open file, which may have acted.
+fn acted(answer: io::Result<()>) -> Result<(), SystemFault> {
+    match answer {
+        Ok(()) => Ok(()),
+        Err(error) => Err(SystemFault::Acted(error)),
+    }
 }
 
 /// What a file of the system says; nothing where it can't be read.
@@ -34,167 +64,19 @@ pub(crate) fn text_of<R: Files<File = File> + AllocGlobal>(
     }
 }
 
-/// Opens a file. What has its name is looked at before, links followed: the opening of a pipe would
-/// wait. Where it is refused for want of a descriptor, here and below, the files that are kept open
-/// are closed, and it is tried once more.
-pub(crate) fn open_regular<R: Files<File = File> + AllocGlobal>(
+/// Lists a folder, to see that it is one.
+fn look_at<R: Files<File = File> + AllocGlobal + Clone + Drop>(
     rt: &R,
-    open_files: &mut OpenFiles,
-    folder: &str,
-    name: &str,
-    options: &OpenOptions,
-) -> Result<File, SystemFault> {
-    let path = path_of(rt.alloc(), folder, name)?;
-    match fs::metadata(rt, path.as_str()) {
-        Ok(found) if !found.is_file() => return Err(irregular()),
-        _ => {}
-    }
-    let opened = match options.open(rt, path.as_str()) {
-        Err(error) if open_files.give_way(&error) => options.open(rt, path.as_str()),
-        answer => answer,
-    };
-    opened.map_err(|e| SystemFault::asked(e))
-}
-
-/// Makes a file that must not be there.
-fn create_new<R: Files<File = File>>(
-    rt: &R,
-    open_files: &mut OpenFiles,
     path: &str,
-) -> Result<File, SystemFault> {
-    let made = match File::create_new(rt, path) {
-        Err(error) if open_files.give_way(&error) => File::create_new(rt, path),
-        answer => answer,
-    };
-    made.map_err(|e| SystemFault::asked(e))
-}
-
-pub(crate) fn make<R: Files<File = File> + AllocGlobal>(
-    rt: &R,
-    open_files: &mut OpenFiles,
-    folder: &str,
-    name: &str,
-    bytes: &[u8],
+    reasons: &Reasons,
 ) -> Result<(), SystemFault> {
-    let path = path_of(rt.alloc(), folder, name)?;
-    let mut file = create_new(rt, open_files, path.as_str())?;
-    file.write_all(bytes).map_err(|e| SystemFault::Acted(e))
-}
-
-pub(crate) fn write<R: Files<File = File> + AllocGlobal>(
-    rt: &R,
-    open_files: &mut OpenFiles,
-    folder: &str,
-    name: &str,
-    bytes: &[u8],
-) -> Result<(), SystemFault> {
-    let path = path_of(rt.alloc(), folder, name)?;
-    clear(rt, path.as_str())?;
-    let mut file = create_new(rt, open_files, path.as_str())?;
-    file.write_all(bytes).map_err(|e| SystemFault::Acted(e))
-}
-
-/// Takes the name from the file or the link that has it, so that nothing is written through a link:
-/// `CURRENT`, a table, or a file of another folder may have the same bytes.
-fn clear<R: Files<File = File>>(rt: &R, path: &str) -> Result<(), SystemFault> {
-    match fs::metadata(rt, path) {
-        Ok(found) if !found.is_file() => return Err(irregular()),
-        _ => {}
+    match fs::read_dir(rt, path) {
+        Ok(_) => Ok(()),
+        Err(error) => {
+            reasons.note("open", String::from_str(rt.alloc(), path), error);
+            Err(SystemFault::from(error))
+        }
     }
-    match fs::remove_file(rt, path) {
-        Err(error) if error.kind() != io::ErrorKind::NotFound => Err(SystemFault::asked(error)),
-        _ => Ok(()),
-    }
-}
-
-pub(crate) fn append<R: Files<File = File> + AllocGlobal>(
-    rt: &R,
-    open_files: &mut OpenFiles,
-    folder: &str,
-    name: &str,
-    bytes: &[u8],
-) -> Result<(), SystemFault> {
-    let mut options = OpenOptions::new();
-    options.append(true);
-    let mut file = open_regular(rt, open_files, folder, name, &options)?;
-    file.write_all(bytes).map_err(|e| SystemFault::Acted(e))
-}
-
-pub(crate) fn sync<R: Files<File = File> + AllocGlobal>(
-    rt: &R,
-    open_files: &mut OpenFiles,
-    folder: &str,
-    name: &str,
-) -> Result<(), SystemFault> {
-    let mut options = OpenOptions::new();
-    options.append(true);
-    let file = open_regular(rt, open_files, folder, name, &options)?;
-    file.sync_all().map_err(|e| SystemFault::Acted(e))
-}
-
-pub(crate) fn sync_folder<R: Files<File = File>>(
-    rt: &R,
-    open_files: &mut OpenFiles,
-    folder: &str,
-) -> Result<(), SystemFault> {
-    let opened = match fs::open(rt, folder) {
-        Err(error) if open_files.give_way(&error) => fs::open(rt, folder),
-        answer => answer,
-    }?;
-    opened.sync_all().map_err(|e| SystemFault::Acted(e))
-}
-
-pub(crate) fn rename<R: Files<File = File> + AllocGlobal>(
-    rt: &R,
-    folder: &str,
-    from: &str,
-    to: &str,
-) -> Result<(), SystemFault> {
-    let from = path_of(rt.alloc(), folder, from)?;
-    let to = path_of(rt.alloc(), folder, to)?;
-    fs::rename(rt, from.as_str(), to.as_str()).map_err(|e| SystemFault::asked(e))
-}
-
-pub(crate) fn remove<R: Files<File = File> + AllocGlobal>(
-    rt: &R,
-    folder: &str,
-    name: &str,
-) -> Result<(), SystemFault> {
-    let path = path_of(rt.alloc(), folder, name)?;
-    fs::remove_file(rt, path.as_str()).map_err(|e| SystemFault::asked(e))
-}
-
-pub(crate) fn length<R: Files<File = File> + AllocGlobal>(
-    rt: &R,
-    folder: &str,
-    name: &str,
-) -> Result<u64, SystemFault> {
-    let path = path_of(rt.alloc(), folder, name)?;
-    let found = fs::metadata(rt, path.as_str())?;
-    if !found.is_file() {
-        return Err(irregular());
-    }
-    Ok(found.len())
-}
-
-/// Reads at most one byte more than 1 GiB, and refuses a file that has it.
-pub(crate) fn load<R: Files<File = File> + AllocGlobal>(
-    rt: &R,
-    open_files: &mut OpenFiles,
-    alloc: Global,
-    folder: &str,
-    name: &str,
-) -> Result<Vec<u8>, SystemFault>
-    ensures { IfOk result (λ v. length v.items ≤ 2 ^ 30) }
-{
-    let mut bytes = Vec::new(alloc);
-    open_regular(rt, open_files, folder, name, OpenOptions::new().read(true))?
-        .take(MAX_LOAD as u64 + 1)
-        .read_to_end(&mut bytes)?;
-    if bytes.len() > MAX_LOAD {
-        return Err(SystemFault::Unacted(io::Error::other("larger than 1 GiB")));
-    }
-    Ok(bytes)
 }
 
 /// The name of an entry. A folder, and one whose name is no text, is left out.
@@ -213,21 +95,331 @@ fn name_of<R: Files<File = File> + Drop>(
     }
 }
 
-pub(crate) fn list<R: Files<File = File> + AllocGlobal + Clone + Drop>(
+/// Adds the name of an entry, if it has one.
+fn add_name<R: Files<File = File> + Drop>(
     rt: &R,
-    open_files: &mut OpenFiles,
     alloc: Global,
-    folder: &str,
-) -> Result<Vec<String>, SystemFault> {
+    names: &mut Vec<String>,
+    entry: io::Result<fs::DirEntry<R, Global>>,
+) -> io::Result<()> {
+    if let Some(name) = name_of(rt, alloc, entry)? {
+        names.push(name)?;
+    }
+    Ok(())
+}
+
+/// The names of entries.
+fn names_of<R: Files<File = File> + AllocGlobal + Clone + Drop>(
+    rt: &R,
+    alloc: Global,
+    entries: fs::ReadDir<R, Global>,
+) -> io::Result<Vec<String>> {
     let mut names = Vec::new(alloc);
-    let entries = match fs::read_dir(rt, folder) {
-        Err(error) if open_files.give_way(&error) => fs::read_dir(rt, folder),
-        answer => answer,
-    }?;
     for entry in entries {
-        if let Some(name) = name_of(rt, alloc, entry)? {
-            names.push(name).map_err(|e| AllocError::from(e))?;
-        }
+        add_name(rt, alloc, &mut names, entry)?;
     }
     Ok(names)
+}
+
+impl<R: Files<File = File> + AllocGlobal + Clone + Drop> SystemFiles<R> {
+    /// For the folder of this path. Refused where it is none that can be read.
+    pub(crate) fn open(
+        rt: R,
+        path: &str,
+        reasons: &Reasons,
+    ) -> Result<SystemFiles<R>, SystemFault> {
+        look_at(&rt, path, reasons)?;
+        let reasons = reasons.again()?;
+        Ok(SystemFiles {
+            open_files: OpenFiles::new(&rt)?,
+            rt,
+            held: None,
+            reasons,
+        })
+    }
+
+    /// For another value on the folder.
+    pub(crate) fn fork(&self) -> Result<SystemFiles<R>, AllocError> {
+        let rt = self.rt.clone()?;
+        let reasons = self.reasons.again()?;
+        Ok(SystemFiles {
+            open_files: self.open_files.fork(rt.alloc())?,
+            rt,
+            held: None,
+            reasons,
+        })
+    }
+
+    /// Keeps why the system refused a call.
+    fn note(&self, call: &'static str, folder: &str, name: &str, fault: SystemFault) {
+        let path = path_of(self.rt.alloc(), folder, name);
+        self.reasons.note(call, path, fault.error());
+    }
+
+    /// The answer of a call that needs no name.
+    pub(crate) fn failed<T: Drop>(
+        &self,
+        call: &'static str,
+        folder: &str,
+        name: &str,
+        answer: Result<T, SystemFault>,
+    ) -> Result<T, FolderFault>
+        ensures { IfErr result NotNamed }
+    {
+        match answer {
+            Ok(value) => Ok(value),
+            Err(fault) => {
+                self.note(call, folder, name, fault);
+                Err(fault.failed())
+            }
+        }
+    }
+
+    /// The answer of a call on a file that must be there.
+    pub(crate) fn missing<T: Drop>(
+        &self,
+        call: &'static str,
+        folder: &str,
+        name: &str,
+        answer: Result<T, SystemFault>,
+    ) -> Result<T, FolderFault>
+        ensures same { IfOk result (λ v. answer ≡ Ok v) }
+        ensures err { IfErr result NotExists }
+    {
+        match answer {
+            Ok(value) => Ok(value),
+            Err(fault) => {
+                self.note(call, folder, name, fault);
+                Err(fault.missing())
+            }
+        }
+    }
+
+    /// The answer of a call that makes a file.
+    pub(crate) fn exists(
+        &self,
+        call: &'static str,
+        folder: &str,
+        name: &str,
+        answer: Result<(), SystemFault>,
+    ) -> Result<(), FolderFault>
+        ensures { IfErr result NotMissing }
+    {
+        match answer {
+            Ok(()) => Ok(()),
+            Err(fault) => {
+                self.note(call, folder, name, fault);
+                Err(fault.exists())
+            }
+        }
+    }
+
+    /// Opens a file. What has its name is looked at before, links followed: the opening of a pipe
+    /// would wait. Where it is refused for want of a descriptor, here and below, the files that are
+    /// kept open are closed, and it is tried once more.
+    pub(crate) fn open_regular(
+        &mut self,
+        folder: &str,
+        name: &str,
+        options: &OpenOptions,
+    ) -> Result<File, SystemFault> {
+        let path = path_of(self.rt.alloc(), folder, name)?;
+        match fs::metadata(&self.rt, path.as_str()) {
+            Ok(found) if !found.is_file() => return Err(irregular()),
+            _ => {}
+        }
+        asked(match options.open(&self.rt, path.as_str()) {
+            Err(error) if self.open_files.give_way(&error) => {
+                options.open(&self.rt, path.as_str())
+            }
+            answer => answer,
+        })
+    }
+
+    /// Opens a file, to put bytes behind its own, or to make these durable.
+    fn open_to_append(&mut self, folder: &str, name: &str) -> Result<File, SystemFault> {
+        let mut options = OpenOptions::new();
+        options.append(true);
+        self.open_regular(folder, name, &options)
+    }
+
+    /// Makes a file that must not be there, with these bytes.
+    fn fill_new(&mut self, path: &str, bytes: &[u8]) -> Result<(), SystemFault> {
+        let made = match File::create_new(&self.rt, path) {
+            Err(error) if self.open_files.give_way(&error) => File::create_new(&self.rt, path),
+            answer => answer,
+        };
+        match made {
+            Ok(mut file) => acted(file.write_all(bytes)),
+            Err(error) => Err(SystemFault::asked(error)),
+        }
+    }
+
+    pub(crate) fn make(
+        &mut self,
+        folder: &str,
+        name: &str,
+        bytes: &[u8],
+    ) -> Result<(), SystemFault> {
+        let path = path_of(self.rt.alloc(), folder, name)?;
+        self.fill_new(path.as_str(), bytes)
+    }
+
+    pub(crate) fn write(
+        &mut self,
+        folder: &str,
+        name: &str,
+        bytes: &[u8],
+    ) -> Result<(), SystemFault> {
+        let path = path_of(self.rt.alloc(), folder, name)?;
+        self.clear(path.as_str())?;
+        self.fill_new(path.as_str(), bytes)
+    }
+
+    /// Takes the name from the file or the link that has it, so that nothing is written through a
+    /// link: `CURRENT`, a table, or a file of another folder may have the same bytes.
+    fn clear(&self, path: &str) -> Result<(), SystemFault> {
+        match fs::metadata(&self.rt, path) {
+            Ok(found) if !found.is_file() => return Err(irregular()),
+            _ => {}
+        }
+        match fs::remove_file(&self.rt, path) {
+            Err(error) if error.kind() != io::ErrorKind::NotFound => Err(SystemFault::asked(error)),
+            _ => Ok(()),
+        }
+    }
+
+    pub(crate) fn append(
+        &mut self,
+        folder: &str,
+        name: &str,
+        bytes: &[u8],
+    ) -> Result<(), SystemFault> {
+        let mut file = self.open_to_append(folder, name)?;
+        acted(file.write_all(bytes))
+    }
+
+    pub(crate) fn sync(&mut self, folder: &str, name: &str) -> Result<(), SystemFault> {
+        let file = self.open_to_append(folder, name)?;
+        acted(file.sync_all())
+    }
+
+    pub(crate) fn sync_folder(&mut self, folder: &str) -> Result<(), SystemFault> {
+        let opened = match fs::open(&self.rt, folder) {
+            Err(error) if self.open_files.give_way(&error) => fs::open(&self.rt, folder),
+            answer => answer,
+        }?;
+        acted(opened.sync_all())
+    }
+
+    pub(crate) fn rename(&self, folder: &str, from: &str, to: &str) -> Result<(), SystemFault> {
+        let from = path_of(self.rt.alloc(), folder, from)?;
+        let to = path_of(self.rt.alloc(), folder, to)?;
+        asked(fs::rename(&self.rt, from.as_str(), to.as_str()))
+    }
+
+    /// Removes a file, and closes those that are kept open: it may be one of them.
+    pub(crate) fn remove(&mut self, folder: &str, name: &str) -> Result<(), SystemFault> {
+        let removed = self.try_remove(folder, name);
+        self.open_files.removed();
+        removed
+    }
+
+    fn try_remove(&self, folder: &str, name: &str) -> Result<(), SystemFault> {
+        let path = path_of(self.rt.alloc(), folder, name)?;
+        asked(fs::remove_file(&self.rt, path.as_str()))
+    }
+
+    pub(crate) fn length(&self, folder: &str, name: &str) -> Result<u64, SystemFault> {
+        let path = path_of(self.rt.alloc(), folder, name)?;
+        match fs::metadata(&self.rt, path.as_str()) {
+            Ok(found) if found.is_file() => Ok(found.len()),
+            Ok(_) => Err(irregular()),
+            Err(error) => Err(SystemFault::from(error)),
+        }
+    }
+
+    /// Reads a part of a file: with the one that is kept open for the mark of this index, or it is
+    /// opened and kept.
+    pub(crate) fn read_part(
+        &mut self,
+        alloc: Global,
+        folder: &str,
+        name: &str,
+        mark: usize,
+        offset: u64,
+        len: usize,
+    ) -> Result<Vec<u8>, SystemFault> {
+        let mut bytes = vec![in alloc; 0u8; len]?;
+        self.read_into(folder, name, mark, offset, bytes.as_mut_slice())?;
+        Ok(bytes)
+    }
+
+    fn read_into(
+        &mut self,
+        folder: &str,
+        name: &str,
+        mark: usize,
+        offset: u64,
+        bytes: &mut [u8],
+    ) -> Result<(), SystemFault> {
+        let Some(file) = self.open_files.of(mark) else {
+            return self.read_anew(folder, name, mark, offset, bytes);
+        };
+        match file.read_exact_at(bytes, offset) {
+            Ok(()) => Ok(()),
+            Err(error) => {
+                self.open_files.make_room(mark);
+                Err(SystemFault::from(error))
+            }
+        }
+    }
+
+    fn read_anew(
+        &mut self,
+        folder: &str,
+        name: &str,
+        mark: usize,
+        offset: u64,
+        bytes: &mut [u8],
+    ) -> Result<(), SystemFault> {
+        self.open_files.make_room(mark);
+        let mut options = OpenOptions::new();
+        options.read(true);
+        let file = self.open_regular(folder, name, &options)?;
+        match file.read_exact_at(bytes, offset) {
+            Ok(()) => {
+                self.open_files.keep(mark, file);
+                Ok(())
+            }
+            Err(error) => Err(SystemFault::from(error)),
+        }
+    }
+
+    /// Reads at most one byte more than 1 GiB, and refuses a file that has it.
+    pub(crate) fn load(
+        &mut self,
+        alloc: Global,
+        folder: &str,
+        name: &str,
+    ) -> Result<Vec<u8>, SystemFault>
+        ensures { IfOk result (λ v. length v.items ≤ 2 ^ 30) }
+    {
+        let mut bytes = Vec::new(alloc);
+        self.open_regular(folder, name, OpenOptions::new().read(true))?
+            .take(MAX_LOAD as u64 + 1)
+            .read_to_end(&mut bytes)?;
+        if bytes.len() > MAX_LOAD {
+            return Err(SystemFault::Unacted(io::Error::other("larger than 1 GiB")));
+        }
+        Ok(bytes)
+    }
+
+    pub(crate) fn list(&mut self, alloc: Global, folder: &str) -> Result<Vec<String>, SystemFault> {
+        let entries = match fs::read_dir(&self.rt, folder) {
+            Err(error) if self.open_files.give_way(&error) => fs::read_dir(&self.rt, folder),
+            answer => answer,
+        }?;
+        Ok(names_of(&self.rt, alloc, entries)?)
+    }
 }

@@ -1,8 +1,7 @@
 //! A folder of the system.
 
 use crate::log::Log;
-use crate::open_files::OpenFiles;
-use crate::reasons::Reasons;
+use crate::system_files::SystemFiles;
 use crate::system_mark::Facts;
 use std::fs::{File, Files};
 use std::sync::Arc;
@@ -12,11 +11,8 @@ use std::sync::Arc;
 /// file of which a part was read stays open for the next one (`open_files.rt`).
 #[derive(Drop)]
 pub struct SystemFolder<R: Files<File = File> + AllocGlobal + Clone + Drop> {
-    pub(crate) rt: R,
     pub(crate) path: String,
     pub(crate) marks: Arc<boxcar::Vec<Facts>>,
-    pub(crate) held: Option<File>,
-    pub(crate) open_files: OpenFiles,
-    pub(crate) reasons: Reasons,
+    pub(crate) files: SystemFiles<R>,
     pub(crate) log: Log,
 }

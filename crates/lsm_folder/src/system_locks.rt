@@ -1,80 +1,81 @@
 //! The lock of a file of the system. No contract says what these do; they are to be read.
 
 use crate::lock_kind::LockKind;
-use crate::open_files::OpenFiles;
 use crate::system_fault::SystemFault;
-use crate::system_files::open_regular;
+use crate::system_files::SystemFiles;
 use std::fs::{self, File, Files, OpenOptions, TryLockError};
 use std::io;
 use std::os::fd::AsRawFd;
 
-/// Opens a file and locks it; an exclusive lock makes the file where it is not there. `None` where
-/// another holds it.
-pub(crate) fn lock<R: Files<File = File> + AllocGlobal>(
-    rt: &R,
-    open_files: &mut OpenFiles,
-    folder: &str,
-    name: &str,
-    kind: LockKind,
-) -> Result<Option<File>, SystemFault> {
-    let makes = kind == LockKind::Exclusive;
-    let mut options = OpenOptions::new();
-    options.read(true).write(makes).create(makes);
-    let file = open_regular(rt, open_files, folder, name, &options)?;
-    match is_taken(rt, open_files, &file, kind) {
-        Ok(true) => Ok(None),
-        Ok(false) => Ok(Some(file)),
-        Err(error) => Err(SystemFault::Acted(error)),
+impl<R: Files<File = File> + AllocGlobal + Clone + Drop> SystemFiles<R> {
+    /// Opens a file and locks it; an exclusive lock makes the file where it is not there. It is
+    /// held from then on. False where another holds it.
+    pub(crate) fn lock(
+        &mut self,
+        folder: &str,
+        name: &str,
+        kind: LockKind,
+    ) -> Result<bool, SystemFault> {
+        let makes = kind == LockKind::Exclusive;
+        let mut options = OpenOptions::new();
+        options.read(true).write(makes).create(makes);
+        let file = self.open_regular(folder, name, &options)?;
+        match self.is_taken(&file, kind) {
+            Ok(true) => Ok(false),
+            Ok(false) => {
+                self.held = Some(file);
+                Ok(true)
+            }
+            Err(error) => Err(SystemFault::Acted(error)),
+        }
+    }
+
+    /// Locks an open file. Answers whether another holds it.
+    fn is_taken(&mut self, file: &File, kind: LockKind) -> io::Result<bool> {
+        let answer = match kind {
+            LockKind::Shared => file.try_lock_shared(),
+            LockKind::Exclusive => file.try_lock(),
+        };
+        match answer {
+            Ok(()) => self.is_held_by_record(file, kind),
+            Err(TryLockError::WouldBlock) => Ok(true),
+            Err(TryLockError::Error(error)) => Err(error),
+        }
+    }
+
+    /// Whether a program holds a record lock of this file that forbids one of this kind. LevelDB
+    /// locks so, by `fcntl`, and the system lets both kinds of lock be; its list of locks names the
+    /// file as the one that was just taken. Where there is no such list, none is noticed.
+    fn is_held_by_record(&mut self, file: &File, kind: LockKind) -> io::Result<bool> {
+        let own = self.own_lock(file)?;
+        let locks = self.list_of("/proc/locks")?;
+        Ok(is_forbidden(own.as_str(), locks.as_str(), kind))
+    }
+
+    /// What the system says of an open file and of its lock.
+    fn own_lock(&mut self, file: &File) -> io::Result<String> {
+        let path = format!(in self.rt.alloc(); "/proc/self/fdinfo/{}", file.as_raw_fd())?;
+        self.list_of(path.as_str())
+    }
+
+    /// What a list of the system says; nothing where it can't be read. But where it can't for want
+    /// of a descriptor, with none kept open, that is a refusal: a lock may be in it.
+    fn list_of(&mut self, path: &str) -> io::Result<String> {
+        match fs::read_to_string(&self.rt, path) {
+            Err(error) if self.open_files.give_way(&error) => fs::read_to_string(&self.rt, path),
+            Err(error) if error.kind() != io::ErrorKind::OutOfMemory => {
+                Ok(String::new(self.rt.alloc()))
+            }
+            answer => answer,
+        }
     }
 }
 
-/// Locks an open file. Answers whether another holds it.
-fn is_taken<R: Files<File = File> + AllocGlobal>(
-    rt: &R,
-    open_files: &mut OpenFiles,
-    file: &File,
-    kind: LockKind,
-) -> io::Result<bool> {
-    let answer = match kind {
-        LockKind::Shared => file.try_lock_shared(),
-        LockKind::Exclusive => file.try_lock(),
-    };
-    match answer {
-        Ok(()) => is_held_by_record(rt, open_files, file, kind),
-        Err(TryLockError::WouldBlock) => Ok(true),
-        Err(TryLockError::Error(error)) => Err(error),
-    }
-}
-
-/// Whether a program holds a record lock of this file that forbids one of this kind. LevelDB locks
-/// so, by `fcntl`, and the system lets both kinds of lock be; its list of locks names the file as
-/// the one that was just taken. Where there is no such list, none is noticed.
-fn is_held_by_record<R: Files<File = File> + AllocGlobal>(
-    rt: &R,
-    open_files: &mut OpenFiles,
-    file: &File,
-    kind: LockKind,
-) -> io::Result<bool> {
-    let path = format!(in rt.alloc(); "/proc/self/fdinfo/{}", file.as_raw_fd())?;
-    let own = list_of(rt, open_files, path.as_str())?;
-    let locks = list_of(rt, open_files, "/proc/locks")?;
-    match node_in(own.as_str()) {
-        None => Ok(false),
-        Some(node) => Ok(locks.lines().any(|line| forbids(line, node, kind))),
-    }
-}
-
-/// What a list of the system says; nothing where it can't be read. But where it can't for want of a
-/// descriptor, with none kept open, that is a refusal: a lock may be in it.
-fn list_of<R: Files<File = File> + AllocGlobal>(
-    rt: &R,
-    open_files: &mut OpenFiles,
-    path: &str,
-) -> io::Result<String> {
-    match fs::read_to_string(rt, path) {
-        Err(error) if open_files.give_way(&error) => fs::read_to_string(rt, path),
-        Err(error) if error.kind() != io::ErrorKind::OutOfMemory => Ok(String::new(rt.alloc())),
-        answer => answer,
+/// Whether one of the system's locks forbids one of this kind of the file that is locked.
+fn is_forbidden(own: &str, locks: &str, kind: LockKind) -> bool {
+    match node_in(own) {
+        None => false,
+        Some(node) => locks.lines().any(|line| forbids(line, node, kind)),
     }
 }
 
