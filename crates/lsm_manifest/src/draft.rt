@@ -9,7 +9,7 @@ use lsm_codec::{Bytes, List};
 use std::alloc::{AllocError, Global};
 
 /// What the fields read so far come to.
-#[derive(Debug, Drop)]
+#[derive(Drop)]
 pub(crate) struct Draft {
     comparator: Option<Bytes>,
     log: Option<u64>,

@@ -13,7 +13,7 @@ use lsm_codec::{Bytes, get_varint32, get_varint64, is_internal_key};
 use std::alloc::Global;
 
 /// A field of an edit.
-#[derive(Debug, Drop)]
+#[derive(Drop)]
 pub(crate) enum Field {
     Comparator(Bytes),
     Log(u64),

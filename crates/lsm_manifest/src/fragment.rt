@@ -12,7 +12,7 @@ use lsm_codec::{crc_extend, crc32c, mask};
 
 /// The type of a fragment (LevelDB's `doc/log_format.md`): a whole record, or its first, a middle
 /// or its last part.
-#[derive(Clone, Copy, Debug, PartialEq, Eq)]
+#[derive(Clone, Copy)]
 pub(crate) enum FragmentType {
     Full,
     First,

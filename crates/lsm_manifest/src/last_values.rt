@@ -10,7 +10,7 @@ use lsm_codec::Bytes;
 use std::alloc::{AllocError, Global};
 
 /// The last value of each number field, if some edit has it.
-#[derive(Clone, Copy, Debug)]
+#[derive(Clone, Copy)]
 pub(crate) struct LastValues {
     pub(crate) log: Option<u64>,
     pub(crate) prev_log: Option<u64>,

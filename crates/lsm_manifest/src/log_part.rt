@@ -7,7 +7,7 @@ use crate::fragment::{FragmentType, room, sum};
 use crate::log_fault::LogFault;
 
 /// What stands at a place of a log.
-#[derive(Clone, Copy, Debug)]
+#[derive(Clone, Copy)]
 pub(crate) enum LogPart<'a> {
     /// Nothing whole up to the end of the log.
     End,

@@ -136,30 +136,54 @@ fn levels(alloc: Global, standing: &Standing<'_>) -> Result<[List<FileMeta>; 7],
     ensures { IfOk result (λ levels. (es : List Change) → Tracks (Stands es) (file_at standing.now)
         → (level : ℕ) → level ≤ 6 → HoldsLevel es level (get_or levels level [])) }
 {
-    let level_0 = standing.level(alloc, 0)?;
-    let level_1 = standing.level(alloc, 1)?;
-    let level_2 = standing.level(alloc, 2)?;
-    let level_3 = standing.level(alloc, 3)?;
-    let level_4 = standing.level(alloc, 4)?;
-    let level_5 = standing.level(alloc, 5)?;
+    let (level_0, level_1) = two_levels(alloc, standing, 0, 1)?;
+    let (level_2, level_3) = two_levels(alloc, standing, 2, 3)?;
+    let (level_4, level_5) = two_levels(alloc, standing, 4, 5)?;
     let level_6 = standing.level(alloc, 6)?;
     Ok([
         level_0, level_1, level_2, level_3, level_4, level_5, level_6,
     ])
 }
 
+/// The files of two levels.
+fn two_levels(
+    alloc: Global,
+    standing: &Standing<'_>,
+    first: u8,
+    second: u8,
+) -> Result<(List<FileMeta>, List<FileMeta>), AllocError>
+    ensures first { IfOk result (λ r. (es : List Change)
+        → Tracks (Stands es) (file_at standing.now) → HoldsLevel es first r.0) }
+    ensures second { IfOk result (λ r. (es : List Change)
+        → Tracks (Stands es) (file_at standing.now) → HoldsLevel es second r.1) }
+{
+    let files = standing.level(alloc, first)?;
+    Ok((files, standing.level(alloc, second)?))
+}
+
 fn pointers(alloc: Global, edits: &[Edit]) -> Result<[Option<Bytes>; 7], AllocError>
     ensures { IfOk result (λ pointers. (level : ℕ) → level ≤ 6
         → get_or pointers level None ≡ last_pointer level edits.now) }
 {
-    let pointer_0 = last_key(alloc, edits, 0)?;
-    let pointer_1 = last_key(alloc, edits, 1)?;
-    let pointer_2 = last_key(alloc, edits, 2)?;
-    let pointer_3 = last_key(alloc, edits, 3)?;
-    let pointer_4 = last_key(alloc, edits, 4)?;
-    let pointer_5 = last_key(alloc, edits, 5)?;
+    let (pointer_0, pointer_1) = two_pointers(alloc, edits, 0, 1)?;
+    let (pointer_2, pointer_3) = two_pointers(alloc, edits, 2, 3)?;
+    let (pointer_4, pointer_5) = two_pointers(alloc, edits, 4, 5)?;
     let pointer_6 = last_key(alloc, edits, 6)?;
     Ok([
         pointer_0, pointer_1, pointer_2, pointer_3, pointer_4, pointer_5, pointer_6,
     ])
+}
+
+/// The last pointers of two levels.
+fn two_pointers(
+    alloc: Global,
+    edits: &[Edit],
+    first: u8,
+    second: u8,
+) -> Result<(Option<Bytes>, Option<Bytes>), AllocError>
+    ensures first { IfOk result (λ r. r.0 ≡ last_pointer first edits.now) }
+    ensures second { IfOk result (λ r. r.1 ≡ last_pointer second edits.now) }
+{
+    let pointer = last_key(alloc, edits, first)?;
+    Ok((pointer, last_key(alloc, edits, second)?))
 }
