@@ -55,9 +55,9 @@ fn write_behind<C: FolderCalls, W: Wait>(
     ensures fault { IfErr result NotTaken }
 {
     let name = manifest_file(folder.alloc(), number)?;
-    folder
-        .append(rt, name.as_str(), bytes)
-        .map_err(|e| missing(e))?;
+    if let Err(fault) = folder.append(rt, name.as_str(), bytes) {
+        return Err(missing(fault));
+    }
     match folder.sync(rt, name.as_str()) {
         Ok(()) => Ok(()),
         Err(_) => Err(ShelfFault::Device),

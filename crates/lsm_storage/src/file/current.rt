@@ -27,8 +27,10 @@ fn load_current<C: FolderCalls, W: Wait>(
     ensures place { C.place folder.new ≡ C.place folder.old }
     ensures fault { IfErr result NotTaken }
 {
-    let (_, text) = folder.load(rt, alloc, "CURRENT").map_err(|e| missing(e))?;
-    Ok(text)
+    match folder.load(rt, alloc, "CURRENT") {
+        Ok((_, text)) => Ok(text),
+        Err(fault) => Err(missing(fault)),
+    }
 }
 
 /// The number of the manifest that a text of `CURRENT` names.

@@ -52,7 +52,9 @@ impl<R: Files<File = File> + AllocGlobal + Clone + Drop> FileShelf<SystemFolder<
             file_told system_place s ≡ fresh (system_place (folder_of s))) }
         ensures err { IfErr result NotNamed }
     {
-        let folder = SystemFolder::open(rt, path).map_err(|e| device(e))?;
-        Ok(FileShelf::over(folder))
+        match SystemFolder::open(rt, path) {
+            Ok(folder) => Ok(FileShelf::over(folder)),
+            Err(fault) => Err(device(fault)),
+        }
     }
 }

@@ -1,6 +1,7 @@
 //! How a manifest is started in a folder.
 
-ghost use Rattle.std.specs.Prelude.{◌≡◌, ◌<◌, ◌^◌, length, IfErr, OnOk, IsErrOf};
+ghost use Rattle.std.specs.Prelude.{◌≡◌, ◌<◌, ◌^◌, ◌∷◌, [], length, IfErr, OnOk, IsErrOf};
+ghost use Rattle.lsm_folder.specs.Calls.{wrote, synced, folder_synced};
 ghost use Rattle.lsm_storage.specs.Plans.{done, Refused, StartedFrom, StartStopped, WriteStopped};
 ghost use Rattle.lsm_storage.specs.Plans.{current_plan, start_plan};
 ghost use Rattle.lsm_shelf.specs.Told.{NotNamed, TakenIs};
@@ -29,6 +30,31 @@ fn make_current<C: FolderCalls, W: Wait>(
     folder.sync_folder(rt)
 }
 
+/// Writes a manifest over what has its name, and then what `CURRENT` is to hold, and makes both
+/// durable.
+fn write_both<C: FolderCalls, W: Wait>(
+    folder: &mut C,
+    rt: &W,
+    manifest: &str,
+    bytes: &[u8],
+    temporary: &str,
+    text: &str,
+) -> Result<(), FolderFault>
+    ensures ok { OnOk result (C.calls folder.new ≡ done (wrote manifest.now bytes.now
+        ∷ synced manifest.now ∷ folder_synced ∷ wrote temporary.now text.now
+        ∷ synced temporary.now ∷ []) (C.calls folder.old)) }
+    ensures err { IfErr result (λ f. Refused (wrote manifest.now bytes.now
+        ∷ synced manifest.now ∷ folder_synced ∷ wrote temporary.now text.now
+        ∷ synced temporary.now ∷ []) f (C.calls folder.old) (C.calls folder.new)) }
+    ensures place { C.place folder.new ≡ C.place folder.old }
+{
+    folder.write(rt, manifest, bytes)?;
+    folder.sync(rt, manifest)?;
+    folder.sync_folder(rt)?;
+    folder.write(rt, temporary, text.as_bytes())?;
+    folder.sync(rt, temporary)
+}
+
 /// Writes a manifest over what has its name, and makes `CURRENT` name it. Where the last step is
 /// refused, `CURRENT` may name it all the same: that is the device, also for want of memory.
 fn write_manifest<C: FolderCalls, W: Wait>(
@@ -48,16 +74,11 @@ fn write_manifest<C: FolderCalls, W: Wait>(
     let manifest = manifest_file(alloc, number)?;
     let temporary = temporary_file(alloc, number)?;
     let text = text_of_current(alloc, number)?;
-    folder
-        .write(rt, manifest.as_str(), bytes)
-        .map_err(|e| device(e))?;
-    folder.sync(rt, manifest.as_str()).map_err(|e| device(e))?;
-    folder.sync_folder(rt).map_err(|e| device(e))?;
-    folder
-        .write(rt, temporary.as_str(), text.as_bytes())
-        .map_err(|e| device(e))?;
-    folder.sync(rt, temporary.as_str()).map_err(|e| device(e))?;
-    match make_current(folder, rt, temporary.as_str()) {
+    let (name, other) = (manifest.as_str(), temporary.as_str());
+    if let Err(fault) = write_both(folder, rt, name, bytes, other, text.as_str()) {
+        return Err(device(fault));
+    }
+    match make_current(folder, rt, other) {
         Ok(()) => Ok(()),
         Err(_) => Err(ShelfFault::Device),
     }

@@ -76,9 +76,10 @@ pub(crate) fn put_table<C: FolderCalls, W: Wait>(
         return Err(ShelfFault::Device);
     }
     let name = table_file(alloc, number)?;
-    let mark = folder
-        .make(rt, name.as_str(), image)
-        .map_err(|e| taken(e, number))?;
+    let mark = match folder.make(rt, name.as_str(), image) {
+        Ok(mark) => mark,
+        Err(fault) => return Err(taken(fault, number)),
+    };
     if let Err(fault) = make_durable(folder, rt, name.as_str()) {
         return Err(undo(folder, rt, name.as_str(), fault));
     }
@@ -133,15 +134,17 @@ pub(crate) fn load_table<C: FolderCalls, W: Wait>(
     ensures fault { IfErr result NotTaken }
 {
     let name = table_file(folder.alloc(), number)?;
-    let (mark, bytes) = folder
-        .load(rt, alloc, name.as_str())
-        .map_err(|e| missing(e))?;
-    let receipt = FileReceipt {
-        number,
-        size: bytes.len() as u64,
-        mark,
-    };
-    Ok((receipt, bytes))
+    match folder.load(rt, alloc, name.as_str()) {
+        Ok((mark, bytes)) => {
+            let receipt = FileReceipt {
+                number,
+                size: bytes.len() as u64,
+                mark,
+            };
+            Ok((receipt, bytes))
+        }
+        Err(fault) => Err(missing(fault)),
+    }
 }
 
 /// Removes a table. The removal is not made durable.
