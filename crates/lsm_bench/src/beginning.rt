@@ -15,7 +15,8 @@ use lsm_writing::{Parts, WriterFault};
 use std::alloc::Global;
 use std::sync::Wait;
 
-/// The state of a new database on the shelf, whose manifest has this number, with the usual options.
+/// The state of a new database on the shelf, whose manifest has this number, with the usual
+/// options.
 pub(crate) fn begin<N: Boarded, S: Shelf, R: Wait>(
     rt: &R,
     alloc: Global,

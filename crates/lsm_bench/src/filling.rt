@@ -24,8 +24,8 @@ use std::sync::Wait;
 // The most bytes of the keys and values of a batch.
 const MOST_BYTES: usize = 4_194_304;
 
-/// How pairs come in: so many, of so many keys, by ascending ones or by drawn ones, each with a value
-/// of so many bytes, and so many in a batch at most.
+/// How pairs come in: so many, of so many keys, by ascending ones or by drawn ones, each with a
+/// value of so many bytes, and so many in a batch at most.
 #[derive(Clone, Copy)]
 pub(crate) struct Filling {
     pub(crate) pairs: u64,

@@ -63,9 +63,9 @@ where
     done
 }
 
-/// Begins a database in the folder at a path, which has none, runs the benchmarks on it, and answers
-/// the exit status: 0 then, and 1 where it is refused. Writes a head, and a line for each benchmark
-/// once it has run. A fault is one line on `err`, and may have more behind it.
+/// Begins a database in the folder at a path, which has none, runs the benchmarks on it, and
+/// answers the exit status: 0 then, and 1 where it is refused. Writes a head, and a line for each
+/// benchmark once it has run. A fault is one line on `err`, and may have more behind it.
 pub fn run_bench<C, P, R, O, E>(
     rt: &R,
     paths: &P,

@@ -163,9 +163,9 @@ fn reply<O: Write>(out: &mut O, installed: u32) -> io::Result<()>
     out.flush()
 }
 
-/// Opens the directory of a shelf, lets so many workers compact it, reads the manifest, removes what
-/// nothing names any more, and writes the reply: how many versions became current meanwhile, one for
-/// each result.
+/// Opens the directory of a shelf, lets so many workers compact it, reads the manifest, removes
+/// what nothing names any more, and writes the reply: how many versions became current meanwhile,
+/// one for each result.
 #[tactic(auto, using(lsm_directory::proofs::CallerLemmas::keeps_same, crate::proofs::Quiet::quiet_then))]
 fn compact_named<N: Boarded, S: Shelf, R: Threads + Wait + Sync, O: Write, E: Write + Send>(
     rt: &R,

@@ -295,11 +295,11 @@ pub fn ingests_survive_crashes<P: Premise>()
 /// So can the premises of runs with other turns, and of lives. A call that changes nothing is a
 /// turn (`looks`); a table is put whose number a live job has drawn (`builds`). Behind what was
 /// answered Ok any operation may be refused so that the database goes on (`fails`), and what
-/// contracts say of a refused call is a turn (`ingest_err`, `install_err`, `collect_err`). An ingest
-/// may be cut in its first call of the folder, or behind its last (`cut`). A database is opened, an
-/// ingest is answered Ok, the next one is cut, and any opening of what is left is a life more, or is
-/// cut (`ages`). In an empty folder a try to make a database is cut; then it is made, an ingest is
-/// answered Ok, and power is cut (`new`).
+/// contracts say of a refused call is a turn (`ingest_err`, `install_err`, `collect_err`). An
+/// ingest may be cut in its first call of the folder, or behind its last (`cut`). A database is
+/// opened, an ingest is answered Ok, the next one is cut, and any opening of what is left is a life
+/// more, or is cut (`ages`). In an empty folder a try to make a database is cut; then it is made,
+/// an ingest is answered Ok, and power is cut (`new`).
 pub fn premises_of_runs_are_met<P: Premise>()
     ensures answered { (board : TableId) (old new : Held) (deed : Deed) (asks : List Asked)
         (w : World) (v : Version) (d : Disk) → IsState P.holds board new → IsSettled d w

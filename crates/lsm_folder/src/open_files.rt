@@ -61,8 +61,8 @@ struct Kept {
     _seat: Seat,
 }
 
-/// The files that one value on a folder keeps open, each in the slot that its mark's index gives. No
-/// two marks of a folder have one index. A drop closes them.
+/// The files that one value on a folder keeps open, each in the slot that its mark's index gives.
+/// No two marks of a folder have one index. A drop closes them.
 #[derive(Drop)]
 pub(crate) struct OpenFiles {
     slots: Vec<Option<Kept>>,

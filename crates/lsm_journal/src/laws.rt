@@ -49,9 +49,9 @@ pub fn whole_keys_fit()
         → FitsKey t.smallest × FitsKey t.largest }
 {}
 
-/// An append that failed, or that a crash cut at any byte: while the record of a change is torn, the
-/// manifest records the version before the change, and what was written of it is the rest; once it
-/// is whole, the manifest records the version after it, with no rest.
+/// An append that failed, or that a crash cut at any byte: while the record of a change is torn,
+/// the manifest records the version before the change, and what was written of it is the rest; once
+/// it is whole, the manifest records the version after it, with no rest.
 pub fn torn_changes_record_one_of_two()
     ensures torn { (h : HeldManifest) (d : Difference) (v : Levels) (next m : ℕ)
         → IsRecorded 0 h v next → m < length (record_of h.bytes (change_edit h d next))

@@ -170,8 +170,8 @@ fn lines_from<I: Read + Drop>(
 }
 
 /// Begins a database on the shelf, or opens the one that is there, as `prepare` found it, loads the
-/// lines of an input while so many workers compact beside, and writes `loaded L lines in B batches`.
-/// The shelf is given back.
+/// lines of an input while so many workers compact beside, and writes `loaded L lines in B
+/// batches`. The shelf is given back.
 pub fn load_into<S, R, I, T, O>(
     rt: &R,
     alloc: Global,

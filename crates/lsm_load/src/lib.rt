@@ -1,5 +1,5 @@
-//! The command `load`: lines of writes come into the database of a LevelDB folder, as batches, while
-//! workers compact beside, and what nothing names any more is removed behind them.
+//! The command `load`: lines of writes come into the database of a LevelDB folder, as batches,
+//! while workers compact beside, and what nothing names any more is removed behind them.
 //!
 //! Stands on `lsm_loading` for lines that come into a store, on `lsm_writing` for the opening, and on
 //! `lsm_text` for words. Its contract: `run_load` does what the words of a command line ask, and

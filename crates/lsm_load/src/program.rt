@@ -65,8 +65,8 @@ fn refuse_known<E: Write>(fault: Stopped, reasons: &Reasons, err: &mut E) -> u8
     status_of(Err(fault), Known::answered(Some(reasons)), err)
 }
 
-/// The exit status of a load: 0 where it is done, and 1 where it is refused. Of a fault all is told,
-/// and last which lines are in, where not all are.
+/// The exit status of a load: 0 where it is done, and 1 where it is refused. Of a fault all is
+/// told, and last which lines are in, where not all are.
 fn answer<E: Write>(done: Result<(), Stopped>, reasons: &Reasons, err: &mut E) -> u8
     ensures ok { OnOk done (result ≡ 0) }
     ensures err { OnErr done (result ≡ 1) }
@@ -82,7 +82,8 @@ fn answer<E: Write>(done: Result<(), Stopped>, reasons: &Reasons, err: &mut E) -
     status
 }
 
-/// The same, and answers the exit status. Lines on `err` say how far it is, where that is asked for.
+/// The same, and answers the exit status. Lines on `err` say how far it is, where that is asked
+/// for.
 fn load_from<C, P, R, I, O, E>(
     rt: &R,
     paths: &P,
@@ -129,12 +130,12 @@ where
     answer(done, &reasons, err)
 }
 
-/// Opens the database of the folder at the path of a line under its lock, or begins one, as `ingest`
-/// does, and loads the lines of the input that is found there, standard input or the file of a path,
-/// while so many workers compact beside. Writes `loaded L lines in B batches`, and answers the exit
-/// status: 0 then, and 1 where it is refused. A fault is one line on `err`, and has more behind it:
-/// what it means, and which lines are in. With progress lines on `err` say which lines are in after
-/// each batch.
+/// Opens the database of the folder at the path of a line under its lock, or begins one, as
+/// `ingest` does, and loads the lines of the input that is found there, standard input or the file
+/// of a path, while so many workers compact beside. Writes `loaded L lines in B batches`, and
+/// answers the exit status: 0 then, and 1 where it is refused. A fault is one line on `err`, and
+/// has more behind it: what it means, and which lines are in. With progress lines on `err` say
+/// which lines are in after each batch.
 pub fn run_load<C, P, R, I, O, E>(
     rt: &R,
     paths: &P,

@@ -71,8 +71,8 @@ where
 }
 
 impl<N: Boarded, S: Shelf, O: Origin> Crew<N, S, O> {
-    /// The store of a state, which has no readers, and forks of its shelf. A refusal hands the state
-    /// back.
+    /// The store of a state, which has no readers, and forks of its shelf. A refusal hands the
+    /// state back.
     #[tactic(auto, using(crate::proofs::MarkLaws::even_put))]
     pub(crate) fn new(
         alloc: Global,

@@ -53,8 +53,8 @@ fn nothing_is_due<N: Boarded, S: Shelf>(
     }
 }
 
-/// Whether all is done, where lines came in up to a mark, and workers ended so: the state is just as
-/// far as the mark, all lines are in, no worker ended early, and nothing is due.
+/// Whether all is done, where lines came in up to a mark, and workers ended so: the state is just
+/// as far as the mark, all lines are in, no worker ended early, and nothing is due.
 #[tactic(auto, using(crate::proofs::EndingLaws::late_other, crate::proofs::EndingLaws::late_lines, crate::proofs::EndingLaws::late_worker, crate::proofs::EndingLaws::late_due, crate::proofs::EndingLaws::none_refused))]
 pub(crate) fn finish<N: Boarded, S: Shelf, O: Origin>(
     alloc: Global,

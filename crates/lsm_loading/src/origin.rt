@@ -18,8 +18,8 @@ impl Origin for Brand {
 }
 
 /// The fact that the lock of a store keeps while lines come in: since it was found, as many entries
-/// came in as sequences were taken. By that a count of sequences tells whether another batch came in
-/// between two.
+/// came in as sequences were taken. By that a count of sequences tells whether another batch came
+/// in between two.
 #[derive(Drop)]
 pub struct Grown<O: Origin> {
     of: PhantomData<O>,

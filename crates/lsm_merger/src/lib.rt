@@ -2,9 +2,9 @@
 //! shows of them.
 //!
 //! Stands on `lsm_levels` for what a merge is, and on `lsm_reader` for tables that are read block
-//! by block. Data flows from `table_iter` (a place in a table) through `run` (the tables of a level,
-//! one after another), `tree`, `merger` and `walk` to `scan` and `ages`. Its contract: a merge is
-//! its sources in order, and after a fault what is left is as before.
+//! by block. Data flows from `table_iter` (a place in a table) through `run` (the tables of a
+//! level, one after another), `tree`, `merger` and `walk` to `scan` and `ages`. Its contract: a
+//! merge is its sources in order, and after a fault what is left is as before.
 #![tactic(auto)]
 
 // Sources, each in the order of keys.

@@ -2,9 +2,9 @@
 //! `scan`.
 //!
 //! Stands on `lsm_directory` for the folder, its lock and its logs, on `lsm_journal` to find the
-//! database there, and on `lsm_reads` to read it. Its contract: `run_look` does what a line of words
-//! asks, and answers the exit status; over an honest shelf what is printed is of the version that
-//! the folder holds, and the folder was only read.
+//! database there, and on `lsm_reads` to read it. Its contract: `run_look` does what a line of
+//! words asks, and answers the exit status; over an honest shelf what is printed is of the version
+//! that the folder holds, and the folder was only read.
 #![tactic(auto)]
 
 // One run, and what is asked.

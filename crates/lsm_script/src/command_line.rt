@@ -129,8 +129,8 @@ fn command_of(alloc: Global, form: Form, words: &[&[u8]]) -> Result<Option<Comma
     ingest_in(alloc, form, words)
 }
 
-/// The command that a line spells: its name, and its words behind that, one space between two, those
-/// for bytes in this form. None where it spells none; an empty line spells none.
+/// The command that a line spells: its name, and its words behind that, one space between two,
+/// those for bytes in this form. None where it spells none; an empty line spells none.
 pub fn command_in(alloc: Global, form: Form, line: &[u8]) -> Result<Option<Command>, AllocError>
     ensures some { IfOk result (λ o. IfSome o (IsCommandLine form line.now)) }
     ensures none { IfOk result (λ o. IfNone o ((c : Command) → IsCommandLine form line.now c → ⊥)) }

@@ -20,8 +20,8 @@ pub fn one_script()
 {}
 
 /// A law: where commands are answered by steps from a stage that began with this state, however
-/// many there are, whatever was refused, and whatever else was read between, the replies are those of the history from the state's
-/// own entries, and at the end the state is as the history says.
+/// many there are, whatever was refused, and whatever else was read between, the replies are those
+/// of the history from the state's own entries, and at the end the state is as the history says.
 pub fn steps_are_of_the_history<N: Boarded, S: Shelf>(state: &State<N, S>)
     ensures { (told : Told) (commands : List Command) (replies : List Reply) (t : Stage)
         → AreSteps (IsLaterStep S.honest) commands replies (stage_of state.now told) t

@@ -17,8 +17,8 @@ use std::alloc::Global;
 use std::marker::Brand;
 use std::sync::Wait;
 
-/// Merges a job, with numbers that are drawn so of a state that is lent: what is proved of them does
-/// not depend on the parts of a state.
+/// Merges a job, with numbers that are drawn so of a state that is lent: what is proved of them
+/// does not depend on the parts of a state.
 fn merge_with<'a, M: Noted<X>, X, F, N: Boarded, S: Shelf, R: Wait>(
     rt: &R,
     alloc: Global,

@@ -53,8 +53,8 @@ impl Answered {
 }
 
 /// A state that is lent, the function that draws a number from it, and what was answered. They have
-/// no bound: a method of an impl may call no function that is bounded by a shelf, so the function is
-/// a value.
+/// no bound: a method of an impl may call no function that is bounded by a shelf, so the function
+/// is a value.
 #[derive(Drop)]
 pub(crate) struct Numbers<'a, M, X, F> {
     pub(crate) state: &'a mut X,

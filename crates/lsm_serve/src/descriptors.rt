@@ -55,7 +55,8 @@ pub(crate) fn read_frame(alloc: Global, fd: i32) -> Result<Incoming, AllocError>
     }
 }
 
-/// Says, without memory for it, that there is none for a request or for its answer. The channel ends.
+/// Says, without memory for it, that there is none for a request or for its answer. The channel
+/// ends.
 pub(crate) fn end_unanswered(fd: i32) {
     let frame = [1u8, 0, 0, 0, 204];
     let _is_sent = io::write_all(fd, &frame);

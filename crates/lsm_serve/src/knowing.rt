@@ -35,8 +35,8 @@ fn catch_up_behind<N: Boarded, S: Shelf>(
     state.recall(other);
 }
 
-/// All that is remembered here is known from then on, with all that was known, and perhaps with what
-/// came in behind both.
+/// All that is remembered here is known from then on, with all that was known, and perhaps with
+/// what came in behind both.
 #[tactic(auto, using(crate::proofs::KnownLaws::told_later, crate::proofs::KnownLaws::told_other))]
 pub(crate) fn note<N: Boarded, S: Shelf, R: Wait>(
     rt: &R,

@@ -77,8 +77,8 @@ fn serve_all<N: Boarded, S: Shelf, R: Threads + Wait + Sync>(
     })
 }
 
-/// Serves what is open beside its workers, until each channel has ended. `OutOfMemory` where workers
-/// could not be had; then nothing was said on a channel.
+/// Serves what is open beside its workers, until each channel has ended. `OutOfMemory` where
+/// workers could not be had; then nothing was said on a channel.
 fn serve_opened<N: Boarded, S: Shelf, R: Threads + Wait + Sync>(
     rt: &R,
     alloc: Global,

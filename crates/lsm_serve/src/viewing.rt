@@ -88,7 +88,8 @@ fn learn<N: Boarded, S: Shelf>(
     Ok(seq)
 }
 
-/// A view of the current version of a state, and a sequence of it. The state has all that was known.
+/// A view of the current version of a state, and a sequence of it. The state has all that was
+/// known.
 #[tactic(auto, using(crate::proofs::PinLaws::still_learnt, crate::proofs::PinLaws::learns_by, crate::proofs::PinLaws::later_by, crate::proofs::PinLaws::unpinned_since, crate::proofs::PinLaws::rest_on, crate::proofs::PinLaws::rest_of))]
 fn view_of<N: Boarded, S: Shelf>(
     state: &mut State<N, S>,

@@ -112,8 +112,8 @@ fn one_less(limit: Option<u64>) -> Option<u64>
     }
 }
 
-/// Goes on to the next pair, and prints it where it is within the bounds. `false` where none is left
-/// that is.
+/// Goes on to the next pair, and prints it where it is within the bounds. `false` where none is
+/// left that is.
 fn print_next<N: Naming, S: Shelf, B: Blocks<N, S>, O: Write>(
     scan: &mut Scan<N, S>,
     blocks: &mut B,

@@ -6,8 +6,8 @@ use lsm_history::Historied;
 use lsm_table::Naming;
 use std::marker::Brand;
 
-/// Stands for a board of pins and for a history too. A program picks it once both are made, and what
-/// is generic in it is of that board and that history.
+/// Stands for a board of pins and for a history too. A program picks it once both are made, and
+/// what is generic in it is of that board and that history.
 pub trait Boarded: Naming + Historied {
     ghost use Rattle.atomic_table.specs.Seated.{TableId};
 

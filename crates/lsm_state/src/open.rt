@@ -59,8 +59,9 @@ impl<N: Boarded, S: Shelf> State<N, S> {
         state.begin(rt, alloc, shelf)
     }
 
-    /// As `open`, by a thread for each of these shelves, forks of this one: they read and judge tables
-    /// before this call comes to them, as `Found::read_by` does. The answer is one that `open` gives.
+    /// As `open`, by a thread for each of these shelves, forks of this one: they read and judge
+    /// tables before this call comes to them, as `Found::read_by` does. The answer is one that
+    /// `open` gives.
     pub fn open_by<R: Threads + Wait + Sync>(
         rt: &R,
         alloc: Global,

@@ -114,13 +114,13 @@ fn run_beside<
 ///
 /// Each worker has a thread of its own, in which it reserves under the lock, merges outside it, and
 /// installs under it; before each merge the gate is told. Where nothing is left to reserve it
-/// sleeps, until it is woken (`Background::wake`) or another worker has installed a result. One more
-/// thread draws the numbers of the outputs under the lock.
+/// sleeps, until it is woken (`Background::wake`) or another worker has installed a result. One
+/// more thread draws the numbers of the outputs under the lock.
 ///
 /// The body runs in the thread of the caller, and is lent the workers. Once it has answered, each
-/// worker ends after the merge at hand, and all threads are joined. A body after which nothing shall
-/// be left to compact calls `Background::wait_until_idle` at its end. It holds no guard of the store
-/// when it answers.
+/// worker ends after the merge at hand, and all threads are joined. A body after which nothing
+/// shall be left to compact calls `Background::wait_until_idle` at its end. It holds no guard of
+/// the store when it answers.
 ///
 /// At a fault a worker cancels its ticket and ends, and the others go on. A thread that cannot be
 /// made is that worker's fault, `NoThread`, and its shelf does not come back. Where there is no

@@ -103,9 +103,9 @@ impl<N: Boarded, S: Shelf> View<N, S> {
         )
     }
 
-    /// A scan of its version at a sequence: each user key that has an answer, with it, ascending; at
-    /// a promised sequence, each that has one in all that had come in. `step` and `next` go on along
-    /// it.
+    /// A scan of its version at a sequence: each user key that has an answer, with it, ascending;
+    /// at a promised sequence, each that has one in all that had come in. `step` and `next` go on
+    /// along it.
     pub fn scan(&mut self, alloc: Global, seq: u64) -> Result<Scan<N, S>, ReadFault>
         ensures scanned { S.honest
             → IfOk result (λ s. IsScan seq (all_entries (files self.old.version)) s.left) }
@@ -120,8 +120,8 @@ impl<N: Boarded, S: Shelf> View<N, S> {
         lsm_reads::scan_by(&self.cache.version, &mut self.cache.blocks, alloc, seq)
     }
 
-    /// The same from a user key on (`Seek` of LevelDB's `include/leveldb/iterator.h`): each user key
-    /// at or past it that has an answer, with it, ascending.
+    /// The same from a user key on (`Seek` of LevelDB's `include/leveldb/iterator.h`): each user
+    /// key at or past it that has an answer, with it, ascending.
     pub fn scan_from(
         &mut self,
         alloc: Global,

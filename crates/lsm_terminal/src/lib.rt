@@ -3,8 +3,8 @@
 //! standard streams that are closed.
 //!
 //! Stands on nothing of this repository. Its contracts: an input is read as it is, and an output
-//! holds just what is written, unless it shows how far a command is. What a terminal shows is tested
-//! (README.md).
+//! holds just what is written, unless it shows how far a command is. What a terminal shows is
+//! tested (README.md).
 #![tactic(auto)]
 
 mod far;

@@ -321,8 +321,8 @@ fn look_in<'a>(command: DirectoryCommand, found: &ArgMatches<'a>) -> Option<Requ
     }))
 }
 
-/// How many threads an option names: none where there is no option. `None` where the word names none
-/// of 1 to 16.
+/// How many threads an option names: none where there is no option. `None` where the word names
+/// none of 1 to 16.
 fn threads_of(word: Option<&str>) -> Option<Option<usize>>
     ensures some { IfSome result (AreThreads (option_map (λ w. w.now) word.entry)) }
     ensures none { IfNone result ((n : Option ℕ)
@@ -538,8 +538,8 @@ pub(crate) fn asked_in<'a>(
     }
 }
 
-/// Of which command `help` is asked: none where no command is named. `None` where the word behind it
-/// names no command.
+/// Of which command `help` is asked: none where no command is named. `None` where the word behind
+/// it names no command.
 fn topic_of(found: &ArgMatches<'_>) -> Option<Option<CommandName>>
     ensures { result ≡ topic_of (word_in (codes "COMMAND") (rows_in found.now)) }
 {

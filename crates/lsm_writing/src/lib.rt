@@ -1,9 +1,9 @@
 //! The commands of the program `lsm` that write in a LevelDB folder: `ingest`, `put` and `delete`, and
 //! `clean`.
 //!
-//! Stands on `lsm_directory` for the folder, its lock and its logs, and on `lsm_state` for what comes
-//! in. Its contract: `run_ingest`, `run_write` and `run_clean` do what the words of a command line
-//! ask, and answer the exit status, by one clause for each.
+//! Stands on `lsm_directory` for the folder, its lock and its logs, and on `lsm_state` for what
+//! comes in. Its contract: `run_ingest`, `run_write` and `run_clean` do what the words of a command
+//! line ask, and answer the exit status, by one clause for each.
 #![tactic(auto)]
 
 // A command each.
