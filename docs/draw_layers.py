@@ -64,7 +64,7 @@ CRATES = {
 
 def is_drawn(crate):
     """Tests, the example and what is no part of the program are left out."""
-    return not crate.endswith("_tests") and crate not in ("example", "lsm_crash", "lsm_theorems", "lsm_test_shelves")
+    return not crate.endswith("_tests") and crate not in ("example", "lsm_crash", "lsm_theorems")
 
 
 def uses():

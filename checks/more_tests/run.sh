@@ -1,8 +1,8 @@
 #!/usr/bin/env bash
 # Runs tests that are not part of the gate, since their proofs take long, without proofs (`rt try
-# --test`): each folder here is a crate of tests, its files named as a crate's with `.txt` behind,
-# and `lines.txt` has the lines of crates.txt. Names of folders choose among them. Needs rt, and
-# nothing else.
+# --test`): each folder `lsm_*_tests` here is a crate of tests, its files named as a crate's with
+# `.txt` behind, and `lines.txt` has the lines of crates.txt. Names of folders choose among them.
+# Other folders are libraries that tests use. Needs rt, and nothing else.
 #
 # What costs is not the tests but the libraries below them, read again for each crate. So the crates
 # are dealt out to at most six groups, and each group is built as one crate, whose modules are the
@@ -18,7 +18,7 @@ top=$(cd "$here/../.." && pwd)
 scratch=$(mktemp -d)
 trap 'rm -rf "$scratch"' EXIT
 names=("$@")
-[[ $# -gt 0 ]] || mapfile -t names < <(cd "$here" && ls -d lsm_*)
+[[ $# -gt 0 ]] || mapfile -t names < <(cd "$here" && ls -d lsm_*_tests)
 
 line_of() { # NAME: its line of crates.txt
     grep -E "^$1( [^:]*)?:" "$here/lines.txt"
@@ -37,6 +37,21 @@ for crate in "$top"/crates/*; do
     find "$crate" -mindepth 1 -maxdepth 1 ! -name out ! -name must-fail -exec cp -r -t "$scratch/crates/${crate##*/}" {} +
 done
 mkdir "$scratch/.git"
+
+put_library() { # NAME: a library that tests use, as a crate
+    local file as
+    while IFS= read -r -d '' file; do
+        as="$scratch/crates/$1/${file#"$here/$1"/}"
+        mkdir -p "$(dirname "$as")"
+        cp "$file" "${as%.txt}"
+    done < <(find "$here/$1" -type f -print0)
+    line_of "$1" >> "$scratch/crates.txt"
+}
+
+for folder in "$here"/lsm_*; do
+    name=${folder##*/}
+    [[ $name == *_tests ]] || put_library "$name"
+done
 
 sources_of() { # NAME: its files, those of a crate of this name in the gate first
     [[ ! -d $top/crates/$1 ]] || find "$top/crates/$1/src" -name '*.rt' -print0
