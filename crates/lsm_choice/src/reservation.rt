@@ -8,13 +8,18 @@ use std::marker::Model;
 
 /// A live job, as far as a choice has to know it: its ticket, its level, the numbers of its inputs,
 /// and its hull, the least and the greatest user key of these. Its output level is the next one.
-#[derive(Drop)]
 pub struct Reservation {
     ticket: u64,
     level: u8,
     inputs: List<u64>,
     low: Bytes,
     high: Bytes,
+}
+
+impl Drop for Reservation {
+    fn drop(self) {
+        let Self { ticket: _, level: _, inputs: _, low: _, high: _ } = self;
+    }
 }
 
 impl Model for Reservation {

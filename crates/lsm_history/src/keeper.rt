@@ -15,11 +15,16 @@ use std::marker::{Model, PhantomData};
 
 /// The end of a history that knows all of it. Contracts see it as that: all entries that came in,
 /// the latest batch first, and all editions of versions, the latest first.
-#[derive(Drop)]
 pub struct Keeper<N: Historied> {
     pub(crate) table: Words,
     pub(crate) seat: Seat<History, View>,
     pub(crate) of: PhantomData<N>,
+}
+
+impl<N: Historied> Drop for Keeper<N> {
+    fn drop(self) {
+        let Self { table: _, seat: _, of: _ } = self;
+    }
 }
 
 impl<N: Historied> Model for Keeper<N> {

@@ -10,10 +10,15 @@ use std::marker::Model;
 
 /// A live job, with the numbers that were drawn for its outputs. Contracts see it as that
 /// (`Booked`).
-#[derive(Drop)]
 pub struct LiveJob<N: Naming, S: Shelf> {
     job: Job<N, S>,
     drawn: Vec<u64>,
+}
+
+impl<N: Naming, S: Shelf> Drop for LiveJob<N, S> {
+    fn drop(self) {
+        let Self { job: _, drawn: _ } = self;
+    }
 }
 
 impl<N: Naming, S: Shelf> Model for LiveJob<N, S> {

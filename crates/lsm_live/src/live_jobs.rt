@@ -14,9 +14,14 @@ use std::marker::Model;
 
 /// The live jobs, in the order of their reservations, so that tickets rise. Contracts see them as
 /// that list.
-#[derive(Drop)]
 pub struct LiveJobs<N: Naming, S: Shelf> {
     pub(crate) jobs: Vec<LiveJob<N, S>>,
+}
+
+impl<N: Naming, S: Shelf> Drop for LiveJobs<N, S> {
+    fn drop(self) {
+        let Self { jobs: _ } = self;
+    }
 }
 
 impl<N: Naming, S: Shelf> Model for LiveJobs<N, S> {

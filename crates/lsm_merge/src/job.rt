@@ -18,9 +18,14 @@ use std::marker::Model;
 ///
 /// Its type keeps what a merge needs (`IsWork`): a level that has a next one, sizes in range, and
 /// over an honest shelf tables that are whole.
-#[derive(Drop)]
 pub struct Job<N: Naming, S: Shelf> {
     parts: JobParts<N, S>,
+}
+
+impl<N: Naming, S: Shelf> Drop for Job<N, S> {
+    fn drop(self) {
+        let Self { parts: _ } = self;
+    }
 }
 
 impl<N: Naming, S: Shelf> Model for Job<N, S> {

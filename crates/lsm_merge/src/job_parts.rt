@@ -10,7 +10,6 @@ use std::alloc::{AllocError, Global};
 use std::marker::Model;
 
 /// What a job is made of. Contracts see it as they see the job (`Work`).
-#[derive(Drop)]
 pub struct JobParts<N: Naming, S: Shelf> {
     /// The ticket under which it is reserved.
     pub ticket: u64,
@@ -35,6 +34,24 @@ pub struct JobParts<N: Naming, S: Shelf> {
     /// An output is closed at the first change of user key after its finished data blocks reach
     /// this many bytes.
     pub target_size: u64,
+}
+
+impl<N: Naming, S: Shelf> Drop for JobParts<N, S> {
+    fn drop(self) {
+        let Self {
+            ticket: _,
+            level: _,
+            upper: _,
+            lower: _,
+            low: _,
+            high: _,
+            floor: _,
+            ranges: _,
+            is_move: _,
+            table: _,
+            target_size: _,
+        } = self;
+    }
 }
 
 impl<N: Naming, S: Shelf> Model for JobParts<N, S> {

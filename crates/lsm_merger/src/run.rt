@@ -35,13 +35,18 @@ use std::marker::Model;
 /// Contracts see it as what is left: the entries with its depth, the one at which it stands first,
 /// the same entries with the numbers of their files, and the files that are not yet read to their
 /// ends.
-#[derive(Drop)]
 pub struct Run<N: Naming, S: Shelf> {
     // Given to each of its entries.
     depth: u64,
     here: TableIter<N, S>,
     // What stands for the tables after it.
     later: VecDeque<S::Receipt>,
+}
+
+impl<N: Naming, S: Shelf> Drop for Run<N, S> {
+    fn drop(self) {
+        let Self { depth: _, here: _, later: _ } = self;
+    }
 }
 
 impl<N: Naming, S: Shelf> Model for Run<N, S> {

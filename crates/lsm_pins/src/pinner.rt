@@ -23,7 +23,6 @@ const MOST_PINS: u32 = 1 << 24;
 
 /// A reader's end of a board. It holds at most one pin at a time. One that is let go while it holds
 /// a pin keeps the slot from turning free.
-#[derive(Drop)]
 pub struct Pinner {
     pub(crate) board: Arc<Words>,
     pub(crate) seat: Seat<(), View>,
@@ -34,6 +33,12 @@ pub struct Pinner {
     ghost seated: { seat.table_id ≡ (arc_value board).shared.table_id },
     ghost words: { seat.table_id.words ≡ seat.me.0.slots + 1 },
     ghost knows: { IsPinnersView seat.me.0 id slot count held },
+}
+
+impl Drop for Pinner {
+    fn drop(self) {
+        let Self { board: _, seat: _, id: _, slot: _, count: _, held: _ } = self;
+    }
 }
 
 impl Model for Pinner {

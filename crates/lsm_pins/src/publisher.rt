@@ -22,7 +22,6 @@ use std::sync::Arc;
 const LAST_ID: u32 = (1 << 28) - 1;
 
 /// The one end of a board that publishes.
-#[derive(Drop)]
 pub struct Publisher {
     pub(crate) board: Arc<Words>,
     pub(crate) seat: Seat<(), View>,
@@ -32,6 +31,12 @@ pub struct Publisher {
     ghost seated: { seat.table_id ≡ (arc_value board).shared.table_id },
     ghost words: { seat.table_id.words ≡ seat.me.0.slots + 1 },
     ghost knows: { IsPublishersView seat.me.0 id slot records.items },
+}
+
+impl Drop for Publisher {
+    fn drop(self) {
+        let Self { board: _, seat: _, id: _, slot: _, records: _ } = self;
+    }
 }
 
 impl Model for Publisher {

@@ -20,11 +20,16 @@ use std::sync::Arc;
 /// keeps so many open tables at most, each with its index block, and so many blocks that were asked
 /// for by their places: data blocks push out no table. An open table is found by its number, and
 /// its footer is not read again. Contracts see it as its shelf.
-#[derive(Drop)]
 pub struct Cached<N: Naming, S: Shelf> {
     shelf: NamedShelf<N, S>,
     tables: LruCache<u64, OpenTable<N, S>>,
     blocks: LruCache<BlockKey, KeptBlock<N, S>>,
+}
+
+impl<N: Naming, S: Shelf> Drop for Cached<N, S> {
+    fn drop(self) {
+        let Self { shelf: _, tables: _, blocks: _ } = self;
+    }
 }
 
 impl<N: Naming, S: Shelf> Model for Cached<N, S> {

@@ -6,12 +6,17 @@ use std::marker::{Model, PhantomData};
 use std::sync::Arc;
 
 /// A block that was read, its place, and the receipt that it was read by.
-#[derive(Drop)]
 pub struct KeptBlock<N: Naming, S: Shelf> {
     pub(crate) receipt: S::Receipt,
     pub(crate) handle: Handle,
     pub(crate) block: Arc<Block>,
     pub(crate) of: PhantomData<N>,
+}
+
+impl<N: Naming, S: Shelf> Drop for KeptBlock<N, S> {
+    fn drop(self) {
+        let Self { receipt: _, handle: _, block: _, of: _ } = self;
+    }
 }
 
 impl<N: Naming, S: Shelf> Model for KeptBlock<N, S> {

@@ -25,11 +25,16 @@ use std::sync::Arc;
 
 /// A table whose footer and index block were read and judged; its data blocks are read and judged
 /// as they are needed. It holds its receipt and its index block; contracts see it as its image.
-#[derive(Drop)]
 pub struct OpenTable<N: Naming, S: Shelf> {
     pub(crate) receipt: S::Receipt,
     pub(crate) index: Arc<Block>,
     pub(crate) of: PhantomData<N>,
+}
+
+impl<N: Naming, S: Shelf> Drop for OpenTable<N, S> {
+    fn drop(self) {
+        let Self { receipt: _, index: _, of: _ } = self;
+    }
 }
 
 impl<N: Naming, S: Shelf> Model for OpenTable<N, S> {
@@ -141,7 +146,11 @@ impl<N: Naming, S: Shelf> OpenTable<N, S> {
         ensures entry { result.entry ≡ None }
         ensures left { S.honest → (es : List Entry) → IsTable self es → result.left ≡ es }
     {
-        let OpenTable { receipt, index, .. } = self;
+        let Self {
+            receipt,
+            index,
+            of: _,
+        } = self;
         TableReader::over(receipt, index)
     }
 }

@@ -6,11 +6,16 @@ use std::marker::Model;
 use std::sync::Arc;
 
 /// A version in its slot: its id, and how often it is pinned under the lock.
-#[derive(Drop)]
 pub struct Epoch<N: Naming, S: Shelf> {
     pub(crate) id: u32,
     pub(crate) version: Arc<Version<N, S>>,
     pub(crate) pins: u32,
+}
+
+impl<N: Naming, S: Shelf> Drop for Epoch<N, S> {
+    fn drop(self) {
+        let Self { id: _, version: _, pins: _ } = self;
+    }
 }
 
 impl<N: Naming, S: Shelf> Model for Epoch<N, S> {

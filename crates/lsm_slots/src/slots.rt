@@ -19,11 +19,16 @@ use std::marker::Model;
 use std::sync::Arc;
 
 /// The versions of a store, each in a slot of the board, and the publisher's end of the board.
-#[derive(Drop)]
 pub struct Slots<N: Boarded, S: Shelf> {
     pub(crate) publisher: Publisher,
     pub(crate) current: Arc<Version<N, S>>,
     pub(crate) epochs: Vec<Option<Epoch<N, S>>>,
+}
+
+impl<N: Boarded, S: Shelf> Drop for Slots<N, S> {
+    fn drop(self) {
+        let Self { publisher: _, current: _, epochs: _ } = self;
+    }
 }
 
 impl<N: Boarded, S: Shelf> Model for Slots<N, S> {

@@ -10,10 +10,15 @@ use std::alloc::{AllocError, Global};
 use std::marker::Model;
 
 /// The live snapshots, each an id and a sequence, the oldest first, and the id that comes next.
-#[derive(Drop)]
 pub struct Snapshots {
     taken: Vec<(u64, u64)>,
     next: u64,
+}
+
+impl Drop for Snapshots {
+    fn drop(self) {
+        let Self { taken: _, next: _ } = self;
+    }
 }
 
 impl Model for Snapshots {

@@ -26,7 +26,6 @@ use std::sync::Arc;
 /// What a database holds behind its lock: versions by slot, snapshots, live jobs, and the manifest.
 /// Contracts see it as that (`Held`), with the history of all that ever came in, which takes no
 /// memory.
-#[derive(Drop)]
 pub struct State<N: Boarded, S: Shelf> {
     pub(crate) registry: Arc<Registry<N, S>>,
     pub(crate) options: Options,
@@ -39,6 +38,24 @@ pub struct State<N: Boarded, S: Shelf> {
     pub(crate) halted: bool,
     pub(crate) pinners: Vec<Pinner>,
     pub(crate) keeper: Keeper<N>,
+}
+
+impl<N: Boarded, S: Shelf> Drop for State<N, S> {
+    fn drop(self) {
+        let Self {
+            registry: _,
+            options: _,
+            slots: _,
+            snapshots: _,
+            next: _,
+            next_ticket: _,
+            live: _,
+            journal: _,
+            halted: _,
+            pinners: _,
+            keeper: _,
+        } = self;
+    }
 }
 
 /// What the laws of the plain machine suppose of a state: that its shelf is honest.

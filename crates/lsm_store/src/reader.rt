@@ -18,10 +18,15 @@ use std::alloc::AllocError;
 use std::marker::Model;
 
 /// A reader outside the lock. It has learnt a version, and holds no pin.
-#[derive(Drop)]
 pub struct Reader<N: Boarded, S: Shelf> {
     pub(crate) pinner: Pinner,
     pub(crate) cache: ReaderCache<N, S>,
+}
+
+impl<N: Boarded, S: Shelf> Drop for Reader<N, S> {
+    fn drop(self) {
+        let Self { pinner: _, cache: _ } = self;
+    }
 }
 
 impl<N: Boarded, S: Shelf> Model for Reader<N, S> {

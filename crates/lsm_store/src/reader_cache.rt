@@ -25,7 +25,6 @@ use std::sync::Arc;
 /// What a reader has besides its end of the board: the version that it has learnt, the version's
 /// id, and its blocks; and, for contracts alone, all that had come in when it learnt the version,
 /// the sequences of the snapshots that were live then, and which version had had which id.
-#[derive(Drop)]
 pub struct ReaderCache<N: Boarded, S: Shelf> {
     pub(crate) id: u32,
     pub(crate) version: Arc<Version<N, S>>,
@@ -33,6 +32,12 @@ pub struct ReaderCache<N: Boarded, S: Shelf> {
     pub(crate) memory: Memory<N>,
     pub(crate) snapshots: Tag,
     pub(crate) catalogue: Catalogue<N>,
+}
+
+impl<N: Boarded, S: Shelf> Drop for ReaderCache<N, S> {
+    fn drop(self) {
+        let Self { id: _, version: _, blocks: _, memory: _, snapshots: _, catalogue: _ } = self;
+    }
 }
 
 impl<N: Boarded, S: Shelf> Model for ReaderCache<N, S> {

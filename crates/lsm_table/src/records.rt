@@ -7,9 +7,14 @@ use std::marker::Model;
 
 /// Where the records of tables will lie. A program makes it before it picks a name for it
 /// (`Naming`); `Registry::of` makes it the registry of that name.
-#[derive(Drop)]
 pub struct Records<C: TableReceipt> {
     pub(crate) list: boxcar::Vec<TableRecord<C>>,
+}
+
+impl<C: TableReceipt> Drop for Records<C> {
+    fn drop(self) {
+        let Self { list: _ } = self;
+    }
 }
 
 impl<C: TableReceipt> Model for Records<C> {

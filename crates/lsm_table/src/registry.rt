@@ -13,10 +13,15 @@ use std::sync::{Arc, Wait};
 
 /// The registry of the name `N`: the records of its tables. Records are only added, by any thread,
 /// and each stays for the registry's life.
-#[derive(Drop)]
 pub struct Registry<N: Naming, S: Shelf> {
     records: Records<S::Receipt>,
     of: PhantomData<N>,
+}
+
+impl<N: Naming, S: Shelf> Drop for Registry<N, S> {
+    fn drop(self) {
+        let Self { records: _, of: _ } = self;
+    }
 }
 
 impl<N: Naming, S: Shelf> Model for Registry<N, S> {

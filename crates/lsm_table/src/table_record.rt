@@ -7,7 +7,6 @@ use lsm_shelf::TableReceipt;
 
 /// What is known of a table that lies on a shelf: its first and last internal key and the receipt
 /// of its image, which has the table's number and its size.
-#[derive(Drop)]
 pub struct TableRecord<C: TableReceipt> {
     /// The first internal key of the table.
     pub smallest: Bytes,
@@ -15,6 +14,12 @@ pub struct TableRecord<C: TableReceipt> {
     pub largest: Bytes,
     /// What the shelf gave for the table's image.
     pub receipt: C,
+}
+
+impl<C: TableReceipt> Drop for TableRecord<C> {
+    fn drop(self) {
+        let Self { smallest: _, largest: _, receipt: _ } = self;
+    }
 }
 
 impl<C: TableReceipt> TableRecord<C> {

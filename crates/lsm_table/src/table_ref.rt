@@ -10,10 +10,15 @@ use std::marker::{Model, PhantomData};
 
 /// An index of the registry of the name `N`, with what shows the record there. Contracts see it as
 /// that record, with the image for which the record's receipt stands.
-#[derive(Drop)]
 pub struct TableRef<N: Naming, S: Shelf> {
     pub(crate) token: Pushed<TableRecord<S::Receipt>>,
     pub(crate) of: PhantomData<N>,
+}
+
+impl<N: Naming, S: Shelf> Drop for TableRef<N, S> {
+    fn drop(self) {
+        let Self { token: _, of: _ } = self;
+    }
 }
 
 impl<N: Naming, S: Shelf> Model for TableRef<N, S> {

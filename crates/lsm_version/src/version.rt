@@ -14,12 +14,17 @@ use std::sync::Arc;
 /// The tables of the seven levels, the compaction pointers, and the last sequence. Over an honest
 /// shelf it is sound: the levels are sorted, files of a level from 1 on lie in order of internal
 /// keys, and a key's entries are newer the shallower they lie.
-#[derive(Drop)]
 pub struct Version<N: Naming, S: Shelf> {
     pub(crate) registry: Arc<Registry<N, S>>,
     pub(crate) levels: Vec<Vec<TableRef<N, S>>>,
     pub(crate) pointers: Vec<Option<Bytes>>,
     pub(crate) last: u64,
+}
+
+impl<N: Naming, S: Shelf> Drop for Version<N, S> {
+    fn drop(self) {
+        let Self { registry: _, levels: _, pointers: _, last: _ } = self;
+    }
 }
 
 impl<N: Naming, S: Shelf> Model for Version<N, S> {

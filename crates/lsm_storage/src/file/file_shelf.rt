@@ -21,10 +21,15 @@ use std::fs::{File, Files};
 /// the folder it comes from (`stopped`). That reads answer what was written is the premise
 /// `Shelf::honest`, that the folders of the type are honest: proved of the folder in memory, and of
 /// the system's a premise. Forks are values on the same folder.
-#[derive(Drop)]
 pub struct FileShelf<C: FolderCalls> {
     pub(crate) folder: C,
     pub(crate) account: Account,
+}
+
+impl<C: FolderCalls> Drop for FileShelf<C> {
+    fn drop(self) {
+        let Self { folder: _, account: _ } = self;
+    }
 }
 
 /// A shelf on a folder of the system.
