@@ -74,11 +74,11 @@ fn write_manifest<C: FolderCalls, W: Wait>(
     let manifest = manifest_file(alloc, number)?;
     let temporary = temporary_file(alloc, number)?;
     let text = text_of_current(alloc, number)?;
-    let (name, other) = (manifest.as_str(), temporary.as_str());
-    if let Err(fault) = write_both(folder, rt, name, bytes, other, text.as_str()) {
+    let (manifest, temporary) = (manifest.as_str(), temporary.as_str());
+    if let Err(fault) = write_both(folder, rt, manifest, bytes, temporary, text.as_str()) {
         return Err(device(fault));
     }
-    match make_current(folder, rt, other) {
+    match make_current(folder, rt, temporary) {
         Ok(()) => Ok(()),
         Err(_) => Err(ShelfFault::Device),
     }
