@@ -1,6 +1,7 @@
 //! The files of a folder in memory.
 
 ghost use Rattle.std.specs.Prelude.{◌≡◌, ◌+◌, ◌≤◌, ◌^◌, ◌++◌, length, take, drop, IfOk, IfErr};
+ghost use Rattle.std.specs.Prelude.{IsSome, MatchBool};
 ghost use Rattle.boxcar.specs.Table.{Shows};
 ghost use Rattle.lsm_folder.specs.FolderFault.{NotMissing, NotExists, NotNamed};
 
@@ -28,6 +29,7 @@ pub(crate) struct MemoryFiles {
     pub(crate) stops: Stops,
 }
 
+/// `x_in` is `x` with the directory locked.
 impl MemoryFiles {
     /// No files.
     pub(crate) fn new(alloc: Global) -> Result<MemoryFiles, AllocError> {
@@ -369,6 +371,7 @@ impl MemoryFiles {
         turn.end(self.part_now(alloc, token, offset as usize, len))
     }
 
+    /// `part` with its turn begun.
     fn part_now(
         &self,
         alloc: Global,
@@ -465,7 +468,9 @@ impl MemoryFiles {
         kind: LockKind,
         held: &mut Option<MemoryLock>,
     ) -> Result<bool, FolderFault>
-        ensures { IfErr result NotExists }
+        ensures taken { IfOk result (λ b. MatchBool b (IsSome held.new) (held.new ≡ held.old)) }
+        ensures kept { IfErr result (λ _. held.new ≡ held.old) }
+        ensures err { IfErr result NotExists }
     {
         let turn = self.stops.begin()?;
         let answer = self.lock_in(rt, alloc, &mut self.directory.lock(rt), name, kind);

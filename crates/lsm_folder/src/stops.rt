@@ -52,7 +52,7 @@ impl Stops {
 }
 
 impl Turn {
-    /// Ends a call that acted, with this answer. `Failed` where it was cut.
+    /// Ends a call that acted, with this answer; one that was cut is `Failed` in place of `Ok`.
     pub(crate) fn end<T: Drop>(self, answer: Result<T, FolderFault>) -> Result<T, FolderFault>
         ensures ok { IfOk result (λ v. answer ≡ Ok v) }
         ensures err { IfErr result (λ e. (e ≡ FolderFault.Failed) ⊎ (answer ≡ Err e)) }

@@ -1,6 +1,6 @@
 //! One call of the system for each call on a folder, with what cannot be avoided: a file is looked
 //! at and opened to be read whole, written or synced; one of which a part is read stays open. No
-//! contract says what these do; they are to be read.
+//! contract says what the system's calls do; they are to be read.
 
 ghost use Rattle.std.specs.Prelude.{◌≡◌, ◌≤◌, ◌^◌, length, Ok, IfOk, IfErr};
 ghost use Rattle.lsm_folder.specs.FolderFault.{NotMissing, NotExists, NotNamed};
@@ -164,7 +164,8 @@ impl<R: Files<File = File> + AllocGlobal + Clone + Drop> SystemFiles<R> {
         name: &str,
         answer: Result<T, SystemFault>,
     ) -> Result<T, FolderFault>
-        ensures { IfErr result NotNamed }
+        ensures same { IfOk result (λ v. answer ≡ Ok v) }
+        ensures err { IfErr result NotNamed }
     {
         match answer {
             Ok(value) => Ok(value),
@@ -203,7 +204,8 @@ impl<R: Files<File = File> + AllocGlobal + Clone + Drop> SystemFiles<R> {
         name: &str,
         answer: Result<(), SystemFault>,
     ) -> Result<(), FolderFault>
-        ensures { IfErr result NotMissing }
+        ensures same { IfOk result (λ v. answer ≡ Ok v) }
+        ensures err { IfErr result NotMissing }
     {
         match answer {
             Ok(()) => Ok(()),
@@ -222,7 +224,9 @@ impl<R: Files<File = File> + AllocGlobal + Clone + Drop> SystemFiles<R> {
         folder: &str,
         name: &str,
         options: &OpenOptions,
-    ) -> Result<File, SystemFault> {
+    ) -> Result<File, SystemFault>
+        ensures { self.new.held ≡ self.old.held }
+    {
         let path = path_of(self.rt.alloc(), folder, name)?;
         match fs::metadata(&self.rt, path.as_str()) {
             Ok(found) if !found.is_file() => return Err(irregular()),
@@ -325,6 +329,7 @@ impl<R: Files<File = File> + AllocGlobal + Clone + Drop> SystemFiles<R> {
         removed
     }
 
+    /// Asks for the removal, and closes nothing.
     fn try_remove(&self, folder: &str, name: &str) -> Result<(), SystemFault> {
         let path = path_of(self.rt.alloc(), folder, name)?;
         asked(fs::remove_file(&self.rt, path.as_str()))
@@ -355,6 +360,7 @@ impl<R: Files<File = File> + AllocGlobal + Clone + Drop> SystemFiles<R> {
         Ok(bytes)
     }
 
+    /// Fills the bytes from the file that is kept open for the mark, or opens it.
     fn read_into(
         &mut self,
         folder: &str,
@@ -375,6 +381,7 @@ impl<R: Files<File = File> + AllocGlobal + Clone + Drop> SystemFiles<R> {
         }
     }
 
+    /// Opens the file in place of what is in the mark's slot, reads, and keeps it where that went.
     fn read_anew(
         &mut self,
         folder: &str,

@@ -1,4 +1,7 @@
-//! The lock of a file of the system. No contract says what these do; they are to be read.
+//! The lock of a file of the system. A lock that is answered as held is kept; what the system's
+//! calls do no contract says, and they are to be read.
+
+ghost use Rattle.std.specs.Prelude.{◌≡◌, IfOk, IfErr, IsSome, MatchBool};
 
 use crate::lock_kind::LockKind;
 use crate::system_fault::SystemFault;
@@ -15,7 +18,11 @@ impl<R: Files<File = File> + AllocGlobal + Clone + Drop> SystemFiles<R> {
         folder: &str,
         name: &str,
         kind: LockKind,
-    ) -> Result<bool, SystemFault> {
+    ) -> Result<bool, SystemFault>
+        ensures taken { IfOk result (λ b.
+            MatchBool b (IsSome self.new.held) (self.new.held ≡ self.old.held)) }
+        ensures kept { IfErr result (λ _. self.new.held ≡ self.old.held) }
+    {
         let makes = kind == LockKind::Exclusive;
         let mut options = OpenOptions::new();
         options.read(true).write(makes).create(makes);
@@ -31,7 +38,9 @@ impl<R: Files<File = File> + AllocGlobal + Clone + Drop> SystemFiles<R> {
     }
 
     /// Locks an open file. Answers whether another holds it.
-    fn is_taken(&mut self, file: &File, kind: LockKind) -> io::Result<bool> {
+    fn is_taken(&mut self, file: &File, kind: LockKind) -> io::Result<bool>
+        ensures { self.new.held ≡ self.old.held }
+    {
         let answer = match kind {
             LockKind::Shared => file.try_lock_shared(),
             LockKind::Exclusive => file.try_lock(),
@@ -46,21 +55,27 @@ impl<R: Files<File = File> + AllocGlobal + Clone + Drop> SystemFiles<R> {
     /// Whether a program holds a record lock of this file that forbids one of this kind. LevelDB
     /// locks so, by `fcntl`, and the system lets both kinds of lock be; its list of locks names the
     /// file as the one that was just taken. Where there is no such list, none is noticed.
-    fn is_held_by_record(&mut self, file: &File, kind: LockKind) -> io::Result<bool> {
+    fn is_held_by_record(&mut self, file: &File, kind: LockKind) -> io::Result<bool>
+        ensures { self.new.held ≡ self.old.held }
+    {
         let own = self.own_lock(file)?;
         let locks = self.list_of("/proc/locks")?;
         Ok(is_forbidden(own.as_str(), locks.as_str(), kind))
     }
 
     /// What the system says of an open file and of its lock.
-    fn own_lock(&mut self, file: &File) -> io::Result<String> {
+    fn own_lock(&mut self, file: &File) -> io::Result<String>
+        ensures { self.new.held ≡ self.old.held }
+    {
         let path = format!(in self.rt.alloc(); "/proc/self/fdinfo/{}", file.as_raw_fd())?;
         self.list_of(path.as_str())
     }
 
     /// What a list of the system says; nothing where it can't be read. But where it can't for want
     /// of a descriptor, with none kept open, that is a refusal: a lock may be in it.
-    fn list_of(&mut self, path: &str) -> io::Result<String> {
+    fn list_of(&mut self, path: &str) -> io::Result<String>
+        ensures { self.new.held ≡ self.old.held }
+    {
         match fs::read_to_string(&self.rt, path) {
             Err(error) if self.open_files.give_way(&error) => fs::read_to_string(&self.rt, path),
             Err(error) if error.kind() != io::ErrorKind::OutOfMemory => {
