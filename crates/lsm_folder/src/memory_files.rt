@@ -1,8 +1,10 @@
 //! The files of a folder in memory.
 
 ghost use Rattle.std.specs.Prelude.{◌≡◌, ◌+◌, ◌≤◌, ◌^◌, ◌++◌, length, take, drop, IfOk, IfErr};
-ghost use Rattle.std.specs.Prelude.{IsSome, MatchBool};
+ghost use Rattle.std.specs.Prelude.{OnOk, Some, None, IsSome, MatchBool};
+ghost use Rattle.std.specs.Vec.{vec_len};
 ghost use Rattle.boxcar.specs.Table.{Shows};
+ghost use Rattle.lsm_folder.specs.Directory.{Names};
 ghost use Rattle.lsm_folder.specs.FolderFault.{NotMissing, NotExists, NotNamed};
 
 use crate::directory::Directory;
@@ -129,6 +131,8 @@ impl MemoryFiles {
     ) -> Result<Pushed<Image>, FolderFault>
         ensures ok { IfOk result (λ t. (t.value.bytes.items ≡ bytes.now)
             × Shows self.now.images t) }
+        ensures names { OnOk result (Names directory.old.names directory.new.names name.now
+            (Some (vec_len directory.old.files))) }
         ensures err { IfErr result (λ e. e ≡ FolderFault.OutOfMemory) }
     {
         let name = String::from_str(alloc, name)?;
@@ -164,6 +168,8 @@ impl MemoryFiles {
     ) -> Result<Pushed<Image>, FolderFault>
         ensures ok { IfOk result (λ t. (t.value.bytes.items ≡ bytes.now)
             × Shows self.now.images t) }
+        ensures names { OnOk result (Names directory.old.names directory.new.names name.now
+            (Some (vec_len directory.old.files))) }
         ensures err { IfErr result NotMissing }
     {
         match directory.find(name) {
@@ -328,7 +334,9 @@ impl MemoryFiles {
     }
 
     fn remove_in(&self, directory: &mut Directory, name: &str) -> Result<(), FolderFault>
-        ensures { IfErr result NotExists }
+        ensures names { OnOk result (Names directory.old.names directory.new.names name.now None) }
+        ensures files { directory.new.files ≡ directory.old.files }
+        ensures err { IfErr result NotExists }
     {
         if directory.find(name).is_none() {
             return Err(FolderFault::Missing);
