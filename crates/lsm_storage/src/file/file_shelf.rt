@@ -28,7 +28,10 @@ pub struct FileShelf<C: FolderCalls> {
 
 impl<C: FolderCalls> Drop for FileShelf<C> {
     fn drop(self) {
-        let Self { folder: _, account: _ } = self;
+        let Self {
+            folder: _,
+            account: _,
+        } = self;
     }
 }
 
