@@ -18,7 +18,13 @@ pub struct Reservation {
 
 impl Drop for Reservation {
     fn drop(self) {
-        let Self { ticket: _, level: _, inputs: _, low: _, high: _ } = self;
+        let Self {
+            ticket: _,
+            level: _,
+            inputs: _,
+            low: _,
+            high: _,
+        } = self;
     }
 }
 

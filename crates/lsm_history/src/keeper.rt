@@ -23,7 +23,11 @@ pub struct Keeper<N: Historied> {
 
 impl<N: Historied> Drop for Keeper<N> {
     fn drop(self) {
-        let Self { table: _, seat: _, of: _ } = self;
+        let Self {
+            table: _,
+            seat: _,
+            of: _,
+        } = self;
     }
 }
 

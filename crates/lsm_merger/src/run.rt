@@ -45,7 +45,11 @@ pub struct Run<N: Naming, S: Shelf> {
 
 impl<N: Naming, S: Shelf> Drop for Run<N, S> {
     fn drop(self) {
-        let Self { depth: _, here: _, later: _ } = self;
+        let Self {
+            depth: _,
+            here: _,
+            later: _,
+        } = self;
     }
 }
 

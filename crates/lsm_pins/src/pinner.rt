@@ -37,7 +37,14 @@ pub struct Pinner {
 
 impl Drop for Pinner {
     fn drop(self) {
-        let Self { board: _, seat: _, id: _, slot: _, count: _, held: _ } = self;
+        let Self {
+            board: _,
+            seat: _,
+            id: _,
+            slot: _,
+            count: _,
+            held: _,
+        } = self;
     }
 }
 

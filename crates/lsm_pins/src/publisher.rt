@@ -35,7 +35,13 @@ pub struct Publisher {
 
 impl Drop for Publisher {
     fn drop(self) {
-        let Self { board: _, seat: _, id: _, slot: _, records: _ } = self;
+        let Self {
+            board: _,
+            seat: _,
+            id: _,
+            slot: _,
+            records: _,
+        } = self;
     }
 }
 

@@ -28,7 +28,11 @@ pub struct Cached<N: Naming, S: Shelf> {
 
 impl<N: Naming, S: Shelf> Drop for Cached<N, S> {
     fn drop(self) {
-        let Self { shelf: _, tables: _, blocks: _ } = self;
+        let Self {
+            shelf: _,
+            tables: _,
+            blocks: _,
+        } = self;
     }
 }
 

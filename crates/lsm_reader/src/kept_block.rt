@@ -15,7 +15,12 @@ pub struct KeptBlock<N: Naming, S: Shelf> {
 
 impl<N: Naming, S: Shelf> Drop for KeptBlock<N, S> {
     fn drop(self) {
-        let Self { receipt: _, handle: _, block: _, of: _ } = self;
+        let Self {
+            receipt: _,
+            handle: _,
+            block: _,
+            of: _,
+        } = self;
     }
 }
 

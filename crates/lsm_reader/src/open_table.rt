@@ -33,7 +33,11 @@ pub struct OpenTable<N: Naming, S: Shelf> {
 
 impl<N: Naming, S: Shelf> Drop for OpenTable<N, S> {
     fn drop(self) {
-        let Self { receipt: _, index: _, of: _ } = self;
+        let Self {
+            receipt: _,
+            index: _,
+            of: _,
+        } = self;
     }
 }
 

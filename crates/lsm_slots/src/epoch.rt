@@ -14,7 +14,11 @@ pub struct Epoch<N: Naming, S: Shelf> {
 
 impl<N: Naming, S: Shelf> Drop for Epoch<N, S> {
     fn drop(self) {
-        let Self { id: _, version: _, pins: _ } = self;
+        let Self {
+            id: _,
+            version: _,
+            pins: _,
+        } = self;
     }
 }
 

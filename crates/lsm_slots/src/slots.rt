@@ -27,7 +27,11 @@ pub struct Slots<N: Boarded, S: Shelf> {
 
 impl<N: Boarded, S: Shelf> Drop for Slots<N, S> {
     fn drop(self) {
-        let Self { publisher: _, current: _, epochs: _ } = self;
+        let Self {
+            publisher: _,
+            current: _,
+            epochs: _,
+        } = self;
     }
 }
 

@@ -25,7 +25,10 @@ pub struct Reader<N: Boarded, S: Shelf> {
 
 impl<N: Boarded, S: Shelf> Drop for Reader<N, S> {
     fn drop(self) {
-        let Self { pinner: _, cache: _ } = self;
+        let Self {
+            pinner: _,
+            cache: _,
+        } = self;
     }
 }
 

@@ -36,7 +36,14 @@ pub struct ReaderCache<N: Boarded, S: Shelf> {
 
 impl<N: Boarded, S: Shelf> Drop for ReaderCache<N, S> {
     fn drop(self) {
-        let Self { id: _, version: _, blocks: _, memory: _, snapshots: _, catalogue: _ } = self;
+        let Self {
+            id: _,
+            version: _,
+            blocks: _,
+            memory: _,
+            snapshots: _,
+            catalogue: _,
+        } = self;
     }
 }
 

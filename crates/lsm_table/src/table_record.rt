@@ -18,7 +18,11 @@ pub struct TableRecord<C: TableReceipt> {
 
 impl<C: TableReceipt> Drop for TableRecord<C> {
     fn drop(self) {
-        let Self { smallest: _, largest: _, receipt: _ } = self;
+        let Self {
+            smallest: _,
+            largest: _,
+            receipt: _,
+        } = self;
     }
 }
 

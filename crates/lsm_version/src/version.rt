@@ -23,7 +23,12 @@ pub struct Version<N: Naming, S: Shelf> {
 
 impl<N: Naming, S: Shelf> Drop for Version<N, S> {
     fn drop(self) {
-        let Self { registry: _, levels: _, pointers: _, last: _ } = self;
+        let Self {
+            registry: _,
+            levels: _,
+            pointers: _,
+            last: _,
+        } = self;
     }
 }
 
