@@ -20,8 +20,20 @@ roll_over-requires-clause-recorded g c κs within =
     let own : IsRecorded f.0 c.state.inside.journal c.state.inside.slots.version c.state.inside.next = subst (λ (x : Held). IsRecorded f.0 x.journal x.slots.version x.next) (sym c.state.view_is) r in
     (f.0, subst (λ (v : Levels). IsRecorded f.0 c.state.inside.journal v c.state.inside.next) (sym c.version-version.ensures.version) own)
 
+-- the journal of a roll over that was refused is the one before it
 pub invariant_of-state : goal.invariant_of-state
 invariant_of-state g c =
+    let s : Held = c.args.self in
+    let lawful : Held → Type 0 = IsLawfulState g.S.Shelf.honest g.N.Boarded.board in
+    let j : HeldManifest = c.roll_over.new.self in
+    let same : s.journal ≡ j = sym (c.in_err-roll_over.ensures.err ∙ ap (λ (x : Held). x.journal) c.state.view_is) in (
+      subst (λ (x : Held). lawful (record x { journal = j })) (sym c.state.view_is)
+          (subst (λ (k : HeldManifest). lawful (record s { journal = k })) same (subst lawful c.state.view_is c.state.invariant.0)),
+      c.state.invariant.1,
+    )
+
+pub invariant_of-state-2 : goal.invariant_of-state-2
+invariant_of-state-2 g c =
     let s : Held = c.args.self in
     let o = s.options in
     let v : Levels = s.slots.version in
