@@ -1,9 +1,9 @@
 #!/usr/bin/env bash
 # Opens the tests that stand beside the gate as files of Rattle: open.sh FOLDER makes a second root
 # there, in which an editor, `rt fmt`, `rt check`, `rt try --test` and a search by language work:
-# each crate of tests, and each library that they use, is a folder of `.rt` and `.antt` files, beside
-# copies of the crates of this repository, which are only to be read. `save.sh FOLDER` brings edits
-# of tests back.
+# each crate of tests, and each library that they use, is a folder of `.rt` and `.antt` files,
+# beside copies of the crates of this repository, which are only to be read. `save.sh FOLDER` brings
+# edits of tests back.
 #
 # FOLDER lies outside the repository, since `rt ci` stops at each `.rt` file in it that no check
 # reads; there the files are kept with `.txt` behind their names.

@@ -25,8 +25,8 @@ line_of() { # NAME: its line of crates.txt
 }
 
 for name in "${names[@]}"; do
-    if [[ ! -d $here/$name ]] || ! line_of "$name" > /dev/null; then
-        echo "$name is no folder of checks/more_tests with a line in lines.txt" >&2
+    if [[ $name != *_tests || ! -d $here/$name ]] || ! line_of "$name" > /dev/null; then
+        echo "$name is no folder of tests in checks/more_tests with a line in lines.txt" >&2
         exit 2
     fi
 done
@@ -45,7 +45,7 @@ put_library() { # NAME: a library that tests use, as a crate
         mkdir -p "$(dirname "$as")"
         cp "$file" "${as%.txt}"
     done < <(find "$here/$1" -type f -print0)
-    line_of "$1" >> "$scratch/crates.txt"
+    line_of "$1" >> "$scratch/crates.txt" || { echo "$1 has no line in lines.txt" >&2; exit 2; }
 }
 
 for folder in "$here"/lsm_*; do

@@ -1,9 +1,9 @@
 #!/usr/bin/env bash
 # Brings edits of tests back from a root that `open.sh FOLDER` made: save.sh FOLDER. Changed, new
-# and removed files of the crates of tests are changed, new and removed here, with `.txt` behind the
-# names of `.rt` and `.antt` files, and their lines of crates.txt in lines.txt. Prints a line for
-# each. Writes nothing, and ends with status 1, where a file was changed here too since the root was
-# opened. FOLDER stays, and can be saved again.
+# and removed files of the crates of tests and of their libraries are changed, new and removed here,
+# with `.txt` behind the names of `.rt` and `.antt` files, and their lines of crates.txt in
+# lines.txt. Prints a line for each. Writes nothing, and ends with status 1, where a file was
+# changed here too since the root was opened. FOLDER stays, and can be saved again.
 set -euo pipefail
 here=$(cd "$(dirname "$0")" && pwd)
 [[ $# == 1 && -f $1/.opened ]] || { echo "save.sh FOLDER, of a folder that open.sh made" >&2; exit 2; }
