@@ -16,7 +16,7 @@ trap 'rm -rf "$scratch" "$shared"' EXIT
 bench="$scratch/crates/bench_compaction"
 mkdir -p "$bench/src" "$bench"/proofs/{main,time,copies_of,job_of}
 source "$top/benches/copy_crates.sh"
-for name in lsm_merge lsm_check lsm_storage; do copy_crates "$name" "$scratch"; done
+for name in lsm_merge lsm_verify lsm_storage; do copy_crates "$name" "$scratch"; done
 cp "$here/compaction.rattle" "$bench/src/main.rt"
 cat > "$bench/proofs/Lib.antt" <<'PROOF'
 mod Wholes
@@ -70,7 +70,7 @@ use Rattle.bench_compaction.proofs.main.Given as goal
 abbrev pub ghosts-measured : goal.ghosts-measured
 ghosts-measured g a = record { registry = a.records; place = system_place (folder_of a.shelf) }
 PROOF
-echo 'bench_compaction: lsm_merge lsm_check lsm_version lsm_merger lsm_reader lsm_table lsm_storage lsm_shelf lsm_folder lsm_block lsm_manifest lsm_levels lsm_codec boxcar' >> "$scratch/crates.txt"
+echo 'bench_compaction: lsm_merge lsm_verify lsm_version lsm_iterators lsm_reader lsm_table lsm_storage lsm_shelf lsm_folder lsm_block lsm_manifest lsm_model lsm_codec boxcar' >> "$scratch/crates.txt"
 (cd "$bench" && rt run > "$scratch/first" 2> "$scratch/log" || [[ -x out/bench_compaction ]]) || { cat "$scratch/log" >&2; exit 1; }
 if g++ -O2 -o "$scratch/leveldb" "$here/leveldb.cc" -lleveldb 2> "$scratch/log"; then leveldb=yes; else leveldb=no; fi
 

@@ -37,7 +37,7 @@ use Rattle.bench_folder.proofs.readers.start_all.Given as goal
 abbrev pub decreases-loop-reader : goal.decreases-loop-reader
 decreases-loop-reader g l = vec_len l.readers
 PROOF
-echo 'bench_folder: lsm_store lsm_state lsm_batch lsm_slots lsm_pins lsm_history lsm_reads lsm_merger lsm_version lsm_levels lsm_table lsm_storage lsm_shelf lsm_folder lsm_codec boxcar' >> "$scratch/crates.txt"
+echo 'bench_folder: lsm_store lsm_state lsm_batch lsm_slots lsm_pins lsm_history lsm_query lsm_iterators lsm_version lsm_model lsm_table lsm_storage lsm_shelf lsm_folder lsm_codec boxcar' >> "$scratch/crates.txt"
 
 if [[ ${UNPROVED:-} ]]; then
   [[ $file == *unproved* ]] || { echo "reading: $file has no unproved in its path" >&2; exit 2; }

@@ -16,7 +16,7 @@ trap 'rm -rf "$scratch" "$shared"' EXIT
 bench="$scratch/crates/bench_version"
 mkdir -p "$bench/src" "$bench"/proofs/{main,time}
 source "$top/benches/copy_crates.sh"
-for name in lsm_check lsm_storage; do copy_crates "$name" "$scratch"; done
+for name in lsm_verify lsm_storage; do copy_crates "$name" "$scratch"; done
 cp "$here/version.rattle" "$bench/src/main.rt"
 cp "$here/holding.rattle" "$bench/src/holding.rt"
 cat > "$bench/proofs/main/Invariants.antt" <<'PROOF'
@@ -36,7 +36,7 @@ use Rattle.bench_version.proofs.time.Given as goal
 abbrev pub ghosts-measured : goal.ghosts-measured
 ghosts-measured g a = record { registry = a.records; place = (memory_told a.shelf).place }
 PROOF
-echo 'bench_version: lsm_check lsm_reads lsm_version lsm_reader lsm_merger lsm_table lsm_storage lsm_shelf lsm_folder lsm_block lsm_manifest lsm_levels lsm_codec boxcar' >> "$scratch/crates.txt"
+echo 'bench_version: lsm_verify lsm_query lsm_version lsm_reader lsm_iterators lsm_table lsm_storage lsm_shelf lsm_folder lsm_block lsm_manifest lsm_model lsm_codec boxcar' >> "$scratch/crates.txt"
 mkdir "$shared/same"
 (cd "$bench" && rt run -- "$shared/same" > "$scratch/first" 2> "$scratch/log" || [[ -x out/bench_version ]]) || { cat "$scratch/log" >&2; exit 1; }
 [[ -e $shared/same/CURRENT ]] || "$bench/out/bench_version" "$shared/same" > "$scratch/first"

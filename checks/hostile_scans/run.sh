@@ -16,7 +16,7 @@ trap 'rm -rf "$scratch"' EXIT
 program="$scratch/crates/hostile"
 mkdir -p "$program/src" "$program"/proofs/{main,time_files,scan_lent,copies_of,job_at}
 source "$top/benches/copy_crates.sh"
-for name in lsm_merge lsm_check lsm_storage; do copy_crates "$name" "$scratch"; done
+for name in lsm_merge lsm_verify lsm_storage; do copy_crates "$name" "$scratch"; done
 cp "$here/hostile.rattle" "$program/src/main.rt"
 cat > "$program/proofs/Lib.antt" <<'PROOF'
 mod Wholes
@@ -77,7 +77,7 @@ use Rattle.hostile.proofs.main.Given as goal
 abbrev pub ghosts-measured : goal.ghosts-measured
 ghosts-measured g a = record { registry = a.records; place = system_place (folder_of a.shelf) }
 PROOF
-echo 'hostile: lsm_merge lsm_check lsm_reads lsm_version lsm_merger lsm_reader lsm_table lsm_storage lsm_shelf lsm_folder lsm_block lsm_manifest lsm_levels lsm_codec boxcar' >> "$scratch/crates.txt"
+echo 'hostile: lsm_merge lsm_verify lsm_query lsm_version lsm_iterators lsm_reader lsm_table lsm_storage lsm_shelf lsm_folder lsm_block lsm_manifest lsm_model lsm_codec boxcar' >> "$scratch/crates.txt"
 (cd "$program" && rt run > "$scratch/first" 2> "$scratch/log" || [[ -x out/hostile ]]) || { cat "$scratch/log" >&2; exit 1; }
 rustc -O -o "$scratch/make" "$here/make.rs"
 

@@ -13,7 +13,7 @@ trap 'rm -rf "$scratch"' EXIT
 program="$scratch/crates/directory"
 mkdir -p "$program/src" "$program"/proofs/{main,print_all}
 source "$top/benches/copy_crates.sh"
-for name in lsm_check lsm_storage; do copy_crates "$name" "$scratch"; done
+for name in lsm_verify lsm_storage; do copy_crates "$name" "$scratch"; done
 cp "$here/directory.rattle" "$program/src/main.rt"
 cat > "$program/proofs/main/Invariants.antt" <<'END'
 use Rattle.lsm_folder.specs.SystemFolder.{system_place}
@@ -31,7 +31,7 @@ use Rattle.directory.proofs.print_all.Given as goal
 abbrev pub invariant-loop : goal.invariant-loop
 invariant-loop g l = (g.S.Shelf.told l.shelf).place ≡ g.N.Naming.place
 END
-echo 'directory: lsm_check lsm_reads lsm_version lsm_table lsm_storage lsm_shelf lsm_folder lsm_block lsm_manifest lsm_codec boxcar' >> "$scratch/crates.txt"
+echo 'directory: lsm_verify lsm_query lsm_version lsm_table lsm_storage lsm_shelf lsm_folder lsm_block lsm_manifest lsm_codec boxcar' >> "$scratch/crates.txt"
 (cd "$program" && rt run > "$scratch/first" 2> "$scratch/log" || [[ -x out/directory ]]) || { cat "$scratch/log" >&2; exit 1; }
 g++ -O2 -Wall -o "$scratch/leveldb" "$here/directory.cc" -lleveldb
 

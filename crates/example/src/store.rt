@@ -5,7 +5,7 @@
 ghost use Rattle.std.specs.Prelude.{◌≡◌, IfOk, length};
 ghost use Rattle.std.specs.Option.{option_map};
 ghost use Rattle.lsm_codec.specs.Entries.{answer};
-ghost use Rattle.lsm_levels.specs.Files.{all_entries};
+ghost use Rattle.lsm_model.specs.Files.{all_entries};
 ghost use Rattle.lsm_state.specs.Making.{IsNewBoard, IsNewHistory};
 ghost use Rattle.lsm_state.specs.Options.{Fits};
 ghost use Rattle.lsm_version.specs.Versions.{files};

@@ -6,7 +6,7 @@ ghost use Rattle.std.specs.Prelude.{◌≡◌, ◌≤◌};
 use crate::table::fruit_table;
 use lsm_codec::{KeyRef, Kind, List, MAX_SEQ};
 use lsm_manifest::{AddedFile, Edit, FileMeta, Shape, replay};
-use lsm_reads::{Pair, Scan};
+use lsm_query::{Pair, Scan};
 use lsm_storage::MemoryShelf;
 use lsm_table::{
     BuildFault, NamedShelf, Naming, Records, Registry, Shelf, TableBuilder, TableOptions,
@@ -103,7 +103,7 @@ fn show<N: Naming, S: Shelf>(
     user: &str,
     seq: u64,
 ) -> anyhow::Result<()> {
-    match lsm_reads::get(version, shelf, alloc, user.as_bytes(), seq)? {
+    match lsm_query::get(version, shelf, alloc, user.as_bytes(), seq)? {
         Some(value) => println!(rt; "{user} at {seq}: {}", str::from_utf8(&value)?)?,
         None => println!(rt; "{user} at {seq}: absent")?,
     }
@@ -141,7 +141,7 @@ fn scan<N: Naming, S: Shelf>(
 ) -> anyhow::Result<()>
     requires honest { S.honest }
 {
-    let mut scan = lsm_reads::scan(version, shelf, alloc, seq)?;
+    let mut scan = lsm_query::scan(version, shelf, alloc, seq)?;
     show_rest(rt, alloc, &mut scan, shelf)
 }
 
@@ -178,7 +178,7 @@ fn check_and_read<N: Naming, S: Shelf, R: Wait + Print>(
     let registry = Registry::shared(alloc, records)?;
     let mut shelf = NamedShelf::of(shelf);
     let shape = put_tables(rt, alloc, &mut shelf)?;
-    let version = lsm_check::check::<N, S, R>(&mut shelf, rt, alloc, &shape, registry)?;
+    let version = lsm_verify::check::<N, S, R>(&mut shelf, rt, alloc, &shape, registry)?;
     read(rt, alloc, &version, &mut shelf)
 }
 

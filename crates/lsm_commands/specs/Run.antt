@@ -14,18 +14,18 @@ use Rattle.lsm_text.specs.declared.request.Request.{Request}
 use Rattle.lsm_text.specs.declared.request.Request.TheVariants.{Convert, Look, Levels, Write as WriteFolder, Load, Compact, Script, Shell, Bench}
 use Rattle.lsm_text.specs.declared.writing_command.WritingCommand.{WritingCommand}
 use Rattle.lsm_text.specs.declared.writing_command.WritingCommand.TheVariants.{Ingest, WriteKey, Clean}
-use Rattle.lsm_bench.specs.Benched.{BenchesAt}
-use Rattle.lsm_lists.specs.Converted.{IsConverted, IsUnconverted}
-use Rattle.lsm_lists.specs.Played.{IsPlayed, IsUnplayed}
+use Rattle.lsm_cmd_bench.specs.Benched.{BenchesAt}
+use Rattle.lsm_cmd_convert.specs.Converted.{IsConverted, IsUnconverted}
+use Rattle.lsm_cmd_convert.specs.Played.{IsPlayed, IsUnplayed}
 use Rattle.lsm_directory.specs.declared.faults.directory_fault.DirectoryFault.{DirectoryFault}
-use Rattle.lsm_writing.specs.declared.faults.writer_fault.WriterFault.{WriterFault}
-use Rattle.lsm_layout.specs.Layout.{FailsToLayOut, LaysOutAt}
-use Rattle.lsm_load.specs.LoadedAt.{FailsToLoad, LoadsAt}
-use Rattle.lsm_reading.specs.Looked.{FailsToLook, LooksAtGiven}
-use Rattle.lsm_shell.specs.Talked.{FailsToTalk, TalksAt}
-use Rattle.lsm_writing.specs.Cleaned.{FailsToClean, IsCleanedAt}
-use Rattle.lsm_compacting.specs.Compacted.{IsCompactedAt, IsUncompacted}
-use Rattle.lsm_writing.specs.Ingested.{ComesInAt, FailsToBringIn, IsIngested, IsUningested}
+use Rattle.lsm_cmd_write.specs.declared.faults.writer_fault.WriterFault.{WriterFault}
+use Rattle.lsm_cmd_levels.specs.Layout.{FailsToLayOut, LaysOutAt}
+use Rattle.lsm_cmd_load.specs.LoadedAt.{FailsToLoad, LoadsAt}
+use Rattle.lsm_cmd_read.specs.Looked.{FailsToLook, LooksAtGiven}
+use Rattle.lsm_cmd_shell.specs.Talked.{FailsToTalk, TalksAt}
+use Rattle.lsm_cmd_write.specs.Cleaned.{FailsToClean, IsCleanedAt}
+use Rattle.lsm_cmd_compact.specs.Compacted.{IsCompactedAt, IsUncompacted}
+use Rattle.lsm_cmd_write.specs.Ingested.{ComesInAt, FailsToBringIn, IsIngested, IsUningested}
 
 module _ {C M : Type 0} (folders : Ghosts C M) where
   -- ---- ingest, put, delete, clean

@@ -1,8 +1,8 @@
 //! What the program `lsm` does for the words of its command line: each command is done by a crate
 //! below.
 //!
-//! Stands on `lsm_text` for words, on `lsm_lists` for the commands on one input, on `lsm_reading`,
-//! `lsm_layout`, `lsm_writing`, `lsm_compacting`, `lsm_load`, `lsm_shell` and `lsm_bench` for
+//! Stands on `lsm_text` for words, on `lsm_cmd_convert` for the commands on one input, on `lsm_cmd_read`,
+//! `lsm_cmd_levels`, `lsm_cmd_write`, `lsm_cmd_compact`, `lsm_cmd_load`, `lsm_cmd_shell` and `lsm_cmd_bench` for
 //! those on a folder, and on `lsm_directory` for what these share. Its contract: `run` does what
 //! the words of a command line ask, by one clause for each exit status (what it does not say is in
 //! README.md).
@@ -11,5 +11,5 @@
 // What words ask is done.
 mod running;
 
-pub use lsm_lists::{Watched, convert, read_script, script};
+pub use lsm_cmd_convert::{Watched, convert, read_script, script};
 pub use running::{refuse_words, run};

@@ -8,17 +8,17 @@ ghost use Rattle.lsm_commands.specs.Run.{AreDone, AreUsageFault, AreUndone, IsDo
 ghost use Rattle.lsm_commands.specs.Run.{IsUnwritten, IsWritten};
 ghost use Rattle.lsm_directory.specs.Inputs.{text_in};
 
-use lsm_bench::run_bench;
-use lsm_compacting::run_compact;
+use lsm_cmd_bench::run_bench;
+use lsm_cmd_compact::run_compact;
+use lsm_cmd_convert::{run_convert, run_script};
+use lsm_cmd_levels::run_levels;
+use lsm_cmd_load::run_load;
+use lsm_cmd_read::run_look;
+use lsm_cmd_shell::run_shell;
+use lsm_cmd_write::{run_clean, run_ingest, run_write};
 use lsm_directory::{Known, Paths, refuse, status_of};
 use lsm_folder::FolderCalls;
-use lsm_layout::run_levels;
-use lsm_lists::{run_convert, run_script};
-use lsm_load::run_load;
-use lsm_reading::run_look;
-use lsm_shell::run_shell;
 use lsm_text::{CommandLine, Fault, Request, WritingCommand, WritingLine, read_line, write_output};
-use lsm_writing::{run_clean, run_ingest, run_write};
 use std::convert::AsStr;
 use std::io::{self, ErrorKind, Read, Write};
 use std::rt::Clock;

@@ -8,13 +8,13 @@ use Rattle.lsm_codec.specs.Entries.{Entry, answer, first_of_two, is_allowed, new
 use Rattle.lsm_codec.specs.Keys.{UserKey}
 use Rattle.lsm_codec.specs.Lists.{Has}
 use Rattle.lsm_codec.proofs.CallerLemmas.{Finds, IsAllowed, flat_has, has_cases, has_flat, newest_finds, stamp_lt}
-use Rattle.lsm_levels.specs.Files.{File, IsLawful, all_entries}
-use Rattle.lsm_levels.specs.Law.{Law}
-use Rattle.lsm_levels.specs.Plain.{Plain}
-use Rattle.lsm_levels.specs.Plain as machine
-use Rattle.lsm_levels.specs.Runs.{Event, ReadsAs, Run, ingested}
-use Rattle.lsm_levels.specs.Runs as event
-use Rattle.lsm_levels.proofs.CallerLemmas.{newest_is, one_each}
+use Rattle.lsm_model.specs.Files.{File, IsLawful, all_entries}
+use Rattle.lsm_model.specs.Law.{Law}
+use Rattle.lsm_model.specs.Plain.{Plain}
+use Rattle.lsm_model.specs.Plain as machine
+use Rattle.lsm_model.specs.Runs.{Event, ReadsAs, Run, ingested}
+use Rattle.lsm_model.specs.Runs as event
+use Rattle.lsm_model.proofs.CallerLemmas.{newest_is, one_each}
 use Rattle.lsm_version.specs.Versions.{Levels, files}
 use Rattle.lsm_shelf.specs.Asked.{Asked}
 use Rattle.lsm_batch.specs.Batches.{entries_from}

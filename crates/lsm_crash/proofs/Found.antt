@@ -6,7 +6,7 @@ use Rattle.lsm_codec.proofs.CallerLemmas.{has_right}
 use Rattle.lsm_storage.specs.FileNames.{table_name, manifest_name, current_text}
 use Rattle.lsm_manifest.specs.FileOrder.{TableFile}
 use Rattle.lsm_table.specs.Registry.{Table}
-use Rattle.lsm_levels.specs.Files.{File}
+use Rattle.lsm_model.specs.Files.{File}
 use Rattle.lsm_version.specs.Versions.{Levels, file_of, files, level_in, numbers_in}
 use Rattle.lsm_version.proofs.CallerLemmas.{file_in, in_files, inside}
 use Rattle.lsm_journal.specs.Recorded.{IsFileAt, meta_of}

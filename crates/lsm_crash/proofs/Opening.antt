@@ -9,7 +9,7 @@ use Rattle.lsm_storage.specs.FileNames.{table_name, manifest_name, current_text}
 use Rattle.lsm_storage.specs.Plans.{start_plan}
 use Rattle.lsm_shelf.specs.Asked.{Asked}
 use Rattle.lsm_table.specs.Registry.{Table}
-use Rattle.lsm_levels.specs.Files.{File}
+use Rattle.lsm_model.specs.Files.{File}
 use Rattle.lsm_version.specs.Versions.{Levels, file_of, files, level_in, numbers_in}
 use Rattle.lsm_version.proofs.CallerLemmas.{in_files}
 use Rattle.lsm_journal.specs.HeldManifest.{HeldManifest}

@@ -40,21 +40,21 @@ use Rattle.lsm_table.specs.declared.table_fault.TableFault.{TableFault}
 use Rattle.lsm_table.specs.ReadFault.{IsMemory}
 use Rattle.lsm_table.specs.Reading.{is_memory}
 use Rattle.lsm_table.proofs.CallerLemmas.{memory_only}
-use Rattle.lsm_levels.specs.Checking.{IsRangeOf}
-use Rattle.lsm_levels.specs.Files.{Before, File}
-use Rattle.lsm_levels.specs.Ranges.{MeetInKeys, Range, SomePair, key_le}
-use Rattle.lsm_levels.proofs.CallerLemmas.{before_not_first, first_is_le}
+use Rattle.lsm_model.specs.Checking.{IsRangeOf}
+use Rattle.lsm_model.specs.Files.{Before, File}
+use Rattle.lsm_model.specs.Ranges.{MeetInKeys, Range, SomePair, key_le}
+use Rattle.lsm_model.proofs.CallerLemmas.{before_not_first, first_is_le}
 use Rattle.lsm_version.specs.FileNumbers.{file_numbers, numbers_of, times}
 use Rattle.lsm_version.specs.Versions.{IsSound, IsWhole, Levels, file_of, files, files_from, level_in}
 use Rattle.lsm_version.proofs.CallerLemmas.{all_has, file_in, in_files, inside}
-use Rattle.lsm_check.specs.CheckFault.{CheckCounted}
-use Rattle.lsm_check.specs.CheckRefusal.{AreTablesOf, IsAgainRefusal, IsOfShape, IsRefusal}
-use Rattle.lsm_check.specs.CheckedFiles.{IsFileOf, IsImageOf}
-use Rattle.lsm_check.specs.FileRefusal.{IsFileRefusal, IsFilesRefusal, IsMemoryRefusal, NamesNone}
-use Rattle.lsm_check.specs.LevelLayouts.{AreRangesOf, IsLayoutRefusal}
-use Rattle.lsm_check.specs.Loading.{AreFilesOf, AreInFileOrder, AreLevelsOf, AreLevelsStored, AreStored, all_files, placed_levels}
-use Rattle.lsm_check.specs.declared.check_fault.CheckFault.{CheckFault}
-use Rattle.lsm_check.specs.declared.check_fault.CheckFault.TheVariants as check
+use Rattle.lsm_verify.specs.CheckFault.{CheckCounted}
+use Rattle.lsm_verify.specs.CheckRefusal.{AreTablesOf, IsAgainRefusal, IsOfShape, IsRefusal}
+use Rattle.lsm_verify.specs.CheckedFiles.{IsFileOf, IsImageOf}
+use Rattle.lsm_verify.specs.FileRefusal.{IsFileRefusal, IsFilesRefusal, IsMemoryRefusal, NamesNone}
+use Rattle.lsm_verify.specs.LevelLayouts.{AreRangesOf, IsLayoutRefusal}
+use Rattle.lsm_verify.specs.Loading.{AreFilesOf, AreInFileOrder, AreLevelsOf, AreLevelsStored, AreStored, all_files, placed_levels}
+use Rattle.lsm_verify.specs.declared.check_fault.CheckFault.{CheckFault}
+use Rattle.lsm_verify.specs.declared.check_fault.CheckFault.TheVariants as check
 use Rattle.lsm_journal.specs.Finding.{IsFindRefusal}
 use Rattle.lsm_journal.specs.Recorded.{IsFileAt, meta_of}
 use Rattle.lsm_journal.specs.Recovering.{IsRecoverRefusal}

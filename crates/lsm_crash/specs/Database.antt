@@ -4,9 +4,9 @@ use Rattle.std.specs.Prelude.{◌≡◌, ◌⊎◌, ℕ, suc, ◌+◌, ◌^◌, 
 use Rattle.atomic_table.specs.Seated.{TableId}
 use Rattle.lsm_codec.specs.Entries.{Entry}
 use Rattle.lsm_codec.specs.Lists.{Has}
-use Rattle.lsm_levels.specs.Plain.{Spends}
-use Rattle.lsm_levels.specs.Plain as machine
-use Rattle.lsm_levels.specs.Runs.{Event, Run, ingested}
+use Rattle.lsm_model.specs.Plain.{Spends}
+use Rattle.lsm_model.specs.Plain as machine
+use Rattle.lsm_model.specs.Runs.{Event, Run, ingested}
 use Rattle.lsm_storage.specs.FileNames.{table_name, manifest_name, current_text}
 use Rattle.lsm_storage.specs.Plans.{Step as Planned, append_plan, put_plan, remove_plan, start_plan}
 use Rattle.lsm_shelf.specs.Told.{Told, Becomes, sending}

@@ -6,7 +6,7 @@ use Rattle.lsm_codec.specs.Entries.{Entry, answer}
 use Rattle.lsm_codec.specs.Keys.{UserKey}
 use Rattle.lsm_codec.specs.Lists.{Has}
 use Rattle.lsm_shelf.specs.Asked.{Asked}
-use Rattle.lsm_levels.specs.Files.{all_entries}
+use Rattle.lsm_model.specs.Files.{all_entries}
 use Rattle.lsm_version.specs.Versions.{Levels, files}
 use Rattle.lsm_batch.specs.Batches.{entries_from}
 use Rattle.lsm_state.specs.Held.{Held}

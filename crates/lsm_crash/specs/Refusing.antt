@@ -12,8 +12,8 @@ use Rattle.lsm_table.specs.ReadFault.{IsMemory}
 use Rattle.lsm_table.specs.Registry.{Table}
 use Rattle.lsm_table.specs.declared.read_fault.ReadFault.TheVariants as read
 use Rattle.lsm_version.specs.Versions.{Levels, level_in}
-use Rattle.lsm_check.specs.declared.check_fault.CheckFault.{CheckFault}
-use Rattle.lsm_check.specs.declared.check_fault.CheckFault.TheVariants as check
+use Rattle.lsm_verify.specs.declared.check_fault.CheckFault.{CheckFault}
+use Rattle.lsm_verify.specs.declared.check_fault.CheckFault.TheVariants as check
 use Rattle.lsm_journal.specs.declared.open_fault.OpenFault.{OpenFault}
 use Rattle.lsm_journal.specs.declared.open_fault.OpenFault.TheVariants as opening
 use Rattle.lsm_journal.specs.declared.recover_fault.RecoverFault.{RecoverFault}

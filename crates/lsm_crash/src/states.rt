@@ -7,9 +7,9 @@ ghost use Rattle.std.specs.Prelude.{false, length, map};
 ghost use Rattle.atomic_table.specs.Seated.{TableId};
 ghost use Rattle.lsm_codec.specs.Entries.{Entry};
 ghost use Rattle.lsm_codec.specs.Lists.{Has};
-ghost use Rattle.lsm_levels.specs.Files.{File};
-ghost use Rattle.lsm_levels.specs.Plain as machine;
-ghost use Rattle.lsm_levels.specs.Plain.{Spends};
+ghost use Rattle.lsm_model.specs.Files.{File};
+ghost use Rattle.lsm_model.specs.Plain as machine;
+ghost use Rattle.lsm_model.specs.Plain.{Spends};
 ghost use Rattle.lsm_storage.specs.FileNames.{table_name};
 ghost use Rattle.lsm_shelf.specs.Asked.{Asked, Put, Remove, StartManifest};
 ghost use Rattle.lsm_shelf.specs.Stored.{Stored};
@@ -52,9 +52,9 @@ ghost use Rattle.lsm_state.specs.Opening.{IsOpenRefusal};
 ghost use Rattle.lsm_crash.specs.Refusing.{IsNotWhatWasFound, IsWantOrDevice, ReadsShown};
 ghost use Rattle.lsm_version.specs.Versions.{IsSound, Levels, files, no_levels};
 
-use lsm_check::shapes_in_order;
-use lsm_levels::machine::{Premise, runs_read_all_that_came};
+use lsm_model::machine::{Premise, runs_read_all_that_came};
 use lsm_table::{Naming, Shelf};
+use lsm_verify::shapes_in_order;
 use lsm_version::changed_tables;
 
 /// A manifest that records a version comes to a shape, and to none but the one that describes the

@@ -9,14 +9,14 @@ use Rattle.lsm_manifest.specs.EditFault as edit
 use Rattle.lsm_manifest.specs.ReplayFault as replay
 use Rattle.lsm_manifest.specs.declared.replay_fault.ReplayFault.{ReplayFault}
 use Rattle.lsm_table.specs.ReadFault as read
-use Rattle.lsm_check.specs.CheckFault as check
+use Rattle.lsm_verify.specs.CheckFault as check
 use Rattle.lsm_journal.specs.RecoverFault as recover
 use Rattle.lsm_journal.specs.declared.recover_fault.RecoverFault.{RecoverFault}
 use Rattle.lsm_journal.specs.declared.recover_fault.RecoverFault.TheVariants as recover_faults
 use Rattle.lsm_journal.specs.declared.open_fault.OpenFault.{OpenFault}
 use Rattle.lsm_journal.specs.declared.open_fault.OpenFault.TheVariants as open_faults
-use Rattle.lsm_check.specs.declared.check_fault.CheckFault.{CheckFault}
-use Rattle.lsm_check.specs.declared.check_fault.CheckFault.TheVariants as check_faults
+use Rattle.lsm_verify.specs.declared.check_fault.CheckFault.{CheckFault}
+use Rattle.lsm_verify.specs.declared.check_fault.CheckFault.TheVariants as check_faults
 use Rattle.lsm_text.specs.FaultText.{edit_field, log_field, read_field, refusal_text, replay_field, shelf_field}
 use Rattle.lsm_directory.specs.declared.faults.directory_fault.DirectoryFault.{DirectoryFault}
 use Rattle.lsm_directory.specs.declared.faults.directory_fault.DirectoryFault.TheVariants.{OutOfMemory, Write, Shelf, Manifest, Tables, Read, NumbersSpent, Locked, Absent}

@@ -2,7 +2,7 @@
 //! line find it, its lock, its names and the logs beside its tables, and what is told of a fault.
 //!
 //! Stands on `lsm_folder` for the calls on a folder, on `lsm_storage` for shelves on it, on
-//! `lsm_journal` and `lsm_check` for the faults of a directory, and on `lsm_text` for their texts.
+//! `lsm_journal` and `lsm_verify` for the faults of a directory, and on `lsm_text` for their texts.
 //! Its contract: what a command asks of a folder before its tables, which file a name is of, the
 //! text of each fault of a directory, and the exit status.
 #![tactic(auto)]

@@ -12,13 +12,13 @@ use Rattle.lsm_table.specs.declared.read_fault.ReadFault.{ReadFault}
 use Rattle.lsm_table.specs.declared.read_fault.ReadFault.TheVariants as read
 use Rattle.lsm_table.proofs.CallerLemmas.{becomes_then, counted_later, read_counted_later}
 use Rattle.lsm_manifest.specs.Shape.{Form}
-use Rattle.lsm_check.specs.CheckFault.{CheckCounted}
-use Rattle.lsm_check.specs.CheckRefusal.{IsOfShape, IsRefusal}
+use Rattle.lsm_verify.specs.CheckFault.{CheckCounted}
+use Rattle.lsm_verify.specs.CheckRefusal.{IsOfShape, IsRefusal}
 use Rattle.lsm_version.specs.FileNumbers.{AreDistinct, numbers_of}
-use Rattle.lsm_check.specs.Settled.{IsSettled, KeepsAge}
+use Rattle.lsm_verify.specs.Settled.{IsSettled, KeepsAge}
 use Rattle.lsm_version.specs.Versions.{IsSound, Levels, files, numbers_in}
-use Rattle.lsm_check.specs.declared.check_fault.CheckFault.{CheckFault}
-use Rattle.lsm_check.specs.declared.check_fault.CheckFault.TheVariants.{Read, DoubleFile, Overlap, WrongRange, AgeOrder}
+use Rattle.lsm_verify.specs.declared.check_fault.CheckFault.{CheckFault}
+use Rattle.lsm_verify.specs.declared.check_fault.CheckFault.TheVariants.{Read, DoubleFile, Overlap, WrongRange, AgeOrder}
 use Rattle.lsm_journal.specs.HeldManifest.{HeldManifest}
 use Rattle.lsm_journal.specs.Recorded.{IsRecorded}
 use Rattle.lsm_journal.specs.Recovering.{IsRecovered}

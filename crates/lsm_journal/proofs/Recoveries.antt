@@ -9,10 +9,10 @@ use Rattle.lsm_manifest.specs.Replay.{Stands}
 use Rattle.lsm_manifest.specs.Shape.{Form, IsReplayed}
 use Rattle.lsm_manifest.specs.WholeEdit.{placed_at}
 use Rattle.lsm_manifest.proofs.CallerLemmas.{manifest_fits}
-use Rattle.lsm_check.specs.CheckedFiles.{IsFileOf}
-use Rattle.lsm_check.specs.CheckRefusal.{IsOfShape}
+use Rattle.lsm_verify.specs.CheckedFiles.{IsFileOf}
+use Rattle.lsm_verify.specs.CheckRefusal.{IsOfShape}
 use Rattle.lsm_version.specs.FileNumbers.{AreDistinct, file_numbers, numbers_of}
-use Rattle.lsm_check.specs.Loading.{AreFilesOf, AreInFileOrder, AreLevelsOf}
+use Rattle.lsm_verify.specs.Loading.{AreFilesOf, AreInFileOrder, AreLevelsOf}
 use Rattle.lsm_version.specs.Versions.{Levels, files_from, files_of, level_in}
 use Rattle.lsm_journal.specs.HeldManifest.{HeldManifest}
 use Rattle.lsm_journal.specs.Recorded.{IsFileAt, IsRecorded, meta_of}

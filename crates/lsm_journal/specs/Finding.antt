@@ -7,12 +7,12 @@ use Rattle.lsm_shelf.specs.Refusals.{IsWantOr}
 use Rattle.lsm_shelf.specs.declared.shelf_fault.ShelfFault.{ShelfFault}
 use Rattle.lsm_shelf.specs.Told.{Told, Becomes, Counted, NotNamed, finding, listing}
 use Rattle.lsm_manifest.specs.Shape.{Form}
-use Rattle.lsm_check.specs.CheckFault.{CheckCounted}
-use Rattle.lsm_check.specs.CheckRefusal.{IsOfShape, IsRefusal}
+use Rattle.lsm_verify.specs.CheckFault.{CheckCounted}
+use Rattle.lsm_verify.specs.CheckRefusal.{IsOfShape, IsRefusal}
 use Rattle.lsm_version.specs.FileNumbers.{AreDistinct, numbers_of}
-use Rattle.lsm_check.specs.Settled.{IsSettled, KeepsAge}
+use Rattle.lsm_verify.specs.Settled.{IsSettled, KeepsAge}
 use Rattle.lsm_version.specs.Versions.{IsSound, Levels, files, numbers_in}
-use Rattle.lsm_check.specs.declared.check_fault.CheckFault.{CheckFault}
+use Rattle.lsm_verify.specs.declared.check_fault.CheckFault.{CheckFault}
 use Rattle.lsm_journal.specs.HeldManifest.{HeldManifest}
 use Rattle.lsm_journal.specs.Recorded.{IsRecorded}
 use Rattle.lsm_journal.specs.Recovering.{IsRecovered, IsRecoverRefusal, RecoverCounted}

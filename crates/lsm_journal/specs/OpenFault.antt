@@ -2,7 +2,7 @@
 use Rattle.std.specs.Prelude.{ℕ, List, codes}
 use Rattle.lsm_shelf.specs.ShelfFault as shelf
 use Rattle.lsm_journal.specs.RecoverFault as recover
-use Rattle.lsm_check.specs.CheckFault as check
+use Rattle.lsm_verify.specs.CheckFault as check
 use Rattle.lsm_journal.specs.declared.open_fault.OpenFault.{OpenFault}
 use Rattle.lsm_journal.specs.declared.open_fault.OpenFault.TheVariants.{OutOfMemory, Shelf, Recover, Check, NumbersSpent}
 

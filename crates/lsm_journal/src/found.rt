@@ -2,7 +2,7 @@
 
 ghost use Rattle.std.specs.Prelude.{◌≡◌, ℕ, ◌-◌, ◌^◌, IfErr, IfOk, map};
 ghost use Rattle.lsm_codec.specs.Lists.{Has};
-ghost use Rattle.lsm_check.specs.Counts.{count_of};
+ghost use Rattle.lsm_verify.specs.Counts.{count_of};
 ghost use Rattle.lsm_journal.specs.Finding.{IsAfterManifest, IsFindRefusal, IsFound};
 ghost use Rattle.lsm_journal.specs.Finding.{IsLeastFree, IsReadOnce};
 ghost use Rattle.lsm_journal.specs.Recovering.{IsRecovered};
@@ -14,8 +14,8 @@ use crate::journal::Journal;
 use crate::laws::recovered_is_recorded;
 use crate::open_fault::OpenFault;
 use crate::recover::Recovered;
-use lsm_check::{JudgedTables, Watch, check_by, judge_ahead};
 use lsm_table::{NamedShelf, Naming, Registry, Shelf};
+use lsm_verify::{JudgedTables, Watch, check_by, judge_ahead};
 use lsm_version::Version;
 use std::alloc::Global;
 use std::sync::{Arc, Wait};
@@ -58,7 +58,7 @@ impl<N: Naming, S: Shelf> Found<N, S> {
     /// and lists those that are there. Nothing is written. The limit, in bytes, is that from which
     /// a new manifest is due.
     ///
-    /// The refusals of `Journal::recover`; those of `lsm_check::check`; those of listing the
+    /// The refusals of `Journal::recover`; those of `lsm_verify::check`; those of listing the
     /// tables; then `NumbersSpent` where a table that is listed, or one of the version, or the
     /// manifest has the number 2^64 - 1; `OutOfMemory` on the way.
     pub fn read<R: Wait>(
@@ -82,7 +82,7 @@ impl<N: Naming, S: Shelf> Found<N, S> {
     }
 
     /// The same, by a thread for each of these shelves, forks of this one: they read and judge
-    /// tables before this call comes to them, as `lsm_check::judge_ahead` does, and the watch is
+    /// tables before this call comes to them, as `lsm_verify::judge_ahead` does, and the watch is
     /// told of each. The answer is one that `read` gives.
     pub fn read_by<R: Threads + Wait + Sync, W: Watch + Sync>(
         rt: &R,

@@ -6,7 +6,7 @@ ghost use Rattle.lsm_manifest.specs.EditWriting.{edit_text};
 ghost use Rattle.lsm_table.specs.Registry.{Table};
 ghost use Rattle.lsm_manifest.specs.EditFit.{FitsKey};
 ghost use Rattle.lsm_manifest.specs.Shape.{Form};
-ghost use Rattle.lsm_check.specs.CheckRefusal.{IsOfShape};
+ghost use Rattle.lsm_verify.specs.CheckRefusal.{IsOfShape};
 ghost use Rattle.lsm_version.specs.FileNumbers.{AreDistinct, numbers_of};
 ghost use Rattle.lsm_version.specs.Versions.{IsWhole, Levels};
 ghost use Rattle.lsm_journal.specs.HeldManifest.{HeldManifest};
@@ -16,7 +16,7 @@ ghost use Rattle.lsm_journal.specs.Recovering.{IsRecovered};
 ghost use Rattle.lsm_journal.specs.Sending.{with_front};
 ghost use Rattle.lsm_journal.specs.Writing.{change_edit, record_of};
 
-use lsm_check::shapes_in_order;
+use lsm_verify::shapes_in_order;
 use lsm_version::changed_tables;
 
 /// The manifest that was read records each version of its shape.

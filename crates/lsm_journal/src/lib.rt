@@ -1,7 +1,7 @@
 //! The journal of a database: the manifest that it holds, and what it writes there when the current
 //! version changes.
 //!
-//! Stands on `lsm_version` for versions and their changes, on `lsm_check` for the version of what
+//! Stands on `lsm_version` for versions and their changes, on `lsm_verify` for the version of what
 //! is found, on `lsm_manifest` for the bytes of a manifest, and on `lsm_table` and `lsm_shelf` for
 //! tables and shelves. Its contract: the manifest held records the current version, and what is
 //! held and what the shelf was sent grow alike. `Found` is what every command that opens a database

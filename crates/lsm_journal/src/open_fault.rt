@@ -4,8 +4,8 @@ ghost use Rattle.std.specs.Prelude.{◌≡◌};
 ghost use Rattle.lsm_journal.specs.OpenFault.{name_of, number_of};
 
 use crate::recover_fault::RecoverFault;
-use lsm_check::CheckFault;
 use lsm_table::ShelfFault;
+use lsm_verify::CheckFault;
 use std::alloc::{AllocError, AllocFailed};
 use thiserror::Error;
 

@@ -6,11 +6,11 @@ use Rattle.std.proofs.lemmas.List.{map-append}
 use Rattle.std.proofs.lemmas.List.Sums.{sum_by-append, sum_by-cons}
 use Rattle.lsm_codec.specs.Lists.{Has}
 use Rattle.lsm_table.specs.Registry.{Table}
-use Rattle.lsm_levels.specs.Files.{File}
+use Rattle.lsm_model.specs.Files.{File}
 use Rattle.lsm_version.specs.FileNumbers.{AreDistinct, times}
 use Rattle.lsm_version.specs.Versions.{Levels, files_from, files_of, level_in, numbers_in}
 use Rattle.lsm_merge.specs.Inputs.{numbers_of}
-use Rattle.lsm_choice.specs.TablePlans.{ArePicked}
+use Rattle.lsm_picker.specs.TablePlans.{ArePicked}
 
 -- each file has another number than those after it
 abbrev pub Differ : List File → Type 0

@@ -2,11 +2,11 @@
 use Rattle.std.proofs.Common.{◌≡◌, ℕ, suc, Bool, true, false, map, List, [], ◌∷◌, ◌++◌, sym, ◌∙◌, ap, subst, inl, inr}
 use Rattle.lsm_codec.specs.Lists.{Has}
 use Rattle.lsm_table.specs.Registry.{Table}
-use Rattle.lsm_levels.specs.Files.{File}
-use Rattle.lsm_levels.specs.Jobs.{IsMove}
-use Rattle.lsm_levels.specs.Streams.{NumbersRise}
+use Rattle.lsm_model.specs.Files.{File}
+use Rattle.lsm_model.specs.Jobs.{IsMove}
+use Rattle.lsm_model.specs.Streams.{NumbersRise}
 use Rattle.lsm_version.specs.Versions.{file_of, files_of}
-use Rattle.lsm_levels.specs.Plain.{IsBooked, IsResult}
+use Rattle.lsm_model.specs.Plain.{IsBooked, IsResult}
 use Rattle.lsm_merge.specs.Work.{Done, IsFinished, IsMade, Work, job_of}
 use Rattle.lsm_live.specs.Booked.{AreIncreasing, Booked, live_of}
 use Rattle.lsm_live.specs.Results.{IsLiveResult, outs_of}

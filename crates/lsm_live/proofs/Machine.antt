@@ -3,8 +3,8 @@ use Rattle.std.proofs.Common.{◌≡◌, ℕ, Bool, true, false, ◌==◌, not, 
 use Rattle.std.proofs.lemmas.Bool.{cases_Bool}
 use Rattle.std.proofs.lemmas.List.{map-append}
 use Rattle.lsm_codec.specs.Lists.{Has}
-use Rattle.lsm_levels.specs.Plain.{Live, booking, without_job}
-use Rattle.lsm_levels.specs.Plain as plain
+use Rattle.lsm_model.specs.Plain.{Live, booking, without_job}
+use Rattle.lsm_model.specs.Plain as plain
 use Rattle.lsm_merge.specs.Work.{Work, job_of}
 use Rattle.lsm_live.specs.Booked.{Booked, booked, drawing, live_of, lives_of, new_booked, without}
 

@@ -3,9 +3,9 @@ use Rattle.std.proofs.Common.{◌≡◌, ℕ, suc, map, List, [], ◌∷◌, ◌
 use Rattle.std.proofs.lemmas.List.{map-append}
 use Rattle.lsm_codec.specs.Lists.{Has}
 use Rattle.lsm_table.specs.Registry.{Table}
-use Rattle.lsm_levels.specs.Files.{File}
+use Rattle.lsm_model.specs.Files.{File}
 use Rattle.lsm_version.specs.Versions.{files_of}
-use Rattle.lsm_choice.specs.Reservations.{Reserved, reserved_of}
+use Rattle.lsm_picker.specs.Reservations.{Reserved, reserved_of}
 use Rattle.lsm_merge.specs.Work.{Work, job_of}
 use Rattle.lsm_live.specs.Booked.{Booked}
 use Rattle.lsm_live.specs.Reserving.{reserved_jobs}

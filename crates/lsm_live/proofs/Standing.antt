@@ -16,15 +16,15 @@ use Rattle.lsm_table.specs.Registry.{Table}
 use Rattle.lsm_table.specs.HeldTable.{entries_in}
 use Rattle.lsm_manifest.specs.FileOrder.{TableFile, packed_part, user_part}
 use Rattle.lsm_manifest.proofs.CallerLemmas.{order_is}
-use Rattle.lsm_levels.specs.Files.{Before, File, InOrder, IsAhead, IsLawful, Shallower, all_entries}
-use Rattle.lsm_levels.specs.Ranges.{KeyLe, key_le}
-use Rattle.lsm_levels.specs.Streams.{IsAscending}
-use Rattle.lsm_levels.proofs.CallerLemmas.{all_has, ascending_sorted, before_not_first, before_says, first_is_le, in_order_distinct, linked_in}
+use Rattle.lsm_model.specs.Files.{Before, File, InOrder, IsAhead, IsLawful, Shallower, all_entries}
+use Rattle.lsm_model.specs.Ranges.{KeyLe, key_le}
+use Rattle.lsm_model.specs.Streams.{IsAscending}
+use Rattle.lsm_model.proofs.CallerLemmas.{all_has, ascending_sorted, before_not_first, before_says, first_is_le, in_order_distinct, linked_in}
 use Rattle.lsm_version.specs.FileNumbers.{AreDistinct}
 use Rattle.lsm_version.specs.Versions.{AreInOrder, IsSound, IsWhole, Levels, file_of, files, files_of, level_in, numbers_in, stands_before}
 use Rattle.lsm_merge.specs.InputOrder.{AreTwins, HasTwins, StandInOrder}
 use Rattle.lsm_merge.specs.Work.{Work, job_of}
-use Rattle.lsm_choice.specs.TablePlans.{ArePicked, IsPlanFrom, TablePlan}
+use Rattle.lsm_picker.specs.TablePlans.{ArePicked, IsPlanFrom, TablePlan}
 use Rattle.lsm_live.specs.Planned.{IsWorkOf}
 use Rattle.lsm_live.proofs.Alone.{Differ, differ_left, differ_right, inputs_differ}
 

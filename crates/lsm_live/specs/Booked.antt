@@ -2,7 +2,7 @@
 use Rattle.std.specs.Prelude.{◌≡◌, ℕ, ◌<◌, List, [], ◌∷◌, ◌++◌, map, not, ◌==◌, if◌then◌else◌}
 use Rattle.std.specs.List.{filter, flat_map}
 use Rattle.lsm_codec.specs.Lists.{Has}
-use Rattle.lsm_levels.specs.Plain.{Live}
+use Rattle.lsm_model.specs.Plain.{Live}
 use Rattle.lsm_merge.specs.Work.{Work, job_of}
 
 -- a live job, with the numbers that were drawn for its outputs, the latest last

@@ -1,6 +1,6 @@
 -- Jobs of plans.
 use Rattle.std.specs.Prelude.{◌≡◌}
-use Rattle.lsm_choice.specs.TablePlans.{TablePlan}
+use Rattle.lsm_picker.specs.TablePlans.{TablePlan}
 use Rattle.lsm_merge.specs.Work.{Work}
 
 -- the job has the plan's tables, at the plan's level

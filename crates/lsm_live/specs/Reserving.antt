@@ -1,6 +1,6 @@
 -- What a choice has to know of the live jobs.
 use Rattle.std.specs.Prelude.{List, map}
-use Rattle.lsm_choice.specs.Reservations.{Reserved, reserved_of}
+use Rattle.lsm_picker.specs.Reservations.{Reserved, reserved_of}
 use Rattle.lsm_merge.specs.Work.{job_of}
 use Rattle.lsm_live.specs.Booked.{Booked}
 

@@ -1,7 +1,7 @@
 -- When the result of a job is not stale (this project's rule).
 use Rattle.std.specs.Prelude.{◌≡◌, ℕ, suc, List}
 use Rattle.lsm_codec.specs.Lists.{Has}
-use Rattle.lsm_levels.specs.Files.{File}
+use Rattle.lsm_model.specs.Files.{File}
 use Rattle.lsm_version.specs.Versions.{files_of}
 use Rattle.lsm_merge.specs.Work.{Done}
 use Rattle.lsm_live.specs.Booked.{AreIncreasing, Booked}

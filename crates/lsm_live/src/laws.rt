@@ -2,11 +2,11 @@
 
 ghost use Rattle.std.specs.Prelude.{◌≡◌, ℕ, List, [], ◌∷◌, ◌++◌};
 ghost use Rattle.lsm_codec.specs.Lists.{Has};
-ghost use Rattle.lsm_levels.specs.Files.{File, all_entries};
+ghost use Rattle.lsm_model.specs.Files.{File, all_entries};
 ghost use Rattle.lsm_version.specs.FileNumbers.{AreDistinct};
 ghost use Rattle.lsm_version.specs.Versions.{AreInOrder, IsSound, Levels, numbers_in};
-ghost use Rattle.lsm_choice.specs.TablePlans.{IsPlanFrom, TablePlan};
-ghost use Rattle.lsm_levels.specs.Plain.{IsBooked, IsResult, booking, without_job};
+ghost use Rattle.lsm_picker.specs.TablePlans.{IsPlanFrom, TablePlan};
+ghost use Rattle.lsm_model.specs.Plain.{IsBooked, IsResult, booking, without_job};
 ghost use Rattle.lsm_merge.specs.Work.{Done, IsFinished, Work, job_of};
 ghost use Rattle.lsm_live.specs.Booked.{Booked, booked, live_of, lives_of, new_booked, without};
 ghost use Rattle.lsm_merge.specs.InputOrder.{HasTwins, StandInOrder};

@@ -1,14 +1,14 @@
 //! The live jobs as a choice has to know them.
 
 ghost use Rattle.std.specs.Prelude.{◌≡◌, ◌++◌, map, IfOk, OnOk};
-ghost use Rattle.lsm_choice.specs.Reservations.{reserved_of};
+ghost use Rattle.lsm_picker.specs.Reservations.{reserved_of};
 ghost use Rattle.lsm_merge.specs.Work.{job_of};
 ghost use Rattle.lsm_live.specs.Reserving.{reserved_jobs};
 
 use crate::live_jobs::LiveJobs;
-use lsm_choice::Reservation;
 use lsm_codec::{Bytes, List};
 use lsm_merge::Job;
+use lsm_picker::Reservation;
 use lsm_table::{Naming, Registry, Shelf, TableRef};
 use std::alloc::{AllocError, Global};
 

@@ -8,9 +8,9 @@ use Rattle.lsm_codec.proofs.CallerLemmas.{take-key_bytes}
 use Rattle.lsm_table.specs.Registry.{Table}
 use Rattle.lsm_table.specs.HeldTable.{entries_in}
 use Rattle.lsm_table.specs.declared.table_options.TableOptions.{TableOptions}
-use Rattle.lsm_levels.specs.Files.{File, all_entries}
-use Rattle.lsm_levels.specs.Kept.{kept_entries}
-use Rattle.lsm_levels.specs.Streams.{CutAtKeys, Ends, IsCut, NumbersRise}
+use Rattle.lsm_model.specs.Files.{File, all_entries}
+use Rattle.lsm_model.specs.Kept.{kept_entries}
+use Rattle.lsm_model.specs.Streams.{CutAtKeys, Ends, IsCut, NumbersRise}
 use Rattle.lsm_version.specs.Versions.{IsWhole, file_of, files_of, user_of}
 use Rattle.lsm_merge.specs.Compacting.{AreMergedOf}
 use Rattle.lsm_merge.specs.Cuts.{AreRightCuts, IsCutBy}

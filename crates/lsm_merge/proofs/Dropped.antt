@@ -8,9 +8,9 @@ use Rattle.std.proofs.lemmas.Cmp.{nat_list_cmp_total, nat_cmp_total, on_total, t
 use Rattle.lsm_codec.specs.Lists.{Has}
 use Rattle.lsm_codec.specs.Keys.{InternalKey, UserKey, key_cmp, packed}
 use Rattle.lsm_codec.specs.Entries.{Entry, entry_cmp, internal_key}
-use Rattle.lsm_levels.specs.Files.{Before}
-use Rattle.lsm_levels.specs.Kept.{kept_entries}
-use Rattle.lsm_levels.specs.Streams.{IsAscending, streamed}
+use Rattle.lsm_model.specs.Files.{Before}
+use Rattle.lsm_model.specs.Kept.{kept_entries}
+use Rattle.lsm_model.specs.Streams.{IsAscending, streamed}
 use Rattle.lsm_merge.specs.Cuts.{closes, cut_on, cut, is_empty, IsCutBy}
 use Rattle.lsm_merge.specs.Dropping.{AscendingAfter, Follows, IsMerged, Making, closed, follows, is_kept, placed, shut, with_entry}
 use Rattle.lsm_merge.specs.Remembered.{bare}

@@ -13,11 +13,11 @@ use Rattle.lsm_table.specs.ReadFault.{ReadCounted, IsMemoryOrShelf}
 use Rattle.lsm_table.specs.declared.table_fault.TableFault.TheVariants as table
 use Rattle.lsm_table.specs.declared.read_fault.ReadFault.{ReadFault}
 use Rattle.lsm_table.specs.declared.read_fault.ReadFault.TheVariants as read
-use Rattle.lsm_levels.specs.Files.{File, all_entries}
-use Rattle.lsm_levels.specs.Merging.{AreOrdered, IsOrdered, IsSorted, Placed, entries_of, placed_at, merge_all}
-use Rattle.lsm_levels.specs.Streams.{IsAscending, IsMerge}
-use Rattle.lsm_levels.proofs.CallerLemmas.{ascending_sorted, entry_placed, placed_entry, sorted_ordered}
-use Rattle.lsm_merger.specs.Runs.{HasEntries, Left, files_at}
+use Rattle.lsm_model.specs.Files.{File, all_entries}
+use Rattle.lsm_model.specs.Merging.{AreOrdered, IsOrdered, IsSorted, Placed, entries_of, placed_at, merge_all}
+use Rattle.lsm_model.specs.Streams.{IsAscending, IsMerge}
+use Rattle.lsm_model.proofs.CallerLemmas.{ascending_sorted, entry_placed, placed_entry, sorted_ordered}
+use Rattle.lsm_iterators.specs.Runs.{HasEntries, Left, files_at}
 use Rattle.lsm_version.specs.Versions.{IsWhole, files_of}
 use Rattle.lsm_merge.specs.declared.merge_fault.InputFault.TheVariants.{Read, OutOfOrder}
 use Rattle.lsm_merge.specs.declared.merge_fault.OutputFault.TheVariants.{TooLarge, Shelf}

@@ -11,7 +11,7 @@ use Rattle.lsm_block.specs.declared.build_fault.BuildFault.{BuildFault}
 use Rattle.lsm_block.specs.declared.build_fault.BuildFault.TheVariants as build
 use Rattle.lsm_table.specs.TableBuilding.{PassesLimit, groups_by, index_block}
 use Rattle.lsm_table.specs.declared.table_options.TableOptions.{TableOptions}
-use Rattle.lsm_levels.specs.Streams.{streamed}
+use Rattle.lsm_model.specs.Streams.{streamed}
 use Rattle.lsm_merge.specs.declared.merge_fault.InputFault.TheVariants.{Read, OutOfOrder}
 use Rattle.lsm_merge.specs.declared.merge_fault.MergeFault.{MergeFault}
 use Rattle.lsm_merge.specs.declared.merge_fault.MergeFault.TheVariants.{OutOfMemory, ReadFailed, PutFailed, UnknownTicket, NumbersSpent}

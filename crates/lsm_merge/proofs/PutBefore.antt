@@ -14,12 +14,12 @@ use Rattle.lsm_table.specs.HeldTable.{entries_in}
 use Rattle.lsm_table.specs.Table.{IsImage}
 use Rattle.lsm_table.specs.TableBuilding.{table_bytes}
 use Rattle.lsm_table.specs.declared.table_options.TableOptions.{TableOptions}
-use Rattle.lsm_levels.specs.Files.{Before, all_entries}
-use Rattle.lsm_levels.specs.Kept.{kept_entries}
-use Rattle.lsm_levels.specs.Merging.{Placed, entries_of}
-use Rattle.lsm_levels.specs.Streams.{IsAscending, IsMerge, streamed}
-use Rattle.lsm_merger.specs.Heads.{no_more}
-use Rattle.lsm_merger.specs.Runs.{Left}
+use Rattle.lsm_model.specs.Files.{Before, all_entries}
+use Rattle.lsm_model.specs.Kept.{kept_entries}
+use Rattle.lsm_model.specs.Merging.{Placed, entries_of}
+use Rattle.lsm_model.specs.Streams.{IsAscending, IsMerge, streamed}
+use Rattle.lsm_iterators.specs.Heads.{no_more}
+use Rattle.lsm_iterators.specs.Runs.{Left}
 use Rattle.lsm_version.specs.Versions.{IsWhole}
 use Rattle.lsm_merge.specs.Compacting.{nothing_of}
 use Rattle.lsm_merge.specs.Cuts.{IsCutBy, closes, cut, cut_on, is_empty}

@@ -4,9 +4,9 @@ use Rattle.std.specs.Prelude.{Result, Ok, Err, OnOk}
 use Rattle.lsm_codec.specs.Keys.{InternalKey, UserKey}
 use Rattle.lsm_codec.specs.Entries.{Entry, internal_key}
 use Rattle.lsm_block.specs.Block.{entry_of}
-use Rattle.lsm_levels.specs.Merging.{Placed}
-use Rattle.lsm_merger.specs.Heads.{after_first, first_of, key_in, value_in}
-use Rattle.lsm_merger.specs.Runs.{Left}
+use Rattle.lsm_model.specs.Merging.{Placed}
+use Rattle.lsm_iterators.specs.Heads.{after_first, first_of, key_in, value_in}
+use Rattle.lsm_iterators.specs.Runs.{Left}
 use Rattle.lsm_merge.specs.Dropping.{Follows, is_kept, placed}
 use Rattle.lsm_merge.specs.Inputs.{Stepped}
 use Rattle.lsm_merge.specs.Outputs.{Goes, Made, making_of}

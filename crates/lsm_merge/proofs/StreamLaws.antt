@@ -8,10 +8,10 @@ use Rattle.lsm_codec.specs.declared.kind.Kind.{Kind}
 use Rattle.lsm_codec.specs.Keys.{InternalKey, UserKey, packed, packed_of, then_by}
 use Rattle.lsm_codec.specs.Entries.{internal_key}
 use Rattle.lsm_block.specs.Block.{entry_of}
-use Rattle.lsm_levels.specs.Merging.{Placed}
-use Rattle.lsm_levels.specs.Streams.{is_shadowed}
-use Rattle.lsm_merger.specs.Heads.{first_of, key_in}
-use Rattle.lsm_merger.specs.Walks.{order_first, passed_by}
+use Rattle.lsm_model.specs.Merging.{Placed}
+use Rattle.lsm_model.specs.Streams.{is_shadowed}
+use Rattle.lsm_iterators.specs.Heads.{first_of, key_in}
+use Rattle.lsm_iterators.specs.Walks.{order_first, passed_by}
 use Rattle.lsm_merge.specs.Dropping.{follows}
 use Rattle.lsm_merge.specs.Remembered.{entry_passed, order_to}
 

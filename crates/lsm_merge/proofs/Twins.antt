@@ -10,10 +10,10 @@ use Rattle.lsm_codec.specs.Lists.{Has}
 use Rattle.lsm_codec.specs.Entries.{Entry, entry_cmp, internal_key, stamp}
 use Rattle.lsm_codec.specs.Keys.{UserKey, UserLe, then_by}
 use Rattle.lsm_codec.proofs.CallerLemmas.{key_cmp-swapped, user_le_antisym}
-use Rattle.lsm_levels.specs.Files.{Before}
-use Rattle.lsm_levels.specs.Merging.{AreOrdered, IsOrdered, IsSorted, Placed, entries_of, goes_first, is_alike, merge_all}
-use Rattle.lsm_levels.specs.Streams.{IsAscending}
-use Rattle.lsm_levels.proofs.CallerLemmas.{before_not_first, entry_placed, first_says, first_trans, placed_entry}
+use Rattle.lsm_model.specs.Files.{Before}
+use Rattle.lsm_model.specs.Merging.{AreOrdered, IsOrdered, IsSorted, Placed, entries_of, goes_first, is_alike, merge_all}
+use Rattle.lsm_model.specs.Streams.{IsAscending}
+use Rattle.lsm_model.proofs.CallerLemmas.{before_not_first, entry_placed, first_says, first_trans, placed_entry}
 use Rattle.lsm_merge.specs.InputOrder.{AreTwins, HasTwins}
 
 -- each of two may be handed out before the other one only where they are twins

@@ -3,11 +3,11 @@ use Rattle.std.proofs.Common.{◌≡◌, ℕ, true, false, cond, List, [], ◌�
 use Rattle.lsm_codec.specs.Lists.{Has}
 use Rattle.lsm_codec.specs.Entries.{Entry}
 use Rattle.lsm_shelf.specs.Told.{Told}
-use Rattle.lsm_levels.specs.Files.{all_entries}
-use Rattle.lsm_levels.specs.Merging.{Placed, entries_of}
-use Rattle.lsm_levels.specs.Streams.{IsAscending, IsMerge}
-use Rattle.lsm_merger.specs.Heads.{no_more}
-use Rattle.lsm_merger.specs.Runs.{Left, ReadsNoOther}
+use Rattle.lsm_model.specs.Files.{all_entries}
+use Rattle.lsm_model.specs.Merging.{Placed, entries_of}
+use Rattle.lsm_model.specs.Streams.{IsAscending, IsMerge}
+use Rattle.lsm_iterators.specs.Heads.{no_more}
+use Rattle.lsm_iterators.specs.Runs.{Left, ReadsNoOther}
 use Rattle.lsm_merge.specs.declared.merge_fault.InputFault.TheVariants.{Read, OutOfOrder}
 use Rattle.lsm_merge.specs.declared.merge_fault.MergeFault.{MergeFault}
 use Rattle.lsm_merge.specs.declared.merge_fault.MergeFault.TheVariants.{OutOfMemory, ReadFailed, PutFailed, UnknownTicket, NumbersSpent}

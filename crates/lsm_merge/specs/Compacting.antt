@@ -2,8 +2,8 @@
 use Rattle.std.specs.Prelude.{List, [], None}
 use Rattle.lsm_codec.specs.Entries.{Entry}
 use Rattle.lsm_table.specs.Registry.{Table}
-use Rattle.lsm_levels.specs.Files.{all_entries}
-use Rattle.lsm_levels.specs.Streams.{IsMerge}
+use Rattle.lsm_model.specs.Files.{all_entries}
+use Rattle.lsm_model.specs.Streams.{IsMerge}
 use Rattle.lsm_merge.specs.Dropping.{IsMerged}
 use Rattle.lsm_merge.specs.Outputs.{Made}
 use Rattle.lsm_merge.specs.Work.{Work, contents_of, finished, job_of}

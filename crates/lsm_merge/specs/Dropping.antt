@@ -5,9 +5,9 @@ use Rattle.lsm_codec.specs.Lists.{Has}
 use Rattle.lsm_codec.specs.Keys.{InternalKey, UserKey, key_cmp}
 use Rattle.lsm_codec.specs.Entries.{Entry, internal_key}
 use Rattle.lsm_block.specs.Building.{last_key}
-use Rattle.lsm_levels.specs.Files.{Before}
-use Rattle.lsm_levels.specs.Kept.{is_void, kept_entries}
-use Rattle.lsm_levels.specs.Streams.{IsAscending, is_shadowed}
+use Rattle.lsm_model.specs.Files.{Before}
+use Rattle.lsm_model.specs.Kept.{is_void, kept_entries}
+use Rattle.lsm_model.specs.Streams.{IsAscending, is_shadowed}
 use Rattle.lsm_merge.specs.Cuts.{closes, is_empty, IsCutBy}
 
 -- whether the entry is kept after the one before it

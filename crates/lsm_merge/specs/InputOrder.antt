@@ -2,8 +2,8 @@
 use Rattle.std.specs.Prelude.{◌≡◌, suc, ◌≤◌, ◌⊎◌, List, [], ◌∷◌}
 use Rattle.lsm_codec.specs.Lists.{Has}
 use Rattle.lsm_codec.specs.Entries.{Entry, stamp}
-use Rattle.lsm_levels.specs.Files.{all_entries}
-use Rattle.lsm_levels.specs.Merging.{IsSorted}
+use Rattle.lsm_model.specs.Files.{all_entries}
+use Rattle.lsm_model.specs.Merging.{IsSorted}
 use Rattle.lsm_version.specs.Versions.{files_of}
 use Rattle.lsm_merge.specs.Work.{Work}
 

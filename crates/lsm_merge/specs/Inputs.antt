@@ -5,8 +5,8 @@ use Rattle.lsm_codec.specs.Lists.{Has}
 use Rattle.lsm_codec.specs.Entries.{Entry}
 use Rattle.lsm_table.specs.Registry.{Table, image_of}
 use Rattle.lsm_table.specs.declared.read_fault.ReadFault.TheVariants as read
-use Rattle.lsm_levels.specs.Merging.{Placed, entries_of}
-use Rattle.lsm_merger.specs.Runs.{Left, entries_of_all}
+use Rattle.lsm_model.specs.Merging.{Placed, entries_of}
+use Rattle.lsm_iterators.specs.Runs.{Left, entries_of_all}
 use Rattle.lsm_merge.specs.declared.merge_fault.InputFault.TheVariants.{Read, OutOfOrder}
 use Rattle.lsm_merge.specs.declared.merge_fault.MergeFault.{MergeFault}
 use Rattle.lsm_merge.specs.declared.merge_fault.MergeFault.TheVariants.{OutOfMemory, ReadFailed, PutFailed, UnknownTicket, NumbersSpent}

@@ -6,8 +6,8 @@ use Rattle.lsm_codec.specs.Entries.{Entry}
 use Rattle.lsm_shelf.specs.Told.{Told, Becomes, putting}
 use Rattle.lsm_table.specs.Registry.{Table}
 use Rattle.lsm_table.specs.declared.table_options.TableOptions.{TableOptions}
-use Rattle.lsm_levels.specs.Files.{all_entries}
-use Rattle.lsm_levels.specs.Streams.{IsMerge}
+use Rattle.lsm_model.specs.Files.{all_entries}
+use Rattle.lsm_model.specs.Streams.{IsMerge}
 use Rattle.lsm_version.specs.Versions.{IsWhole}
 use Rattle.lsm_merge.specs.Cuts.{closes}
 use Rattle.lsm_merge.specs.Dropping.{IsMerged}

@@ -6,7 +6,7 @@ use Rattle.std.specs.Cmp.Lexicographic.{slice_cmp}
 use Rattle.lsm_codec.specs.declared.kind.Kind.{Kind}
 use Rattle.lsm_codec.specs.Keys.{UserKey}
 use Rattle.lsm_codec.specs.Entries.{Entry}
-use Rattle.lsm_merger.specs.Runs.{Left}
+use Rattle.lsm_iterators.specs.Runs.{Left}
 
 -- what is left of the inputs, and the entry before, if there is one
 pub record Streaming : Type 0 where

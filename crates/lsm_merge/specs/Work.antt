@@ -8,11 +8,11 @@ use Rattle.lsm_table.specs.HeldTable.{entries_in}
 use Rattle.lsm_table.specs.Options.{AreInRange}
 use Rattle.lsm_table.specs.TableBuilding.{table_bytes, written_bytes}
 use Rattle.lsm_table.specs.declared.table_options.TableOptions.{TableOptions}
-use Rattle.lsm_levels.specs.Files.{all_entries}
-use Rattle.lsm_levels.specs.Jobs.{Job}
-use Rattle.lsm_levels.specs.Kept.{kept_entries}
-use Rattle.lsm_levels.specs.Plans.{job_from}
-use Rattle.lsm_levels.specs.Streams.{IsMerge, IsCut, NumbersRise}
+use Rattle.lsm_model.specs.Files.{all_entries}
+use Rattle.lsm_model.specs.Jobs.{Job}
+use Rattle.lsm_model.specs.Kept.{kept_entries}
+use Rattle.lsm_model.specs.Plans.{job_from}
+use Rattle.lsm_model.specs.Streams.{IsMerge, IsCut, NumbersRise}
 use Rattle.lsm_version.specs.Versions.{IsWhole, files_of}
 use Rattle.lsm_merge.specs.Cuts.{IsCutBy}
 

@@ -2,10 +2,10 @@
 
 ghost use Rattle.std.specs.Prelude.{◌≡◌, [], ◌∷◌, ◌++◌, ℕ, List, None, false, true, IfOk, IfErr};
 ghost use Rattle.std.specs.Prelude.{OnErr, OnOk};
-ghost use Rattle.lsm_levels.specs.Files.{all_entries};
-ghost use Rattle.lsm_levels.specs.Merging.{Placed};
-ghost use Rattle.lsm_merger.specs.Heads.{no_more};
-ghost use Rattle.lsm_merger.specs.Runs.{ReadsNoOther};
+ghost use Rattle.lsm_model.specs.Files.{all_entries};
+ghost use Rattle.lsm_model.specs.Merging.{Placed};
+ghost use Rattle.lsm_iterators.specs.Heads.{no_more};
+ghost use Rattle.lsm_iterators.specs.Runs.{ReadsNoOther};
 ghost use Rattle.lsm_shelf.specs.Told.{Becomes};
 ghost use Rattle.lsm_merge.specs.Causes.{AnswersOf, AsksFor, HasCause, Leaves, NamesRefused};
 ghost use Rattle.lsm_merge.specs.Causes.{NamesTicket};
@@ -30,7 +30,7 @@ use crate::merge_fault::{InputFault, MergeFault};
 use crate::number_source::NumberSource;
 use crate::outputs::Outputs;
 use crate::stream::Stream;
-use lsm_levels::laws::streaming_keeps_the_kept;
+use lsm_model::laws::streaming_keeps_the_kept;
 use lsm_table::{NamedShelf, Naming, Registry, Shelf};
 use std::alloc::Global;
 use std::sync::Wait;

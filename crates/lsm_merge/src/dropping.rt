@@ -4,12 +4,12 @@ ghost use Rattle.std.specs.Prelude.{◌≡◌, [], Option};
 ghost use Rattle.lsm_codec.specs.Entries.{Entry};
 ghost use Rattle.lsm_codec.specs.KeyRef.{key_of};
 ghost use Rattle.lsm_block.specs.Block.{entry_of};
-ghost use Rattle.lsm_levels.specs.Kept.{covers, is_void};
-ghost use Rattle.lsm_levels.specs.Streams.{is_shadowed};
+ghost use Rattle.lsm_model.specs.Kept.{covers, is_void};
+ghost use Rattle.lsm_model.specs.Streams.{is_shadowed};
 ghost use Rattle.lsm_merge.specs.Dropping.{is_kept};
 
 use lsm_codec::{Bytes, KeyRef, Kind};
-use lsm_levels::is_at_most;
+use lsm_model::is_at_most;
 
 /// Whether one of the ranges has the user key.
 fn covers(ranges: &[(Bytes, Bytes)], user: &[u8]) -> bool

@@ -1,6 +1,6 @@
 //! Jobs, merges and what comes of them.
 //!
-//! Stands on `lsm_version` for the tables of versions and on `lsm_merger` for their merge. Its
+//! Stands on `lsm_version` for the tables of versions and on `lsm_iterators` for their merge. Its
 //! contract: over an honest shelf the outputs of a finished job are just the entries of its inputs
 //! that the drop rule keeps, cut between user keys, and a refused job comes back with the numbers
 //! that were put.

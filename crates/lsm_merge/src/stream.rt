@@ -7,9 +7,9 @@ ghost use Rattle.lsm_codec.specs.KeyRef.{key_of};
 ghost use Rattle.lsm_codec.specs.Keys.{InternalKey, UserKey};
 ghost use Rattle.lsm_codec.specs.declared.kind.Kind.{Kind};
 ghost use Rattle.lsm_block.specs.Block.{entry_of};
-ghost use Rattle.lsm_levels.specs.Streams.{is_shadowed};
-ghost use Rattle.lsm_merger.specs.Heads.{after_first, first_of, key_in, no_more, value_in};
-ghost use Rattle.lsm_merger.specs.Runs.{IsOfFirst, ReadsNoOther};
+ghost use Rattle.lsm_model.specs.Streams.{is_shadowed};
+ghost use Rattle.lsm_iterators.specs.Heads.{after_first, first_of, key_in, no_more, value_in};
+ghost use Rattle.lsm_iterators.specs.Runs.{IsOfFirst, ReadsNoOther};
 ghost use Rattle.lsm_shelf.specs.Told.{Becomes};
 ghost use Rattle.lsm_table.specs.declared.table_options.TableOptions.{TableOptions};
 ghost use Rattle.lsm_merge.specs.Causes.{HasCause, NamesRefused};
@@ -19,7 +19,7 @@ ghost use Rattle.lsm_merge.specs.Remembered.{entry_passed, order_to};
 
 use crate::merge_fault::MergeFault;
 use lsm_codec::{KeyRef, Kind};
-use lsm_merger::{Merger, Walk};
+use lsm_iterators::{Merger, Walk};
 use lsm_reader::Direct;
 use lsm_table::{NamedShelf, Naming, Shelf};
 use std::alloc::Global;
@@ -42,8 +42,8 @@ pub(crate) struct Stream<N: Naming, S: Shelf> {
 
 impl<N: Naming, S: Shelf> Model for Stream<N, S> {
     ghost use Rattle.std.specs.Prelude.{◌≡◌, ◌<◌, ◌^◌};
-    ghost use Rattle.lsm_merger.specs.Heads.{first_of};
-    ghost use Rattle.lsm_merger.specs.Walks.{order_first};
+    ghost use Rattle.lsm_iterators.specs.Heads.{first_of};
+    ghost use Rattle.lsm_iterators.specs.Walks.{order_first};
     ghost use Rattle.lsm_merge.specs.Remembered.{Streaming, entry_passed};
 
     ghost Value = { Streaming };

@@ -1,14 +1,14 @@
 -- What each command is to the plain machine, and to the history.
 use Rattle.std.proofs.Common.{◌≡◌, ℕ, suc, ◌+◌, ◌≤◌, Bool, true, false, cond, List, [], ◌∷◌, ◌++◌, refl, sym, ◌∙◌, ap, subst, inl, inr, arith}
 use Rattle.lsm_codec.specs.Entries.{Entry}
-use Rattle.lsm_levels.specs.Plain.{Plain}
-use Rattle.lsm_levels.specs.Runs.{Event, Ingest, Snapshot, Release, Reserve, Cancel, Draw, Install, Spend, Nothing, Run, ingested}
+use Rattle.lsm_model.specs.Plain.{Plain}
+use Rattle.lsm_model.specs.Runs.{Event, Ingest, Snapshot, Release, Reserve, Cancel, Draw, Install, Spend, Nothing, Run, ingested}
 use Rattle.lsm_shelf.specs.Told.{Told}
 use Rattle.lsm_version.specs.Versions.{files}
 use Rattle.lsm_batch.specs.declared.write.Write.{Write}
 use Rattle.lsm_slots.specs.Slots.{Slotted}
 use Rattle.lsm_merge.specs.Work.{Done, Work, job_of}
-use Rattle.lsm_choice.specs.TablePlans.{plan_of}
+use Rattle.lsm_picker.specs.TablePlans.{plan_of}
 use Rattle.lsm_live.specs.Booked.{without}
 use Rattle.lsm_live.proofs.CallerLemmas.{lives_booked, lives_without}
 use Rattle.lsm_journal.specs.HeldManifest.{is_at_limit}

@@ -4,11 +4,11 @@ use Rattle.std.specs.Prelude.{MatchBool}
 use Rattle.lsm_codec.specs.Entries.{answer}
 use Rattle.lsm_codec.specs.Keys.{UserKey}
 use Rattle.lsm_codec.specs.Lists.{Has}
-use Rattle.lsm_levels.specs.Files.{all_entries}
-use Rattle.lsm_levels.specs.Law.{Law}
-use Rattle.lsm_levels.specs.Plain.{IsReadable, Plain, without_snapshot}
-use Rattle.lsm_levels.specs.Runs.{Event, Ingest, Snapshot, Release, Install, Spend, ReadsAs, Run, ingested}
-use Rattle.lsm_levels.proofs.CallerLemmas.{run_law}
+use Rattle.lsm_model.specs.Files.{all_entries}
+use Rattle.lsm_model.specs.Law.{Law}
+use Rattle.lsm_model.specs.Plain.{IsReadable, Plain, without_snapshot}
+use Rattle.lsm_model.specs.Runs.{Event, Ingest, Snapshot, Release, Install, Spend, ReadsAs, Run, ingested}
+use Rattle.lsm_model.proofs.CallerLemmas.{run_law}
 use Rattle.lsm_shelf.specs.Told.{Told}
 use Rattle.lsm_table.specs.Registry.{Table}
 use Rattle.lsm_version.specs.Changes.{changed}

@@ -4,9 +4,9 @@ use Rattle.std.specs.Prelude.{◌≡◌, ◌⊎◌, ℕ, suc, ◌+◌, ◌^◌, 
 use Rattle.lsm_codec.specs.Entries.{Entry, answer}
 use Rattle.lsm_codec.specs.Keys.{UserKey}
 use Rattle.lsm_codec.specs.Lists.{Has}
-use Rattle.lsm_levels.specs.Files.{all_entries}
+use Rattle.lsm_model.specs.Files.{all_entries}
 use Rattle.lsm_version.specs.Versions.{files}
-use Rattle.lsm_levels.specs.Plain.{IsReadable, without_snapshot}
+use Rattle.lsm_model.specs.Plain.{IsReadable, without_snapshot}
 use Rattle.lsm_table.specs.declared.table_options.TableOptions.{TableOptions}
 use Rattle.lsm_batch.specs.Batches.{IsBatch, IsBatchRefusal, entries_from}
 use Rattle.lsm_batch.specs.Images.{PassesTable}

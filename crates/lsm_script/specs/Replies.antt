@@ -4,14 +4,14 @@ use Rattle.std.specs.Prelude.{◌≡◌, ℕ, suc, ◌+◌, ◌-◌, ◌^◌, �
 use Rattle.lsm_codec.specs.Entries.{answer}
 use Rattle.lsm_codec.specs.Keys.{UserKey}
 use Rattle.lsm_codec.specs.Lists.{Has}
-use Rattle.lsm_levels.specs.Files.{all_entries}
+use Rattle.lsm_model.specs.Files.{all_entries}
 use Rattle.lsm_shelf.specs.Told.{Told, Becomes}
 use Rattle.lsm_version.specs.Versions.{files}
-use Rattle.lsm_choice.specs.Choice.{HasNoChoice}
-use Rattle.lsm_choice.specs.Moves.{IsMovable}
-use Rattle.lsm_choice.specs.Reservations.{IsClear}
-use Rattle.lsm_choice.specs.TablePlans.{tables_over}
-use Rattle.lsm_levels.specs.Plain as machine
+use Rattle.lsm_picker.specs.Choice.{HasNoChoice}
+use Rattle.lsm_picker.specs.Moves.{IsMovable}
+use Rattle.lsm_picker.specs.Reservations.{IsClear}
+use Rattle.lsm_picker.specs.TablePlans.{tables_over}
+use Rattle.lsm_model.specs.Plain as machine
 use Rattle.lsm_batch.specs.declared.write.Write.{Write}
 use Rattle.lsm_slots.specs.Slots.{Epoch, HasEpoch, IsPinned, PinsMove, current_id, current_slot}
 use Rattle.lsm_slots.specs.Snapshots.{HasId}

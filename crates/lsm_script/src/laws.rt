@@ -9,7 +9,7 @@ ghost use Rattle.lsm_script.specs.declared.command.Command.{Command};
 ghost use Rattle.lsm_script.specs.declared.reply.Reply.{Reply};
 ghost use Rattle.lsm_script.specs.CommandLine.{IsScript};
 
-use lsm_levels::machine::runs_read_all_that_came;
+use lsm_model::machine::runs_read_all_that_came;
 use lsm_slots::Boarded;
 use lsm_state::State;
 use lsm_table::Shelf;

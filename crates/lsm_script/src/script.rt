@@ -11,7 +11,7 @@ use crate::command::Command;
 use crate::desk::Desk;
 use crate::reply::Reply;
 use lsm_codec::List;
-use lsm_levels::machine::runs_read_all_that_came;
+use lsm_model::machine::runs_read_all_that_came;
 use lsm_slots::Boarded;
 use lsm_state::State;
 use lsm_table::{NamedShelf, Shelf};

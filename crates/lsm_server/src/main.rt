@@ -4,8 +4,8 @@
 mod system_descriptors;
 
 use crate::system_descriptors::SystemDescriptors;
+use lsm_channels::serve_opening;
 use lsm_directory::SystemPaths;
-use lsm_serve::serve_opening;
 
 fn main(rt: HostRuntime) {
     let Ok(paths) = rt.clone() else {

@@ -1,6 +1,6 @@
 //! The descriptors of this process.
 
-use lsm_serve::Descriptors;
+use lsm_channels::Descriptors;
 use std::fs;
 
 /// A process has fewer files open than this. Numbers from here on are channels in memory, where the

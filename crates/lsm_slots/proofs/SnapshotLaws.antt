@@ -2,8 +2,8 @@
 use Rattle.std.proofs.Common.{◌≡◌, ℕ, zero, suc, ◌+◌, ◌<◌, ◌≤◌, List, [], ◌∷◌, ◌++◌, length, get_or, take, refl, ap, ◌∙◌, subst, inl, inr, arith}
 use Rattle.std.proofs.lemmas.List.{take_more}
 use Rattle.lsm_codec.specs.Lists.{Has}
-use Rattle.lsm_levels.specs.Plain.{without_snapshot}
-use Rattle.lsm_levels.proofs.CallerLemmas.{left_snapshot, one_more, rising_less, rising_more}
+use Rattle.lsm_model.specs.Plain.{without_snapshot}
+use Rattle.lsm_model.proofs.CallerLemmas.{left_snapshot, one_more, rising_less, rising_more}
 use Rattle.lsm_slots.specs.Snapshots.{AreSnapshots, Taken}
 
 pub snapshots_more : (s : Taken) (seq : ℕ) → AreSnapshots s → ((p : ℕ × ℕ) → Has s.taken p → p.1 ≤ seq) → AreSnapshots record { taken = s.taken ++ (s.next, seq) ∷ []; next = suc s.next }

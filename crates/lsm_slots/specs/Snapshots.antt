@@ -1,7 +1,7 @@
 -- The live snapshots (LevelDB's `db/snapshot.h`).
 use Rattle.std.specs.Prelude.{◌≡◌, ℕ, ◌<◌, List}
 use Rattle.lsm_codec.specs.Lists.{Has}
-use Rattle.lsm_levels.specs.Law.{AreRising}
+use Rattle.lsm_model.specs.Law.{AreRising}
 
 -- ids and sequences, the oldest first, and the id that comes next
 pub record Taken : Type 0 where

@@ -3,7 +3,7 @@
 ghost use Rattle.std.specs.Prelude.{◌≡◌, ℕ, suc, ◌-◌, ◌^◌, ◌<◌, ◌≤◌, ◌↔◌, [], ◌∷◌, ◌++◌, Some};
 ghost use Rattle.std.specs.Prelude.{None, IfOk, IfSome, IfNone, OnErr, IsTrue};
 ghost use Rattle.lsm_codec.specs.Lists.{Has};
-ghost use Rattle.lsm_levels.specs.Plain.{floor_of, without_snapshot};
+ghost use Rattle.lsm_model.specs.Plain.{floor_of, without_snapshot};
 ghost use Rattle.lsm_slots.specs.Snapshots.{AreSnapshots, HasId};
 
 use std::alloc::{AllocError, Global};

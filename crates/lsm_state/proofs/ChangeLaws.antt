@@ -5,15 +5,15 @@ use Rattle.std.proofs.lemmas.Bool.{cases_eq}
 use Rattle.atomic_table.specs.Seated.{TableId}
 use Rattle.lsm_codec.specs.Lists.{Has}
 use Rattle.lsm_codec.specs.Entries.{Entry}
-use Rattle.lsm_levels.specs.Files.{File, IsLawful}
-use Rattle.lsm_levels.proofs.CallerLemmas.{has_all}
+use Rattle.lsm_model.specs.Files.{File, IsLawful}
+use Rattle.lsm_model.proofs.CallerLemmas.{has_all}
 use Rattle.lsm_shelf.specs.Told.{Told}
 use Rattle.lsm_table.specs.Registry.{Table}
 use Rattle.lsm_version.specs.Changes.{changed}
 use Rattle.lsm_version.specs.Versions.{IsSound, IsWhole, Levels, files, numbers_in}
-use Rattle.lsm_levels.specs.Law.{Law}
-use Rattle.lsm_levels.specs.Plain.{Plain, Spends}
-use Rattle.lsm_levels.specs.Runs.{Agrees, Spend}
+use Rattle.lsm_model.specs.Law.{Law}
+use Rattle.lsm_model.specs.Plain.{Plain, Spends}
+use Rattle.lsm_model.specs.Runs.{Agrees, Spend}
 use Rattle.lsm_slots.specs.Slots.{Epoch, Looked, Published, Slotted, numbers_held}
 use Rattle.lsm_slots.proofs.CallerLemmas.{set_else, set_found}
 use Rattle.lsm_live.specs.Booked.{Booked, lives_of}

@@ -10,8 +10,8 @@ use Rattle.std.proofs.lemmas.List.Sorted.{length_permutation}
 use Rattle.lsm_codec.specs.Lists.{Has}
 use Rattle.lsm_codec.specs.Keys.{IsKey}
 use Rattle.lsm_codec.specs.Entries.{Entry, internal_key}
-use Rattle.lsm_levels.specs.Files.{File, Fits, all_entries}
-use Rattle.lsm_levels.proofs.CallerLemmas.{all_has, has_all}
+use Rattle.lsm_model.specs.Files.{File, Fits, all_entries}
+use Rattle.lsm_model.proofs.CallerLemmas.{all_has, has_all}
 use Rattle.lsm_shelf.specs.Told.{Told, Becomes, putting}
 use Rattle.lsm_table.specs.HeldTable.{entries_in}
 use Rattle.lsm_table.specs.Registry.{Table}
@@ -23,10 +23,10 @@ use Rattle.lsm_manifest.specs.Replay.{Deletion}
 use Rattle.lsm_version.specs.Changes.{added_files, changed}
 use Rattle.lsm_version.specs.FileNumbers.{AreDistinct}
 use Rattle.lsm_version.specs.Versions.{IsWhole, Levels, file_of, files, files_from, files_of, level_in}
-use Rattle.lsm_levels.specs.Law.{Law}
-use Rattle.lsm_levels.specs.Plain.{Plain, Spends}
-use Rattle.lsm_levels.specs.Plain as machine
-use Rattle.lsm_levels.specs.Runs.{Agrees, Ingest}
+use Rattle.lsm_model.specs.Law.{Law}
+use Rattle.lsm_model.specs.Plain.{Plain, Spends}
+use Rattle.lsm_model.specs.Plain as machine
+use Rattle.lsm_model.specs.Runs.{Agrees, Ingest}
 use Rattle.lsm_slots.specs.Slots.{Slotted}
 use Rattle.lsm_live.specs.Booked.{Booked}
 use Rattle.lsm_journal.specs.Difference.{Difference, FitsComing, Suits, changed_by}

@@ -13,14 +13,14 @@ use Rattle.lsm_codec.specs.Lists.{Has}
 use Rattle.lsm_codec.proofs.CallerLemmas.{any_at, any_says, contains_from, contains_says, has_cases, has_left, has_right}
 use Rattle.lsm_shelf.specs.Told.{Told}
 use Rattle.lsm_table.specs.Registry.{Table}
-use Rattle.lsm_levels.specs.Files.{File, all_entries}
-use Rattle.lsm_levels.specs.Jobs.{Changed, Shares, is_input}
+use Rattle.lsm_model.specs.Files.{File, all_entries}
+use Rattle.lsm_model.specs.Jobs.{Changed, Shares, is_input}
 use Rattle.lsm_manifest.specs.EditFit.{FitsDeleted, FitsKey}
 use Rattle.lsm_manifest.specs.Replay.{Deletion}
-use Rattle.lsm_levels.specs.Law.{Law}
-use Rattle.lsm_levels.specs.Plain.{Installs, IsReadable, Live, Plain, Spends, without_job}
-use Rattle.lsm_levels.specs.Runs.{Agrees, Install, Run, Spend}
-use Rattle.lsm_levels.proofs.CallerLemmas.{install_same, left_job}
+use Rattle.lsm_model.specs.Law.{Law}
+use Rattle.lsm_model.specs.Plain.{Installs, IsReadable, Live, Plain, Spends, without_job}
+use Rattle.lsm_model.specs.Runs.{Agrees, Install, Run, Spend}
+use Rattle.lsm_model.proofs.CallerLemmas.{install_same, left_job}
 use Rattle.lsm_version.specs.Changes.{added_files, changed}
 use Rattle.lsm_version.specs.FileNumbers.{AreDistinct, times}
 use Rattle.lsm_version.specs.Versions.{IsWhole, Levels, file_of, files, files_of, level_in}

@@ -8,7 +8,7 @@ use Rattle.std.proofs.lemmas.List.{take_all, take_more}
 use Rattle.lsm_codec.specs.Keys.{user_part, packed_part}
 use Rattle.lsm_codec.proofs.CallerLemmas.{has_cases, has_left, has_right}
 use Rattle.lsm_table.specs.Registry.{Table}
-use Rattle.lsm_choice.specs.Choice.{bytes_cmp}
+use Rattle.lsm_picker.specs.Choice.{bytes_cmp}
 use Rattle.lsm_state.specs.LargestKeys.{IsGreaterKey, IsHighestKey, IsUpTo}
 
 bytes_total : IsTotalOrder bytes_cmp

@@ -9,8 +9,8 @@ use Rattle.std.proofs.lemmas.List.Kept.{AllPairs-from_increasing}
 use Rattle.std.proofs.lemmas.List.Sorted.{searched}
 use Rattle.lsm_codec.specs.Lists.{Has}
 use Rattle.lsm_codec.proofs.CallerLemmas.{any_at, any_says, contains_from, contains_says, flat_has, has_cases, has_flat, has_left, has_right}
-use Rattle.lsm_levels.specs.Files.{File}
-use Rattle.lsm_levels.proofs.CallerLemmas.{true_or_not}
+use Rattle.lsm_model.specs.Files.{File}
+use Rattle.lsm_model.proofs.CallerLemmas.{true_or_not}
 use Rattle.lsm_version.specs.Versions.{files, numbers_in}
 use Rattle.lsm_slots.specs.Slots.{Epoch, HasEpoch, Looked, PinsMove, Slotted, numbers_at, numbers_held}
 use Rattle.lsm_slots.proofs.CallerLemmas.{set_else, set_found}

@@ -13,12 +13,12 @@ use Rattle.lsm_shelf.specs.declared.shelf_fault.ShelfFault.{ShelfFault}
 use Rattle.lsm_pins.specs.Known.{Known}
 use Rattle.lsm_pins.specs.Made.{IsNewPinner}
 use Rattle.lsm_pins.specs.declared.view.View.{View}
-use Rattle.lsm_levels.specs.Files.{File, all_entries}
-use Rattle.lsm_levels.proofs.CallerLemmas.{one_each}
+use Rattle.lsm_model.specs.Files.{File, all_entries}
+use Rattle.lsm_model.proofs.CallerLemmas.{one_each}
 use Rattle.lsm_version.specs.FileNumbers.{AreDistinct, times}
 use Rattle.lsm_version.specs.Versions.{IsSound, Levels, files, numbers_in}
-use Rattle.lsm_levels.specs.Law.{Books, Meaning}
-use Rattle.lsm_levels.specs.Runs.{Agrees}
+use Rattle.lsm_model.specs.Law.{Books, Meaning}
+use Rattle.lsm_model.specs.Runs.{Agrees}
 use Rattle.lsm_slots.specs.Slots.{Slotted, first_slots, numbers_held}
 use Rattle.lsm_slots.specs.Snapshots.{Taken}
 use Rattle.lsm_live.specs.Booked.{Booked}

@@ -7,17 +7,17 @@ use Rattle.lsm_codec.specs.Keys.{UserKey}
 use Rattle.lsm_codec.specs.Lists.{Has}
 use Rattle.lsm_codec.proofs.CallerLemmas.{has_cases}
 use Rattle.lsm_table.specs.Registry.{Table}
-use Rattle.lsm_levels.specs.Files.{File, all_entries}
-use Rattle.lsm_levels.specs.Jobs.{Conflicts, Job}
-use Rattle.lsm_levels.specs.Law.{Law}
-use Rattle.lsm_levels.specs.Plain.{Live, Plain}
-use Rattle.lsm_levels.specs.Runs.{Reserve}
+use Rattle.lsm_model.specs.Files.{File, all_entries}
+use Rattle.lsm_model.specs.Jobs.{Conflicts, Job}
+use Rattle.lsm_model.specs.Law.{Law}
+use Rattle.lsm_model.specs.Plain.{Live, Plain}
+use Rattle.lsm_model.specs.Runs.{Reserve}
 use Rattle.lsm_version.specs.FileNumbers.{AreDistinct}
 use Rattle.lsm_version.specs.Versions.{AreInOrder, IsSound, IsWhole, Levels, file_of, files, numbers_in}
-use Rattle.lsm_choice.specs.Choice.{IsChoice}
-use Rattle.lsm_choice.specs.Reservations.{IsClear, IsLeastConflict, Reserved, conflicts, reserved_of}
-use Rattle.lsm_choice.specs.TablePlans.{IsPlanFrom, StandsIn, TablePlan, files_over, plan_of}
-use Rattle.lsm_choice.specs.TablePlans as planned
+use Rattle.lsm_picker.specs.Choice.{IsChoice}
+use Rattle.lsm_picker.specs.Reservations.{IsClear, IsLeastConflict, Reserved, conflicts, reserved_of}
+use Rattle.lsm_picker.specs.TablePlans.{IsPlanFrom, StandsIn, TablePlan, files_over, plan_of}
+use Rattle.lsm_picker.specs.TablePlans as planned
 use Rattle.lsm_merge.specs.InputOrder.{HasTwins, StandInOrder}
 use Rattle.lsm_merge.specs.Work.{MovesOne, Work, job_of}
 use Rattle.lsm_live.specs.Booked.{Booked, live_of, lives_of, new_booked}

@@ -9,11 +9,11 @@ use Rattle.lsm_pins.specs.Known.{Known}
 use Rattle.lsm_pins.specs.Made.{IsNewPinner}
 use Rattle.lsm_pins.specs.declared.view.View.{View}
 use Rattle.lsm_version.specs.Versions.{Levels, files, no_levels}
-use Rattle.lsm_levels.specs.Files.{all_entries}
-use Rattle.lsm_levels.specs.Law.{Law}
-use Rattle.lsm_levels.specs.Plain.{Cancels, Draws, IsReadable, Plain, Releases, TakesSnapshot, created, without_snapshot}
-use Rattle.lsm_levels.specs.Runs.{Agrees, Event, Step, Snapshot, Release, Cancel, Draw, ingested}
-use Rattle.lsm_levels.proofs.CallerLemmas.{step_agrees, step_law}
+use Rattle.lsm_model.specs.Files.{all_entries}
+use Rattle.lsm_model.specs.Law.{Law}
+use Rattle.lsm_model.specs.Plain.{Cancels, Draws, IsReadable, Plain, Releases, TakesSnapshot, created, without_snapshot}
+use Rattle.lsm_model.specs.Runs.{Agrees, Event, Step, Snapshot, Release, Cancel, Draw, ingested}
+use Rattle.lsm_model.proofs.CallerLemmas.{step_agrees, step_law}
 use Rattle.lsm_slots.specs.Slots.{Looked, PinsMove, Slotted, first_slots, numbers_held}
 use Rattle.lsm_slots.specs.Snapshots.{Taken}
 use Rattle.lsm_merge.specs.Work.{Work}

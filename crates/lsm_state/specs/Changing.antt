@@ -6,7 +6,7 @@ use Rattle.lsm_shelf.specs.Told.{Told, CountedBy}
 use Rattle.lsm_shelf.specs.declared.shelf_fault.ShelfFault.{ShelfFault}
 use Rattle.lsm_shelf.specs.declared.shelf_fault.ShelfFault.TheVariants as shelf
 use Rattle.lsm_version.specs.Versions.{files}
-use Rattle.lsm_levels.specs.Plain.{Plain}
+use Rattle.lsm_model.specs.Plain.{Plain}
 use Rattle.lsm_slots.specs.Slots.{AllHeld, IsFreeSlot, Looked, Slotted, Published, current_id, looks_around, looks_of}
 use Rattle.lsm_live.specs.Booked.{Booked, lives_of, without}
 use Rattle.lsm_journal.specs.HeldManifest.{is_at_limit}

@@ -2,7 +2,7 @@
 use Rattle.std.specs.Prelude.{◌≡◌, ℕ, ◌⊎◌, ◌↔◌, Bool, true, false, List, [], ◌∷◌, ◌++◌, map, not, ◌==◌, Err}
 use Rattle.std.specs.List.{filter, list_any}
 use Rattle.lsm_codec.specs.Lists.{Has}
-use Rattle.lsm_levels.specs.Files.{File}
+use Rattle.lsm_model.specs.Files.{File}
 use Rattle.lsm_version.specs.Versions.{files}
 use Rattle.lsm_shelf.specs.Asked.{Asked, Remove}
 use Rattle.lsm_shelf.specs.Told.{Told, Becomes, Counted, CountedBy, NotTaken, listing}

@@ -6,9 +6,9 @@ use Rattle.lsm_codec.specs.Lists.{Has}
 use Rattle.lsm_pins.specs.Known.{Known}
 use Rattle.lsm_table.specs.Registry.{Table}
 use Rattle.lsm_version.specs.Versions.{Levels, files, level_in}
-use Rattle.lsm_levels.specs.Law.{Law}
-use Rattle.lsm_levels.specs.Plain.{Plain}
-use Rattle.lsm_levels.specs.Runs.{Agrees}
+use Rattle.lsm_model.specs.Law.{Law}
+use Rattle.lsm_model.specs.Plain.{Plain}
+use Rattle.lsm_model.specs.Runs.{Agrees}
 use Rattle.lsm_slots.specs.Slots.{Slotted, numbers_held}
 use Rattle.lsm_slots.specs.Snapshots.{Taken}
 use Rattle.lsm_merge.specs.Work.{Work}

@@ -6,15 +6,15 @@ use Rattle.std.specs.Ordering.{is_gt}
 use Rattle.lsm_codec.specs.Entries.{answer}
 use Rattle.lsm_codec.specs.Keys.{UserKey}
 use Rattle.lsm_codec.specs.Lists.{Has}
-use Rattle.lsm_levels.specs.Files.{all_entries}
+use Rattle.lsm_model.specs.Files.{all_entries}
 use Rattle.lsm_shelf.specs.Told.{Told, CountedBy}
 use Rattle.lsm_table.specs.Registry.{Table}
 use Rattle.lsm_manifest.specs.EditWriting.{AreInOrder}
 use Rattle.lsm_manifest.specs.Replay.{Deletion}
-use Rattle.lsm_levels.specs.Plain.{IsReadable}
-use Rattle.lsm_levels.specs.Runs.{Install, Run, Spend}
+use Rattle.lsm_model.specs.Plain.{IsReadable}
+use Rattle.lsm_model.specs.Runs.{Install, Run, Spend}
 use Rattle.lsm_version.specs.Versions.{files}
-use Rattle.lsm_choice.specs.Choice.{bytes_cmp}
+use Rattle.lsm_picker.specs.Choice.{bytes_cmp}
 use Rattle.lsm_slots.specs.Slots.{Slotted}
 use Rattle.lsm_merge.specs.Work.{Done, Work}
 use Rattle.lsm_live.specs.Booked.{Booked}

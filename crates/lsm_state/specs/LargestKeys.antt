@@ -4,7 +4,7 @@ use Rattle.std.specs.Prelude.{ℕ}
 use Rattle.std.specs.Ordering.{is_gt}
 use Rattle.lsm_codec.specs.Lists.{Has}
 use Rattle.lsm_table.specs.Registry.{Table}
-use Rattle.lsm_choice.specs.Choice.{bytes_cmp}
+use Rattle.lsm_picker.specs.Choice.{bytes_cmp}
 
 -- not greater than
 abbrev pub IsUpTo : List ℕ → List ℕ → Type 0

@@ -5,7 +5,7 @@ use Rattle.lsm_shelf.specs.Asked.{Asked}
 use Rattle.lsm_shelf.specs.Refusals.{IsWantOr}
 use Rattle.lsm_shelf.specs.declared.shelf_fault.ShelfFault.{ShelfFault}
 use Rattle.lsm_shelf.specs.Told.{Told, Becomes, Counted, TakenIs}
-use Rattle.lsm_levels.specs.Files.{all_entries}
+use Rattle.lsm_model.specs.Files.{all_entries}
 use Rattle.lsm_version.specs.Versions.{Levels, files}
 use Rattle.lsm_slots.specs.Slots.{first_slots}
 use Rattle.lsm_journal.specs.HeldManifest.{HeldManifest}

@@ -3,14 +3,14 @@
 use Rattle.std.specs.Prelude.{◌≡◌, ℕ, suc, ◌-◌, ◌^◌, ◌<◌, ◌≤◌, true, false, List, [], ◌∷◌, ◌++◌}
 use Rattle.lsm_codec.specs.Keys.{UserKey}
 use Rattle.lsm_codec.specs.Lists.{Has}
-use Rattle.lsm_levels.specs.Files.{all_entries}
-use Rattle.lsm_levels.specs.Plain.{Reserves, floor_of}
-use Rattle.lsm_choice.specs.Choice.{IsChoice}
-use Rattle.lsm_choice.specs.RangesBelow.{AreRangesBelow}
-use Rattle.lsm_choice.specs.Reservations.{IsClear, IsLeastConflict}
-use Rattle.lsm_choice.specs.TablePlans.{IsPlanFrom, StandsIn, TablePlan, files_over, plan_of}
-use Rattle.lsm_choice.specs.declared.plan_fault.PlanFault.{PlanFault}
-use Rattle.lsm_choice.specs.declared.plan_fault.PlanFault.TheVariants as planned
+use Rattle.lsm_model.specs.Files.{all_entries}
+use Rattle.lsm_model.specs.Plain.{Reserves, floor_of}
+use Rattle.lsm_picker.specs.Choice.{IsChoice}
+use Rattle.lsm_picker.specs.RangesBelow.{AreRangesBelow}
+use Rattle.lsm_picker.specs.Reservations.{IsClear, IsLeastConflict}
+use Rattle.lsm_picker.specs.TablePlans.{IsPlanFrom, StandsIn, TablePlan, files_over, plan_of}
+use Rattle.lsm_picker.specs.declared.plan_fault.PlanFault.{PlanFault}
+use Rattle.lsm_picker.specs.declared.plan_fault.PlanFault.TheVariants as planned
 use Rattle.lsm_merge.specs.InputOrder.{HasTwins, StandInOrder}
 use Rattle.lsm_merge.specs.Work.{Work, job_of}
 use Rattle.lsm_live.specs.Booked.{new_booked}
@@ -49,7 +49,7 @@ pub record HasOrderedInputs (w : Work) : Type 0 where
 
 -- the plan is closed, from some starting files
 abbrev pub IsClosedPlan : Held → TablePlan → Type 0
-IsClosedPlan h p = (starts : List Rattle.lsm_levels.specs.Files.File) × IsPlanFrom h.slots.version (Has starts) p
+IsClosedPlan h p = (starts : List Rattle.lsm_model.specs.Files.File) × IsPlanFrom h.slots.version (Has starts) p
 
 -- a refusal of a range plan, as the state answers it
 abbrev pub plan_refusal : PlanFault → StateFault

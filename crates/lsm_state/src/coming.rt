@@ -1,7 +1,7 @@
 //! What comes into the history of a state.
 
 ghost use Rattle.std.specs.Prelude.{◌≡◌, [], ◌∷◌};
-ghost use Rattle.lsm_levels.specs.Files.{all_entries};
+ghost use Rattle.lsm_model.specs.Files.{all_entries};
 ghost use Rattle.lsm_version.specs.Versions.{files};
 ghost use Rattle.lsm_batch.specs.Batches.{entries_from};
 ghost use Rattle.lsm_state.specs.Editions.{edition};
@@ -16,7 +16,7 @@ struct InVersion;
 
 impl<N: Naming, S: Shelf> Recalls<Version<N, S>> for InVersion {
     ghost use Rattle.std.specs.Prelude.{[]};
-    ghost use Rattle.lsm_levels.specs.Files.{all_entries};
+    ghost use Rattle.lsm_model.specs.Files.{all_entries};
     ghost use Rattle.lsm_version.specs.Versions.{files};
 
     ghost entries = { λ v. all_entries (files v) };

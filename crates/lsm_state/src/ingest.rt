@@ -4,10 +4,10 @@ ghost use Rattle.std.specs.Prelude.{◌≡◌, suc, ◌+◌, ◌<◌, ◌^◌, �
 ghost use Rattle.std.specs.Prelude.{◌++◌, OnErr, OnOk};
 ghost use Rattle.lsm_codec.specs.Entries.{Entry};
 ghost use Rattle.lsm_codec.specs.Lists.{Has};
-ghost use Rattle.lsm_levels.specs.Files.{all_entries};
+ghost use Rattle.lsm_model.specs.Files.{all_entries};
 ghost use Rattle.lsm_shelf.specs.Told.{Becomes, putting};
 ghost use Rattle.lsm_version.specs.Versions.{IsWhole, files};
-ghost use Rattle.lsm_levels.specs.Plain as machine;
+ghost use Rattle.lsm_model.specs.Plain as machine;
 ghost use Rattle.lsm_state.specs.Asked.{IngestRefused, OnShelf, PutRefused};
 ghost use Rattle.lsm_state.specs.Collecting.{SameCounts};
 ghost use Rattle.lsm_state.specs.Held.{IsLawfulState, plain};

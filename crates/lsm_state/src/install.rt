@@ -2,7 +2,7 @@
 
 ghost use Rattle.std.specs.Prelude.{◌≡◌, ◌-◌, ◌^◌, ◌<◌, map, IfErr, IfOk, OnErr, OnOk};
 ghost use Rattle.lsm_shelf.specs.Told.{Becomes};
-ghost use Rattle.lsm_levels.specs.Plain.{Spends};
+ghost use Rattle.lsm_model.specs.Plain.{Spends};
 ghost use Rattle.lsm_slots.specs.Slots.{IsFreeSlot, current_id};
 ghost use Rattle.lsm_state.specs.Asked.{InstallRefused, OnShelf};
 ghost use Rattle.lsm_state.specs.Changing.{IsChangeRefusal};

@@ -4,7 +4,7 @@ ghost use Rattle.std.specs.Prelude.{◌≡◌, [], ◌++◌, IfOk, MatchOption, 
 ghost use Rattle.lsm_codec.specs.Lists.{Has};
 ghost use Rattle.lsm_table.specs.Registry.{Table};
 ghost use Rattle.lsm_manifest.specs.EditFit.{FitsKey};
-ghost use Rattle.lsm_choice.specs.Choice.{bytes_cmp};
+ghost use Rattle.lsm_picker.specs.Choice.{bytes_cmp};
 ghost use Rattle.lsm_state.specs.Installing.{IsInstallChange, IsLargestKey, IsPointer, added_at};
 ghost use Rattle.lsm_state.specs.Installing.{deleted_at};
 ghost use Rattle.lsm_state.specs.LargestKeys.{IsGreaterKey, IsHighestKey};

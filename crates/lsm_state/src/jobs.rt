@@ -1,7 +1,7 @@
 //! Live jobs: cancels, and numbers for their outputs.
 
 ghost use Rattle.std.specs.Prelude.{◌≡◌, suc, ◌-◌, ◌^◌, ◌⊎◌, IfErr, IfOk, OnErr, OnOk};
-ghost use Rattle.lsm_levels.specs.Plain.{Cancels, Draws};
+ghost use Rattle.lsm_model.specs.Plain.{Cancels, Draws};
 ghost use Rattle.lsm_live.specs.Booked.{HasTicket, booked, without};
 ghost use Rattle.lsm_state.specs.Held.{plain};
 ghost use Rattle.lsm_state.specs.declared.state_fault.StateFault.TheVariants.{NumbersSpent};

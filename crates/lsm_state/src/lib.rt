@@ -2,7 +2,7 @@
 //!
 //! Stands on `lsm_slots` for versions, pins and snapshots, on `lsm_live` for live jobs, on
 //! `lsm_journal` for the manifest, on `lsm_history` for the history of all that came in, and on
-//! `lsm_levels` for the law of the store as a plain machine. Its contract: the law of a state holds
+//! `lsm_model` for the law of the store as a plain machine. Its contract: the law of a state holds
 //! after every call, and each call says all that it leaves.
 //!
 //! # What holds
@@ -40,7 +40,7 @@
 //!   `remember` and later `recall` knows that the history goes on from what was remembered
 //!   (`later`).
 //! - What changes entries, snapshots or jobs is an event of the plain machine (`event`), so the
-//!   laws of `lsm_levels` over whole runs speak of states.
+//!   laws of `lsm_model` over whole runs speak of states.
 #![tactic(auto)]
 
 // The state, and how it begins.

@@ -11,13 +11,13 @@ ghost use Rattle.lsm_state.specs.Options.{Fits};
 use crate::coming::{edition_of, entries_of_version};
 use crate::options::Options;
 use crate::state::State;
-use lsm_check::NoWatch;
 use lsm_history::NewHistory;
 use lsm_journal::{Found, OpenFault};
 use lsm_live::LiveJobs;
 use lsm_pins::{Pinner, Publisher};
 use lsm_slots::{Boarded, Slots, Snapshots};
 use lsm_table::{NamedShelf, Registry, Shelf};
+use lsm_verify::NoWatch;
 use std::alloc::{AllocError, Global};
 use std::sync::{Arc, Wait};
 use std::thread::Threads;
@@ -94,7 +94,7 @@ impl<N: Boarded, S: Shelf> State<N, S> {
     /// found, with all its bytes, the next number is the one that `open` gives to a new manifest,
     /// and the state is halted.
     ///
-    /// The refusals of `Journal::recover`; those of `lsm_check::check`; those of listing the
+    /// The refusals of `Journal::recover`; those of `lsm_verify::check`; those of listing the
     /// tables; then `NumbersSpent` where a table that is listed, or one of the version, or the
     /// manifest has the number 2^64 - 1; then `OutOfMemory`.
     pub fn open_to_read<R: Wait>(

@@ -5,10 +5,10 @@ ghost use Rattle.std.specs.Prelude.{OnOk};
 ghost use Rattle.std.specs.Option.{option_map};
 ghost use Rattle.lsm_codec.specs.Entries.{answer};
 ghost use Rattle.lsm_codec.specs.Lists.{Has};
-ghost use Rattle.lsm_levels.specs.Files.{all_entries};
+ghost use Rattle.lsm_model.specs.Files.{all_entries};
 ghost use Rattle.lsm_shelf.specs.Told.{Becomes};
 ghost use Rattle.lsm_version.specs.Versions.{files};
-ghost use Rattle.lsm_levels.specs.Plain.{Releases, TakesSnapshot, without_snapshot};
+ghost use Rattle.lsm_model.specs.Plain.{Releases, TakesSnapshot, without_snapshot};
 ghost use Rattle.lsm_slots.specs.Snapshots.{HasId};
 ghost use Rattle.lsm_state.specs.Held.{plain};
 ghost use Rattle.lsm_state.specs.Reading.{IsNoBadTable, IsReadRefusal, IsSequence, IsUnknown};
@@ -37,7 +37,7 @@ impl<N: Boarded, S: Shelf> State<N, S> {
     /// The value of a user key, or none: as of the snapshot, or of the last sequence. Only the
     /// current version is read.
     ///
-    /// `UnknownSnapshot` where the snapshot is not live; then `Read` as `lsm_reads::get`, over an
+    /// `UnknownSnapshot` where the snapshot is not live; then `Read` as `lsm_query::get`, over an
     /// honest shelf only where the shelf refused or memory ran out.
     pub fn get(
         &self,
@@ -57,7 +57,7 @@ impl<N: Boarded, S: Shelf> State<N, S> {
         ensures told { Becomes shelf.old shelf.new }
     {
         let seq = self.sequence_at(at)?;
-        let value = lsm_reads::get(self.slots.version(), shelf, alloc, user, seq)?;
+        let value = lsm_query::get(self.slots.version(), shelf, alloc, user, seq)?;
         Ok(value)
     }
 

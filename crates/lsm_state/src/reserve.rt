@@ -2,10 +2,10 @@
 
 ghost use Rattle.std.specs.Prelude.{◌≡◌, ◌≤◌, ◌-◌, ◌^◌, ◌↔◌, ◌⊎◌, [], length, false, IfErr};
 ghost use Rattle.std.specs.Prelude.{IfNone, IfOk, IfSome, IsTrue, MatchOption, OnErr, OnOk};
-ghost use Rattle.lsm_choice.specs.Choice.{HasNoChoice};
-ghost use Rattle.lsm_choice.specs.Moves.{IsMovable};
-ghost use Rattle.lsm_choice.specs.Reservations.{IsClear};
-ghost use Rattle.lsm_choice.specs.TablePlans.{StandsIn, tables_over};
+ghost use Rattle.lsm_picker.specs.Choice.{HasNoChoice};
+ghost use Rattle.lsm_picker.specs.Moves.{IsMovable};
+ghost use Rattle.lsm_picker.specs.Reservations.{IsClear};
+ghost use Rattle.lsm_picker.specs.TablePlans.{StandsIn, tables_over};
 ghost use Rattle.lsm_live.specs.Reserving.{reserved_jobs};
 ghost use Rattle.lsm_state.specs.Reserving.{HasOrderedInputs, IsChosen, IsClosedPlan, IsOfMoment};
 ghost use Rattle.lsm_state.specs.Reserving.{IsPlanAt, IsRangePlan, IsRangeRefusal};
@@ -15,10 +15,10 @@ ghost use Rattle.lsm_state.specs.declared.state_fault.StateFault.TheVariants.{Ou
 
 use crate::state::State;
 use crate::state_fault::StateFault;
-use lsm_choice::laws::{conflicts_are_those_of_jobs, inputs_are_of_the_version};
-use lsm_choice::{Plan, PlanFault, choose, conflict, is_move, plan_range, ranges_below};
 use lsm_live::laws::planned_inputs_stand_in_order;
 use lsm_merge::{Job, JobParts};
+use lsm_picker::laws::{conflicts_are_those_of_jobs, inputs_are_of_the_version};
+use lsm_picker::{Plan, PlanFault, choose, conflict, is_move, plan_range, ranges_below};
 use lsm_slots::Boarded;
 use lsm_table::Shelf;
 use std::alloc::{AllocError, Global};

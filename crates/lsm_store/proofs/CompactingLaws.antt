@@ -5,15 +5,15 @@ use Rattle.std.specs.Option.{option_map}
 use Rattle.std.proofs.Math.Logic.{∥∥₁_map}
 use Rattle.std.proofs.lemmas.List.Sums.{sum_by-cons, sum_by-set}
 use Rattle.std.proofs.lemmas.Option.{slice_get_within, get_or_from_slice_get}
-use Rattle.lsm_levels.specs.Jobs.{Job}
-use Rattle.lsm_levels.specs.Plans.{Plan}
-use Rattle.lsm_levels.specs.Plain.{Cancels, Draws, Reserves, Spends}
-use Rattle.lsm_levels.specs.Runs.{Event, Run, Cancel, Draw, Install, Reserve, Spend}
+use Rattle.lsm_model.specs.Jobs.{Job}
+use Rattle.lsm_model.specs.Plans.{Plan}
+use Rattle.lsm_model.specs.Plain.{Cancels, Draws, Reserves, Spends}
+use Rattle.lsm_model.specs.Runs.{Event, Run, Cancel, Draw, Install, Reserve, Spend}
 use Rattle.lsm_codec.specs.Lists.{Has}
 use Rattle.lsm_version.specs.Versions.{Levels, files}
 use Rattle.lsm_version.specs.Changes.{changed}
 use Rattle.lsm_journal.specs.Difference.{Difference, changed_by}
-use Rattle.lsm_levels.specs.Files.{all_entries}
+use Rattle.lsm_model.specs.Files.{all_entries}
 use Rattle.lsm_codec.specs.Entries.{answer}
 use Rattle.lsm_slots.specs.Slots.{Epoch, Slotted, Looked, Published, current_id}
 use Rattle.lsm_shelf.specs.Told.{Told}

@@ -3,8 +3,8 @@ use Rattle.std.proofs.Common.{◌≡◌, ℕ, ◌+◌, ◌⊎◌, List, [], ◌�
 use Rattle.std.proofs.Math.Logic.{∥∥₁_elim, ∥∥₁_map, ∥∥₁_prop}
 use Rattle.std.proofs.Props.{props}
 use Rattle.lsm_codec.specs.Lists.{Has}
-use Rattle.lsm_levels.specs.Plain.{IsReadable, Plain}
-use Rattle.lsm_levels.specs.Runs.{Event, Run, Ingest, Snapshot, Release, Reserve, Cancel, Draw, Install, Spend, Nothing}
+use Rattle.lsm_model.specs.Plain.{IsReadable, Plain}
+use Rattle.lsm_model.specs.Runs.{Event, Run, Ingest, Snapshot, Release, Reserve, Cancel, Draw, Install, Spend, Nothing}
 use Rattle.lsm_slots.specs.Slots.{Looked, current_id}
 use Rattle.lsm_slots.specs.Snapshots.{Taken}
 use Rattle.lsm_state.specs.Held.{Held, plain}

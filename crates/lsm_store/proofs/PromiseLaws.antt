@@ -2,7 +2,7 @@
 use Rattle.std.proofs.Common.{◌≡◌, ℕ, List, [], ◌∷◌, map, sym, subst, refl, inl, inr}
 use Rattle.lsm_codec.specs.Lists.{Has}
 use Rattle.lsm_codec.specs.Entries.{Entry}
-use Rattle.lsm_levels.specs.Runs.{Agrees}
+use Rattle.lsm_model.specs.Runs.{Agrees}
 use Rattle.lsm_version.specs.Versions.{Levels}
 use Rattle.lsm_history.specs.History.{Edition}
 use Rattle.lsm_slots.specs.Slots.{current_id}

@@ -7,9 +7,9 @@ use Rattle.std.proofs.lemmas.Bool.{and_parts}
 use Rattle.lsm_codec.specs.Keys.{UserKey, user_le}
 use Rattle.lsm_codec.specs.Entries.{Entry, answer, first_of_two, is_allowed, newest, value_in}
 use Rattle.lsm_codec.proofs.CallerLemmas.{key_from_test}
-use Rattle.lsm_levels.specs.Files.{all_entries}
-use Rattle.lsm_levels.specs.Scanning.{IsScan, Pair}
-use Rattle.lsm_merger.specs.Seeking.{at_or_past}
+use Rattle.lsm_model.specs.Files.{all_entries}
+use Rattle.lsm_model.specs.Scanning.{IsScan, Pair}
+use Rattle.lsm_iterators.specs.Seeking.{at_or_past}
 use Rattle.lsm_version.specs.Versions.{files}
 use Rattle.lsm_store.specs.Readers.{IsPromised, KnowsAll, Learnt}
 

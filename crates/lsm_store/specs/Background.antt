@@ -2,8 +2,8 @@
 use Rattle.std.specs.Prelude.{◌≡◌, ◌↔◌, ◌⊎◌, ◌++◌, List}
 use Rattle.lsm_codec.specs.Entries.{Entry}
 use Rattle.lsm_codec.specs.Lists.{Has}
-use Rattle.lsm_levels.specs.Files.{all_entries}
-use Rattle.lsm_levels.specs.Plain as machine
+use Rattle.lsm_model.specs.Files.{all_entries}
+use Rattle.lsm_model.specs.Plain as machine
 use Rattle.lsm_version.specs.Versions.{files}
 use Rattle.lsm_shelf.specs.Asked.{Asked}
 use Rattle.lsm_shelf.specs.Told.{Told}

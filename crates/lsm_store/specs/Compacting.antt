@@ -1,7 +1,7 @@
 -- What workers leave of a state, and which facts of it they keep (this project's rule).
 use Rattle.std.specs.Prelude.{◌≡◌, ℕ, suc, ◌+◌, ◌==◌, if◌then◌else◌, List, [], ◌∷◌, Option, None, Some, sum_by}
 use Rattle.lsm_codec.specs.Lists.{Has}
-use Rattle.lsm_levels.specs.Runs.{Event, Ingest, Snapshot, Release, Reserve, Cancel, Draw, Install, Spend, Nothing, Run}
+use Rattle.lsm_model.specs.Runs.{Event, Ingest, Snapshot, Release, Reserve, Cancel, Draw, Install, Spend, Nothing, Run}
 use Rattle.lsm_pins.specs.Known.{Known}
 use Rattle.lsm_slots.specs.Slots.{Epoch, Slotted, current_id}
 use Rattle.lsm_state.specs.Held.{Held, plain}

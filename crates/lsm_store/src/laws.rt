@@ -16,7 +16,7 @@ ghost use Rattle.lsm_store.specs.declared.worker_end.WorkerEnd.{WorkerEnd};
 ghost use Rattle.lsm_version.specs.Versions.{Levels};
 
 use crate::invariant::Invariant;
-use lsm_levels::machine::Premise;
+use lsm_model::machine::Premise;
 use lsm_slots::Boarded;
 use lsm_table::Shelf;
 

@@ -4,10 +4,10 @@ ghost use Rattle.std.specs.Prelude.{◌≡◌, ℕ, None, IfErr, IfOk, OnErr};
 ghost use Rattle.std.specs.Option.{option_map};
 ghost use Rattle.lsm_codec.specs.Entries.{answer};
 ghost use Rattle.lsm_codec.specs.Lists.{Has};
-ghost use Rattle.lsm_levels.specs.Files.{all_entries};
-ghost use Rattle.lsm_levels.specs.Scanning.{IsScan};
-ghost use Rattle.lsm_merger.specs.Seeking.{at_or_past};
-ghost use Rattle.lsm_merger.specs.Shown.{ShowsNext, ShowsPair};
+ghost use Rattle.lsm_model.specs.Files.{all_entries};
+ghost use Rattle.lsm_model.specs.Scanning.{IsScan};
+ghost use Rattle.lsm_iterators.specs.Seeking.{at_or_past};
+ghost use Rattle.lsm_iterators.specs.Shown.{ShowsNext, ShowsPair};
 ghost use Rattle.lsm_pins.specs.View.{noted_view};
 ghost use Rattle.lsm_shelf.specs.Told.{Becomes};
 ghost use Rattle.lsm_state.specs.Collecting.{IsKeptNumber};
@@ -19,7 +19,7 @@ ghost use Rattle.lsm_version.specs.Versions.{files};
 use crate::reader::Reader;
 use crate::reader_cache::ReaderCache;
 use lsm_pins::Pinner;
-use lsm_reads::{Pair, Scan};
+use lsm_query::{Pair, Scan};
 use lsm_slots::Boarded;
 use lsm_state::State;
 use lsm_table::{ReadFault, Shelf};
@@ -94,7 +94,7 @@ impl<N: Boarded, S: Shelf> View<N, S> {
         ensures told { Becomes self.old.told self.new.told }
         ensures cause { IfErr result (λ e. ReadCounted e self.old.told self.new.told) }
     {
-        lsm_reads::get_by(
+        lsm_query::get_by(
             &self.cache.version,
             &mut self.cache.blocks,
             alloc,
@@ -117,7 +117,7 @@ impl<N: Boarded, S: Shelf> View<N, S> {
         ensures told { Becomes self.old.told self.new.told }
         ensures cause { IfErr result (λ e. ReadCounted e self.old.told self.new.told) }
     {
-        lsm_reads::scan_by(&self.cache.version, &mut self.cache.blocks, alloc, seq)
+        lsm_query::scan_by(&self.cache.version, &mut self.cache.blocks, alloc, seq)
     }
 
     /// The same from a user key on (`Seek` of LevelDB's `include/leveldb/iterator.h`): each user
@@ -138,7 +138,7 @@ impl<N: Boarded, S: Shelf> View<N, S> {
         ensures told { Becomes self.old.told self.new.told }
         ensures cause { IfErr result (λ e. ReadCounted e self.old.told self.new.told) }
     {
-        lsm_reads::scan_from_by(
+        lsm_query::scan_from_by(
             &self.cache.version,
             &mut self.cache.blocks,
             alloc,

@@ -6,9 +6,9 @@ use Rattle.lsm_codec.specs.Keys.{UserKey}
 use Rattle.lsm_codec.specs.Lists.{Has}
 use Rattle.lsm_codec.specs.Entries.{Entry, answer, value_in}
 use Rattle.lsm_codec.proofs.CallerLemmas.{any_at, filter_has}
-use Rattle.lsm_levels.specs.Law.{Books, Law}
-use Rattle.lsm_levels.specs.Plain.{Ingests, Plain}
-use Rattle.lsm_levels.specs.Runs.{Agrees}
+use Rattle.lsm_model.specs.Law.{Books, Law}
+use Rattle.lsm_model.specs.Plain.{Ingests, Plain}
+use Rattle.lsm_model.specs.Runs.{Agrees}
 use Rattle.lsm_shelf.specs.Told.{Told}
 use Rattle.lsm_slots.specs.Snapshots.{Taken}
 use Rattle.lsm_state.specs.Collecting.{AreCollected, IsKeptNumber, is_in, outside}

@@ -3,9 +3,9 @@ use Rattle.std.proofs.Common.{◌≡◌, ℕ, suc, List, [], ◌∷◌, ◌++◌
 use Rattle.std.specs.Prelude.{IfNone, IfOk, IfSome, OnErr, OnOk}
 use Rattle.lsm_codec.specs.Entries.{answer}
 use Rattle.lsm_codec.specs.Keys.{UserKey}
-use Rattle.lsm_levels.specs.Files.{all_entries}
-use Rattle.lsm_levels.specs.Plain.{Cancels, Draws, Releases, Spends, TakesSnapshot, without_snapshot}
-use Rattle.lsm_levels.specs.Plain as machine
+use Rattle.lsm_model.specs.Files.{all_entries}
+use Rattle.lsm_model.specs.Plain.{Cancels, Draws, Releases, Spends, TakesSnapshot, without_snapshot}
+use Rattle.lsm_model.specs.Plain as machine
 use Rattle.lsm_shelf.specs.Told.{Told}
 use Rattle.lsm_table.specs.Registry.{Table}
 use Rattle.lsm_version.specs.Changes.{changed}

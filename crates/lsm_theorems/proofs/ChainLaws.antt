@@ -4,14 +4,14 @@ use Rattle.atomic_table.specs.Seated.{TableId}
 use Rattle.lsm_codec.specs.Entries.{Entry}
 use Rattle.lsm_codec.specs.Keys.{UserKey}
 use Rattle.lsm_codec.specs.Lists.{Has}
-use Rattle.lsm_levels.specs.Law.{Law}
-use Rattle.lsm_levels.specs.Plain.{IsReadable, Plain, without_snapshot}
-use Rattle.lsm_levels.specs.Runs.{Agrees, Event, Ingest, Snapshot, Release, Reserve, Cancel, Draw, Install, Spend, Nothing, Run, ingested}
-use Rattle.lsm_levels.proofs.CallerLemmas.{run_law, step_agrees, step_law}
+use Rattle.lsm_model.specs.Law.{Law}
+use Rattle.lsm_model.specs.Plain.{IsReadable, Plain, without_snapshot}
+use Rattle.lsm_model.specs.Runs.{Agrees, Event, Ingest, Snapshot, Release, Reserve, Cancel, Draw, Install, Spend, Nothing, Run, ingested}
+use Rattle.lsm_model.proofs.CallerLemmas.{run_law, step_agrees, step_law}
 use Rattle.lsm_shelf.specs.Asked.{Asked}
 use Rattle.lsm_shelf.specs.declared.shelf_fault.ShelfFault.{ShelfFault}
 use Rattle.lsm_batch.specs.declared.write.Write.{Write}
-use Rattle.lsm_choice.specs.TablePlans.{plan_of}
+use Rattle.lsm_picker.specs.TablePlans.{plan_of}
 use Rattle.lsm_merge.specs.Work.{job_of}
 use Rattle.lsm_slots.specs.Snapshots.{Taken}
 use Rattle.lsm_state.specs.Held.{Held, IsLawfulState, plain}

@@ -3,13 +3,13 @@ use Rattle.std.proofs.Common.{◌≡◌, ◌⊎◌, ℕ, ◌≤◌, ◌<◌, fal
 use Rattle.lsm_codec.specs.Lists.{Has}
 use Rattle.lsm_codec.specs.Keys.{UserLe}
 use Rattle.lsm_codec.proofs.CallerLemmas.{user_le_refl}
-use Rattle.lsm_levels.specs.Files.{File, Before, Fits, all_entries}
-use Rattle.lsm_levels.specs.Jobs.{Changed, is_input}
-use Rattle.lsm_levels.specs.Kept.{kept_entries}
-use Rattle.lsm_levels.specs.Plain.{Ingests, Installs, Plain, Reserves, created}
-use Rattle.lsm_levels.specs.Plans.{IsLinked, starting, meeting, IsClosed, Spans}
-use Rattle.lsm_levels.specs.Runs.{Ingest, Snapshot, Release, Reserve, Draw, Install, Run}
-use Rattle.lsm_levels.specs.Streams.{Ends, IsCut, IsMerge}
+use Rattle.lsm_model.specs.Files.{File, Before, Fits, all_entries}
+use Rattle.lsm_model.specs.Jobs.{Changed, is_input}
+use Rattle.lsm_model.specs.Kept.{kept_entries}
+use Rattle.lsm_model.specs.Plain.{Ingests, Installs, Plain, Reserves, created}
+use Rattle.lsm_model.specs.Plans.{IsLinked, starting, meeting, IsClosed, Spans}
+use Rattle.lsm_model.specs.Runs.{Ingest, Snapshot, Release, Reserve, Draw, Install, Run}
+use Rattle.lsm_model.specs.Streams.{Ends, IsCut, IsMerge}
 use Rattle.lsm_theorems.specs.SmallRun.{entry, events, file, job, left, plan}
 use Rattle.lsm_theorems.proofs.Elements.{one_of, two_of}
 

@@ -5,14 +5,14 @@ use Rattle.lsm_codec.specs.Lists.{Has}
 use Rattle.lsm_codec.specs.Keys.{UserKey, UserLe, user_le}
 use Rattle.lsm_codec.specs.Entries.{Entry, internal_key}
 use Rattle.lsm_codec.proofs.CallerLemmas.{user_le_refl}
-use Rattle.lsm_levels.specs.Checking.{IsJudged, IsRangeOf, Listed, file_at, files_from, level_in, ranges_of}
-use Rattle.lsm_levels.specs.Files.{File, Before, Fits, InOrder, IsLawful, all_entries}
-use Rattle.lsm_levels.specs.Jobs.{AreOutputs, Changed, Conflicts, IsMove, IsOpenIn, Job, at_level, is_input}
-use Rattle.lsm_levels.specs.Kept.{kept_entries}
-use Rattle.lsm_levels.specs.Merging.{Placed}
-use Rattle.lsm_levels.specs.Ranges.{EachPair, MeetInKeys}
-use Rattle.lsm_levels.specs.Streams.{Ends, IsCut, IsMerge}
-use Rattle.lsm_levels.proofs.CallerLemmas.{move_outputs}
+use Rattle.lsm_model.specs.Checking.{IsJudged, IsRangeOf, Listed, file_at, files_from, level_in, ranges_of}
+use Rattle.lsm_model.specs.Files.{File, Before, Fits, InOrder, IsLawful, all_entries}
+use Rattle.lsm_model.specs.Jobs.{AreOutputs, Changed, Conflicts, IsMove, IsOpenIn, Job, at_level, is_input}
+use Rattle.lsm_model.specs.Kept.{kept_entries}
+use Rattle.lsm_model.specs.Merging.{Placed}
+use Rattle.lsm_model.specs.Ranges.{EachPair, MeetInKeys}
+use Rattle.lsm_model.specs.Streams.{Ends, IsCut, IsMerge}
+use Rattle.lsm_model.proofs.CallerLemmas.{move_outputs}
 use Rattle.lsm_theorems.proofs.Elements.{one_of, two_of}
 
 abbrev second_key : UserKey

@@ -2,9 +2,9 @@
 use Rattle.std.specs.Prelude.{◌≡◌, ℕ, suc, List, [], ◌∷◌, ◌++◌, Option}
 use Rattle.lsm_codec.specs.Entries.{answer}
 use Rattle.lsm_codec.specs.Keys.{UserKey}
-use Rattle.lsm_levels.specs.Files.{all_entries}
-use Rattle.lsm_levels.specs.Plain.{Cancels, Draws, Releases, Spends, TakesSnapshot}
-use Rattle.lsm_levels.specs.Plain as machine
+use Rattle.lsm_model.specs.Files.{all_entries}
+use Rattle.lsm_model.specs.Plain.{Cancels, Draws, Releases, Spends, TakesSnapshot}
+use Rattle.lsm_model.specs.Plain as machine
 use Rattle.lsm_version.specs.Versions.{files}
 use Rattle.lsm_batch.specs.declared.write.Write.{Write}
 use Rattle.lsm_merge.specs.Work.{Done, Work}

@@ -4,7 +4,7 @@ use Rattle.std.specs.Prelude.{◌≡◌, ℕ, suc, ◌+◌, ◌<◌, List, [], �
 use Rattle.std.specs.Prelude.{Option, None, Some}
 use Rattle.lsm_codec.specs.Entries.{Entry}
 use Rattle.lsm_codec.specs.Lists.{Has}
-use Rattle.lsm_levels.specs.Plain.{without_snapshot}
+use Rattle.lsm_model.specs.Plain.{without_snapshot}
 use Rattle.lsm_batch.specs.Batches.{entries_from}
 use Rattle.lsm_batch.specs.declared.write.Write.{Write}
 use Rattle.lsm_slots.specs.Snapshots.{HasId}

@@ -2,11 +2,11 @@
 use Rattle.std.specs.Prelude.{ℕ, false, List, [], ◌∷◌}
 use Rattle.lsm_codec.specs.declared.kind.Kind.TheVariants.{Value}
 use Rattle.lsm_codec.specs.Entries.{Entry}
-use Rattle.lsm_levels.specs.Files.{File}
-use Rattle.lsm_levels.specs.Jobs.{Job}
-use Rattle.lsm_levels.specs.Plain.{Plain}
-use Rattle.lsm_levels.specs.Plans.{Plan}
-use Rattle.lsm_levels.specs.Runs.{Event, Ingest, Snapshot, Release, Reserve, Draw, Install}
+use Rattle.lsm_model.specs.Files.{File}
+use Rattle.lsm_model.specs.Jobs.{Job}
+use Rattle.lsm_model.specs.Plain.{Plain}
+use Rattle.lsm_model.specs.Plans.{Plan}
+use Rattle.lsm_model.specs.Runs.{Event, Ingest, Snapshot, Release, Reserve, Draw, Install}
 
 -- every entry is of the empty user key
 abbrev pub entry : ℕ → Entry

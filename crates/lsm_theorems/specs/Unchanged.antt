@@ -2,8 +2,8 @@
 use Rattle.std.specs.Prelude.{◌≡◌, ℕ, List, Option}
 use Rattle.lsm_codec.specs.Entries.{answer}
 use Rattle.lsm_codec.specs.Keys.{UserKey}
-use Rattle.lsm_levels.specs.Files.{all_entries}
-use Rattle.lsm_levels.specs.Plain.{IsReadable}
+use Rattle.lsm_model.specs.Files.{all_entries}
+use Rattle.lsm_model.specs.Plain.{IsReadable}
 use Rattle.lsm_version.specs.Versions.{files}
 use Rattle.lsm_state.specs.Held.{Held, plain}
 

@@ -10,7 +10,7 @@ ghost use Rattle.lsm_state.specs.Held.{Held};
 ghost use Rattle.lsm_version.specs.Versions.{IsSound, Levels, no_levels};
 
 use lsm_crash::states::ingests_survive_crashes;
-use lsm_levels::machine::Premise;
+use lsm_model::machine::Premise;
 
 /// After any lives of a database, one after another, each of which ends with a crash in any call on
 /// its folder, or without one: all that is counted on is durable, and the folder shows a version

@@ -2,15 +2,15 @@
 
 ghost use Rattle.std.specs.Prelude.{◌≡◌, List, [], length};
 ghost use Rattle.lsm_codec.specs.Entries.{Entry};
-ghost use Rattle.lsm_levels.specs.Checking.{IsJudged, Listed};
-ghost use Rattle.lsm_levels.specs.Files.{File, IsLawful, all_entries};
-ghost use Rattle.lsm_levels.specs.Jobs.{AreOutputs, Changed, Conflicts, IsMove, IsOpenIn, Job};
-ghost use Rattle.lsm_levels.specs.Kept.{kept_entries};
-ghost use Rattle.lsm_levels.specs.Merging.{Placed};
-ghost use Rattle.lsm_levels.specs.Streams.{IsCut, IsMerge};
+ghost use Rattle.lsm_model.specs.Checking.{IsJudged, Listed};
+ghost use Rattle.lsm_model.specs.Files.{File, IsLawful, all_entries};
+ghost use Rattle.lsm_model.specs.Jobs.{AreOutputs, Changed, Conflicts, IsMove, IsOpenIn, Job};
+ghost use Rattle.lsm_model.specs.Kept.{kept_entries};
+ghost use Rattle.lsm_model.specs.Merging.{Placed};
+ghost use Rattle.lsm_model.specs.Streams.{IsCut, IsMerge};
 
 /// What the laws of versions, merges and installs suppose can be met, beside what
-/// `lsm_levels::laws::premises_are_met` has. Here is a lawful version with two open jobs that do
+/// `lsm_model::laws::premises_are_met` has. Here is a lawful version with two open jobs that do
 /// not conflict, of which the first is a move, and the version after its install (`jobs`); a merge
 /// that is cut into two outputs (`cut`); and a version that was judged table by table, with a table
 /// at level 0 above an older one (`judged`).

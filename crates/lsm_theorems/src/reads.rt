@@ -3,14 +3,14 @@
 ghost use Rattle.std.specs.Prelude.{◌≡◌, ℕ, IfOk};
 ghost use Rattle.std.specs.Option.{option_map};
 ghost use Rattle.lsm_codec.specs.Lists.{Has};
-ghost use Rattle.lsm_levels.specs.Scanning.{IsScan};
-ghost use Rattle.lsm_merger.specs.Seeking.{at_or_past};
+ghost use Rattle.lsm_model.specs.Scanning.{IsScan};
+ghost use Rattle.lsm_iterators.specs.Seeking.{at_or_past};
 ghost use Rattle.lsm_state.specs.Held.{Held};
 ghost use Rattle.lsm_state.specs.Reading.{IsSequence};
 ghost use Rattle.lsm_store.specs.Readers.{IsPromised, Learnt, refreshed};
 ghost use Rattle.lsm_theorems.specs.Newest.{IsReadOf};
 
-use lsm_reads::Scan;
+use lsm_query::Scan;
 use lsm_slots::Boarded;
 use lsm_state::{State, StateFault};
 use lsm_store::View;

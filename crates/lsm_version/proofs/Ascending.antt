@@ -5,7 +5,7 @@ use Rattle.lsm_codec.specs.Entries.{Entry, internal_key, entry_cmp}
 use Rattle.lsm_block.specs.Block.{Ascends}
 use Rattle.lsm_table.specs.Table.{IsTable}
 use Rattle.lsm_table.proofs.CallerLemmas.{key_cmp_total, data_ascends}
-use Rattle.lsm_levels.specs.Streams.{IsAscending}
+use Rattle.lsm_model.specs.Streams.{IsAscending}
 
 after_first : (e : Entry) (es : List Entry) → Ascends (e ∷ es) → (y : Entry) → Has es y → entry_cmp e y ≡ Less
 after_first e [] a y h = absurd h

@@ -6,7 +6,7 @@ use Rattle.std.proofs.lemmas.Bool.{cases_lt, eq-eqb, eqb-true}
 use Rattle.lsm_codec.specs.Lists.{Has}
 use Rattle.lsm_codec.proofs.CallerLemmas.{has_left, has_right, has_cases, has_filter, filter_has, any_at, any_says, all_at}
 use Rattle.lsm_table.specs.Registry.{Table}
-use Rattle.lsm_levels.specs.Files.{File}
+use Rattle.lsm_model.specs.Files.{File}
 use Rattle.lsm_version.specs.Versions.{Levels, level_in, file_of, files_of, files_from, files, stands_before}
 use Rattle.lsm_version.specs.Changes.{is_kept, placed_in, placed_all, coming, level_after, levels_after, changed, added_files}
 

@@ -4,7 +4,7 @@ use Rattle.std.specs.Prelude.{Option}
 use Rattle.lsm_codec.specs.Lists.{Has}
 use Rattle.lsm_codec.proofs.CallerLemmas.{filter_has}
 use Rattle.lsm_table.specs.Registry.{Table}
-use Rattle.lsm_levels.specs.Files.{File}
+use Rattle.lsm_model.specs.Files.{File}
 use Rattle.lsm_version.specs.Versions.{Levels, IsSound, files, level_in}
 use Rattle.lsm_version.specs.Changes.{is_kept, level_after, levels_after, changed}
 use Rattle.lsm_version.proofs.ChangedFiles.{changed_has}

@@ -6,10 +6,10 @@ use Rattle.lsm_codec.specs.Keys.{UserKey}
 use Rattle.lsm_codec.proofs.CallerLemmas.{has_left, has_right, has_cases}
 use Rattle.lsm_table.specs.Registry.{Table}
 use Rattle.lsm_table.specs.HeldTable.{entries_in}
-use Rattle.lsm_levels.specs.Checking.{Listed}
-use Rattle.lsm_levels.specs.Files.{File, Fits}
+use Rattle.lsm_model.specs.Checking.{Listed}
+use Rattle.lsm_model.specs.Files.{File, Fits}
 use Rattle.lsm_version.specs.Versions.{AreInOrder, IsWhole, file_of, files_of, files_from, level_in, user_of, stands_before}
-use Rattle.lsm_levels.proofs.CallerLemmas.{file_fits}
+use Rattle.lsm_model.proofs.CallerLemmas.{file_fits}
 use Rattle.lsm_version.proofs.ChangedFiles.{files_has, has_files}
 use Rattle.lsm_version.proofs.Rising.{user_of-key}
 use Rattle.std.specs.List.Sorted.{IsSortedBy}

@@ -11,7 +11,7 @@ use Rattle.lsm_table.specs.Registry.{Table}
 use Rattle.lsm_version.specs.Versions.{Levels, IsSound, AreInOrder, level_in, user_of}
 use Rattle.lsm_version.specs.Reads.{AreSound, IsRising, IsFirstReaching, begins_by, reaches}
 use Rattle.lsm_version.specs.Overlap.{lies_over, meets}
-use Rattle.lsm_levels.proofs.CallerLemmas.{true_or_not}
+use Rattle.lsm_model.proofs.CallerLemmas.{true_or_not}
 use Rattle.lsm_version.proofs.Rising.{level_rises}
 use Rattle.lsm_version.proofs.Parts.{sound_level, sound_rest}
 

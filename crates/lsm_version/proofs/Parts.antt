@@ -3,7 +3,7 @@ use Rattle.std.proofs.Common.{ℕ, suc, List, ◌∷◌, subst}
 use Rattle.lsm_codec.specs.Lists.{Has}
 use Rattle.lsm_codec.proofs.CallerLemmas.{has_left, has_right}
 use Rattle.lsm_table.specs.Registry.{Table}
-use Rattle.lsm_levels.specs.Files.{File, IsLawful}
+use Rattle.lsm_model.specs.Files.{File, IsLawful}
 use Rattle.lsm_version.specs.Versions.{files_of, files_from}
 use Rattle.lsm_version.specs.Reads.{IsSoundLevel, AreSound}
 use Rattle.lsm_version.proofs.ChangedFiles.{files_has, has_files}

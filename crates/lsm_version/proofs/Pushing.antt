@@ -2,7 +2,7 @@
 use Rattle.std.proofs.Common.{◌≡◌, ℕ, suc, ◌+◌, ◌<◌, length, get_or, take, drop, map, List, [], ◌∷◌, ◌++◌, refl, ap, sym, ◌∙◌, append_assoc, add-one}
 use Rattle.std.proofs.lemmas.List.{map-append, take_more}
 use Rattle.lsm_table.specs.Registry.{Table}
-use Rattle.lsm_levels.specs.Files.{File}
+use Rattle.lsm_model.specs.Files.{File}
 use Rattle.lsm_version.specs.Versions.{files_of, files_from}
 use Rattle.lsm_version.proofs.Changing.{level_at}
 

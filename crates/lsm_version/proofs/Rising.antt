@@ -9,9 +9,9 @@ use Rattle.lsm_codec.specs.Lists.{Has}
 use Rattle.lsm_codec.specs.Keys.{UserKey, UserLe, InternalKey, IsKey, key_cmp, then_by}
 use Rattle.lsm_codec.proofs.CallerLemmas.{user_le_trans, user_le_refl, take-key_bytes, key_cmp-swapped}
 use Rattle.lsm_table.specs.Registry.{Table}
-use Rattle.lsm_levels.specs.Files.{File, Fits, IsAhead}
-use Rattle.lsm_levels.specs.Ranges.{KeyLe, key_le}
-use Rattle.lsm_levels.proofs.CallerLemmas.{before_not_first, before_says, first_is_le, key_le_user, true_or_not}
+use Rattle.lsm_model.specs.Files.{File, Fits, IsAhead}
+use Rattle.lsm_model.specs.Ranges.{KeyLe, key_le}
+use Rattle.lsm_model.proofs.CallerLemmas.{before_not_first, before_says, first_is_le, key_le_user, true_or_not}
 use Rattle.lsm_version.specs.Versions.{IsWhole, file_of, files_of, stands_before, user_of}
 use Rattle.lsm_version.specs.Reads.{IsSoundLevel, IsRising, reaches}
 use Rattle.lsm_version.proofs.Placing.{tables_rank}

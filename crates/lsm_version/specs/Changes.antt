@@ -2,7 +2,7 @@
 use Rattle.std.specs.Prelude.{ℕ, suc, Bool, List, [], ◌∷◌, ◌++◌, Option, Some, None, not, ◌==◌, map, slice_set}
 use Rattle.std.specs.List.{filter, list_any}
 use Rattle.lsm_table.specs.Registry.{Table}
-use Rattle.lsm_levels.specs.Files.{File}
+use Rattle.lsm_model.specs.Files.{File}
 use Rattle.lsm_version.specs.Versions.{Levels, file_of, stands_before}
 
 -- the tables of a level with one more, which comes after those before which it does not stand

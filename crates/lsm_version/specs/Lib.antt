@@ -1,13 +1,13 @@
-pub use Rattle.lsm_levels.specs.Files
-pub use Rattle.lsm_levels.specs.Kept
-pub use Rattle.lsm_levels.specs.Jobs
-pub use Rattle.lsm_levels.specs.Plans
-pub use Rattle.lsm_levels.specs.Streams
-pub use Rattle.lsm_levels.specs.Merging
-pub use Rattle.lsm_levels.specs.Ranges
-pub use Rattle.lsm_levels.specs.Ages
-pub use Rattle.lsm_levels.specs.Scanning
-pub use Rattle.lsm_levels.specs.Checking
+pub use Rattle.lsm_model.specs.Files
+pub use Rattle.lsm_model.specs.Kept
+pub use Rattle.lsm_model.specs.Jobs
+pub use Rattle.lsm_model.specs.Plans
+pub use Rattle.lsm_model.specs.Streams
+pub use Rattle.lsm_model.specs.Merging
+pub use Rattle.lsm_model.specs.Ranges
+pub use Rattle.lsm_model.specs.Ages
+pub use Rattle.lsm_model.specs.Scanning
+pub use Rattle.lsm_model.specs.Checking
 -- What public clauses cite, and so what a caller reads
 pub mod Versions
 pub mod Changes

@@ -4,7 +4,7 @@ use Rattle.std.specs.List.Sorted.{IsSortedBy}
 use Rattle.lsm_codec.specs.Lists.{Has}
 use Rattle.lsm_codec.specs.Keys.{UserKey, UserLe, user_le}
 use Rattle.lsm_table.specs.Registry.{Table}
-use Rattle.lsm_levels.specs.Files.{IsLawful}
+use Rattle.lsm_model.specs.Files.{IsLawful}
 use Rattle.lsm_version.specs.Versions.{AreInOrder, IsWhole, files_from, files_of, level_in, stands_before, user_of}
 
 -- ---- what holds of a part of a version

@@ -11,11 +11,11 @@ use Rattle.lsm_table.specs.Registry.{Table}
 use Rattle.lsm_table.specs.Table.{IsTable}
 use Rattle.lsm_table.specs.HeldTable.{entries_in}
 use Rattle.lsm_manifest.specs.FileOrder.{place_cmp}
-use Rattle.lsm_levels.specs.Files.{File, IsLawful}
-use Rattle.lsm_levels.specs.Ranges.{Range}
-use Rattle.lsm_levels.specs.Checking.{IsRangeOf, all_from}
+use Rattle.lsm_model.specs.Files.{File, IsLawful}
+use Rattle.lsm_model.specs.Ranges.{Range}
+use Rattle.lsm_model.specs.Checking.{IsRangeOf, all_from}
 -- the tables of a level
-pub use Rattle.lsm_levels.specs.Checking.{level_in}
+pub use Rattle.lsm_model.specs.Checking.{level_in}
 
 -- the tables of each level, in the level's order; the compaction pointer of each level, an internal key; the last sequence
 pub record Levels : Type 0 where

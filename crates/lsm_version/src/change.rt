@@ -148,7 +148,7 @@ impl<N: Naming, S: Shelf> Version<N, S> {
 ghost use Rattle.std.specs.Prelude.{ℕ, ◌⊎◌, ◌↔◌, List, Option, [], ◌∷◌, ◌++◌};
 ghost use Rattle.lsm_codec.specs.Lists.{Has};
 ghost use Rattle.lsm_table.specs.Registry.{Table};
-ghost use Rattle.lsm_levels.specs.Files.{File};
+ghost use Rattle.lsm_model.specs.Files.{File};
 ghost use Rattle.lsm_version.specs.Changes.{added_files};
 ghost use Rattle.lsm_version.specs.Versions.{Levels, files, level_in};
 
@@ -173,7 +173,7 @@ pub fn changed_tables()
 ghost use Rattle.lsm_codec.specs.Entries.{Entry, internal_key};
 ghost use Rattle.lsm_codec.specs.Keys.{IsKey};
 ghost use Rattle.lsm_table.specs.Table.{IsTable};
-ghost use Rattle.lsm_levels.specs.Files.{Fits, IsLawful};
+ghost use Rattle.lsm_model.specs.Files.{Fits, IsLawful};
 ghost use Rattle.lsm_version.specs.Versions.{IsWhole, file_of};
 
 /// A law: a record whose keys are the first and the last of a table's entries stands for that

@@ -10,7 +10,7 @@ ghost use Rattle.lsm_version.specs.Versions.{level_in};
 
 use crate::user_range::{begins_by, first_reaching, reaches};
 use crate::version::Version;
-use lsm_levels::is_at_most;
+use lsm_model::is_at_most;
 use lsm_table::{Naming, Registry, Shelf, TableRef};
 use std::alloc::{AllocError, Global};
 

@@ -5,7 +5,7 @@ ghost use Rattle.lsm_version.specs.Reads.{HasNoCandidate, IsFirstReaching, IsRis
 ghost use Rattle.lsm_version.specs.Reads.{begins_by, covers, is_below, is_candidate, reaches};
 ghost use Rattle.lsm_version.specs.Versions.{user_of};
 
-use lsm_levels::is_at_most;
+use lsm_model::is_at_most;
 use lsm_table::{Naming, Registry, Shelf, TableRef};
 
 /// The user key in the bytes of an internal key.

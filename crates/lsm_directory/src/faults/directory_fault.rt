@@ -13,10 +13,10 @@ use crate::faults::directory_refusals::{of_locked, of_manifest, of_spent, of_tab
 use crate::telling::Exit;
 use crate::telling::output::OutputFault;
 use lsm_batch::Write as KeyWrite;
-use lsm_check::CheckFault;
 use lsm_journal::{OpenFault, RecoverFault};
 use lsm_table::{ReadFault, ShelfFault, TableFault};
 use lsm_text::Refusal;
+use lsm_verify::CheckFault;
 use std::alloc::{AllocError, AllocFailed};
 use std::fmt;
 use std::io::{self, Write};

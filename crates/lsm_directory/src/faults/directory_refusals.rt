@@ -5,9 +5,9 @@ ghost use Rattle.std.specs.Option.{option_map};
 ghost use Rattle.lsm_text.specs.FaultText.{refusal_text};
 ghost use Rattle.lsm_directory.specs.DirectoryFault.{check_text, recover_text};
 
-use lsm_check::CheckFault;
 use lsm_journal::RecoverFault;
 use lsm_text::Refusal;
+use lsm_verify::CheckFault;
 
 /// A refusal of a manifest.
 pub(crate) fn of_manifest(fault: RecoverFault) -> Refusal

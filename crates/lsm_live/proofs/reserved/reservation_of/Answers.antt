@@ -1,6 +1,6 @@
 use Rattle.std.proofs.Common.{◌≡◌, ℕ, List, ◌++◌, map, ◌∙◌, ap}
 use Rattle.lsm_table.specs.Registry.{Table}
-use Rattle.lsm_levels.specs.Files.{File}
+use Rattle.lsm_model.specs.Files.{File}
 use Rattle.lsm_merge.specs.Work.{Work, job_of}
 use Rattle.lsm_live.proofs.Reservations.{input_numbers, reserved_is}
 use Rattle.lsm_live.proofs.reserved.reservation_of.Goals as goal

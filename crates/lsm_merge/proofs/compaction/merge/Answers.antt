@@ -1,11 +1,11 @@
 use Rattle.std.proofs.Common.{ℕ, List, [], refl, sym, ◌∙◌, ap, subst}
-use Rattle.lsm_levels.specs.Merging.{entries_of}
+use Rattle.lsm_model.specs.Merging.{entries_of}
 use Rattle.lsm_merge.specs.declared.merge_fault.MergeFault.{MergeFault}
 use Rattle.std.specs.Prelude.{IfErr}
 use Rattle.lsm_table.specs.declared.table_options.TableOptions.{TableOptions}
 use Rattle.lsm_merge.specs.Causes.{AnswersOf, AsksFor, HasCause, NamesRefused, NamesTicket}
 use Rattle.lsm_merge.specs.Inputs.{IsOrderFault, input_numbers}
-use Rattle.lsm_levels.specs.Files.{all_entries}
+use Rattle.lsm_model.specs.Files.{all_entries}
 use Rattle.lsm_merge.specs.InputOrder.{HasTwins}
 use Rattle.lsm_merge.specs.Limits.{IsOverLimit, IsSizeFault}
 use Rattle.lsm_merge.specs.Outputs.{Made, entries_of_last}

@@ -1,4 +1,4 @@
-use Rattle.lsm_levels.specs.Merging.{entries_of}
+use Rattle.lsm_model.specs.Merging.{entries_of}
 use Rattle.lsm_merge.proofs.UnderWay.{IsUnderWay}
 use Rattle.lsm_merge.proofs.compaction.merge.Given as goal
 

@@ -2,7 +2,7 @@ use Rattle.std.proofs.Common.{◌≡◌, ℕ, List, [], ◌∷◌, ◌++◌, ref
 use Rattle.lsm_codec.specs.Entries.{Entry}
 use Rattle.lsm_codec.specs.KeyRef.{key_of}
 use Rattle.lsm_block.specs.Block.{entry_of}
-use Rattle.lsm_levels.specs.Merging.{Placed}
+use Rattle.lsm_model.specs.Merging.{Placed}
 use Rattle.lsm_merge.specs.declared.merge_fault.MergeFault.{MergeFault}
 use Rattle.lsm_merge.specs.Causes.{AnswersOf, HasCause, Leaves, NamesTicket}
 use Rattle.lsm_merge.specs.Dropping.{Follows, is_kept}

@@ -1,6 +1,6 @@
 use Rattle.std.proofs.Common.{◌≡◌, ◌++◌, map, take}
 use Rattle.lsm_shelf.specs.Told.{Becomes}
-use Rattle.lsm_levels.specs.Merging.{AreOrdered}
+use Rattle.lsm_model.specs.Merging.{AreOrdered}
 use Rattle.lsm_merge.specs.Inputs.{entries_of_tables, files_in, numbers_of, streams}
 use Rattle.lsm_merge.proofs.inputs.push_each.Given as goal
 

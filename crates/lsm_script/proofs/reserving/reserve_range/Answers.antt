@@ -1,5 +1,5 @@
 use Rattle.std.proofs.Common.{◌≡◌, ◌-◌, ◌^◌, false, List, subst, inl}
-use Rattle.lsm_choice.specs.Reservations.{IsClear}
+use Rattle.lsm_picker.specs.Reservations.{IsClear}
 use Rattle.lsm_live.specs.Reserving.{reserved_jobs}
 use Rattle.lsm_merge.specs.Work.{Work}
 use Rattle.lsm_state.specs.Reserving.{IsOfMoment, IsRangePlan, IsReserving, plan_in, reserved}

@@ -4,8 +4,8 @@ use Rattle.lsm_codec.specs.Entries.{Entry, internal_key}
 use Rattle.lsm_table.specs.Registry.{Table}
 use Rattle.lsm_table.specs.Table.{IsTable}
 use Rattle.lsm_table.proofs.CallerLemmas.{table_held}
-use Rattle.lsm_levels.specs.Ranges.{Range}
-use Rattle.lsm_levels.specs.Checking.{IsRangeOf}
+use Rattle.lsm_model.specs.Ranges.{Range}
+use Rattle.lsm_model.specs.Checking.{IsRangeOf}
 use Rattle.lsm_version.specs.Versions.{IsWhole}
 use Rattle.lsm_version.proofs.Ascending.{table_ascends}
 use Rattle.lsm_version.proofs.change.tables_are_whole.Goals as goal

@@ -1,6 +1,6 @@
 use Rattle.std.proofs.Common.{◌≡◌, ◌∙◌, Some, sym, subst}
 use Rattle.lsm_codec.specs.KeyRef.{key_of}
-use Rattle.lsm_merger.specs.Heads.{first_of, key_in}
+use Rattle.lsm_iterators.specs.Heads.{first_of, key_in}
 use Rattle.lsm_merge.specs.Dropping.{follows}
 use Rattle.lsm_merge.specs.Remembered.{Streaming}
 use Rattle.lsm_merge.proofs.StreamLaws.{order_at}

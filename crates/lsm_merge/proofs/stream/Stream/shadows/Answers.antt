@@ -1,8 +1,8 @@
 use Rattle.std.proofs.Common.{◌≡◌, ◌∙◌, Some, [], sym, subst}
 use Rattle.lsm_codec.specs.KeyRef.{key_of}
 use Rattle.lsm_block.specs.Block.{entry_of}
-use Rattle.lsm_levels.specs.Streams.{is_shadowed}
-use Rattle.lsm_merger.specs.Heads.{first_of, key_in}
+use Rattle.lsm_model.specs.Streams.{is_shadowed}
+use Rattle.lsm_iterators.specs.Heads.{first_of, key_in}
 use Rattle.lsm_merge.specs.Remembered.{Streaming}
 use Rattle.lsm_merge.proofs.StreamLaws.{order_at}
 use Rattle.lsm_merge.proofs.stream.Stream.shadows.Goals as goal

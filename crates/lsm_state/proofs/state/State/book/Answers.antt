@@ -1,6 +1,6 @@
 use Rattle.std.proofs.Common.{◌≡◌, suc, ◌+◌, [], ◌∷◌, ◌++◌, ◌∙◌, ap, sym, subst, arith}
-use Rattle.lsm_choice.specs.Reservations.{IsClear}
-use Rattle.lsm_choice.specs.TablePlans.{StandsIn, TablePlan}
+use Rattle.lsm_picker.specs.Reservations.{IsClear}
+use Rattle.lsm_picker.specs.TablePlans.{StandsIn, TablePlan}
 use Rattle.lsm_merge.specs.Work.{Work}
 use Rattle.lsm_live.specs.Booked.{new_booked}
 use Rattle.lsm_live.specs.Reserving.{reserved_jobs}

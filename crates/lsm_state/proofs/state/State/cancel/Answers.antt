@@ -1,5 +1,5 @@
 use Rattle.std.proofs.Common.{subst}
-use Rattle.lsm_levels.specs.Plain.{Cancels}
+use Rattle.lsm_model.specs.Plain.{Cancels}
 use Rattle.lsm_state.specs.Held.{Held, plain}
 use Rattle.lsm_state.proofs.StateLaws.{cancels, lawful_cancelled}
 use Rattle.lsm_state.proofs.state.State.cancel.Goals as goal

@@ -5,8 +5,8 @@ use Rattle.lsm_shelf.specs.Asked.{Asked}
 use Rattle.lsm_shelf.specs.Refusals.{IsWantOr}
 use Rattle.lsm_shelf.specs.declared.shelf_fault.ShelfFault.{ShelfFault}
 use Rattle.lsm_version.specs.Versions.{Levels}
-use Rattle.lsm_levels.specs.Law.{Law}
-use Rattle.lsm_levels.specs.Runs.{Agrees}
+use Rattle.lsm_model.specs.Law.{Law}
+use Rattle.lsm_model.specs.Runs.{Agrees}
 use Rattle.lsm_slots.specs.Slots.{Published}
 use Rattle.lsm_live.specs.Booked.{Booked}
 use Rattle.lsm_journal.specs.Difference.{Difference, changed_by}

@@ -1,7 +1,7 @@
 use Rattle.std.proofs.Common.{◌≡◌, ◌∙◌, ap, sym, subst}
 use Rattle.lsm_version.specs.FileNumbers.{AreDistinct}
 use Rattle.lsm_version.specs.Versions.{IsSound, Levels, numbers_in}
-use Rattle.lsm_choice.specs.TablePlans.{TablePlan}
+use Rattle.lsm_picker.specs.TablePlans.{TablePlan}
 use Rattle.lsm_merge.specs.Work.{Work}
 use Rattle.lsm_state.specs.Held.{Held}
 use Rattle.lsm_state.proofs.ReserveLaws.{moves_by, ordered, whole_parts}

@@ -1,5 +1,5 @@
 use Rattle.std.proofs.Common.{◌≡◌, suc, ◌+◌, subst, arith}
-use Rattle.lsm_levels.specs.Plain.{Draws}
+use Rattle.lsm_model.specs.Plain.{Draws}
 use Rattle.lsm_state.specs.Held.{Held, plain}
 use Rattle.lsm_state.proofs.StateLaws.{draws, lawful_drawn}
 use Rattle.lsm_state.proofs.state.State.new_number.Goals as goal

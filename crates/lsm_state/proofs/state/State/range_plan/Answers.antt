@@ -1,8 +1,8 @@
 use Rattle.std.proofs.Common.{◌≡◌, ◌≤◌, List, [], false, ap, sym, subst, ◌∙◌}
 use Rattle.lsm_codec.specs.Lists.{Has}
 use Rattle.lsm_version.specs.Versions.{Levels}
-use Rattle.lsm_choice.specs.Reservations.{IsClear, IsLeastConflict, Reserved}
-use Rattle.lsm_choice.specs.TablePlans.{IsPlanFrom, StandsIn, TablePlan, files_over, tables_over}
+use Rattle.lsm_picker.specs.Reservations.{IsClear, IsLeastConflict, Reserved}
+use Rattle.lsm_picker.specs.TablePlans.{IsPlanFrom, StandsIn, TablePlan, files_over, tables_over}
 use Rattle.lsm_live.specs.Reserving.{reserved_jobs}
 use Rattle.lsm_state.specs.Held.{Held}
 use Rattle.lsm_state.proofs.ReserveLaws.{if_some, match_some, planned_at, refused_conflict}

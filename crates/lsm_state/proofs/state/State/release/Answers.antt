@@ -1,5 +1,5 @@
 use Rattle.std.proofs.Common.{subst}
-use Rattle.lsm_levels.specs.Plain.{Releases}
+use Rattle.lsm_model.specs.Plain.{Releases}
 use Rattle.lsm_state.specs.Held.{Held, plain}
 use Rattle.lsm_state.proofs.StateLaws.{lawful_released, releases}
 use Rattle.lsm_state.proofs.state.State.release.Goals as goal

@@ -1,8 +1,8 @@
 use Rattle.std.proofs.Common.{◌≡◌, List, false, ap, sym, subst, ◌∙◌}
 use Rattle.lsm_version.specs.Versions.{Levels}
-use Rattle.lsm_choice.specs.Choice.{HasNoChoice, IsChoice}
-use Rattle.lsm_choice.specs.Reservations.{Reserved}
-use Rattle.lsm_choice.specs.TablePlans.{TablePlan}
+use Rattle.lsm_picker.specs.Choice.{HasNoChoice, IsChoice}
+use Rattle.lsm_picker.specs.Reservations.{Reserved}
+use Rattle.lsm_picker.specs.TablePlans.{TablePlan}
 use Rattle.lsm_live.specs.Reserving.{reserved_jobs}
 use Rattle.lsm_state.specs.Held.{Held}
 use Rattle.lsm_state.specs.Reserving.{IsReserveRefusal}

@@ -1,6 +1,6 @@
 use Rattle.std.proofs.Common.{◌≡◌, []}
-use Rattle.lsm_choice.specs.Reservations.{IsClear}
-use Rattle.lsm_choice.specs.TablePlans.{TablePlan, files_over, tables_over}
+use Rattle.lsm_picker.specs.Reservations.{IsClear}
+use Rattle.lsm_picker.specs.TablePlans.{TablePlan, files_over, tables_over}
 use Rattle.lsm_live.specs.Reserving.{reserved_jobs}
 use Rattle.lsm_state.specs.Held.{Held}
 use Rattle.lsm_state.specs.Reserving.{IsPlanAt, IsRangePlan, IsRangeRefusal}

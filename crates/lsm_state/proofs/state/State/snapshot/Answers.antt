@@ -1,6 +1,6 @@
 use Rattle.std.proofs.Common.{◌∙◌, ap, subst}
 use Rattle.lsm_version.specs.Versions.{Levels}
-use Rattle.lsm_levels.specs.Plain.{TakesSnapshot}
+use Rattle.lsm_model.specs.Plain.{TakesSnapshot}
 use Rattle.lsm_state.specs.Held.{Held, plain}
 use Rattle.lsm_state.proofs.StateLaws.{lawful_taken, taken_at, takes}
 use Rattle.lsm_state.proofs.state.State.snapshot.Goals as goal

@@ -1,8 +1,8 @@
 use Rattle.std.proofs.Common.{ap, ◌∙◌, subst}
 use Rattle.std.specs.Prelude.{IfOk}
-use Rattle.lsm_levels.specs.Files.{all_entries}
-use Rattle.lsm_levels.specs.Scanning.{IsScan}
-use Rattle.lsm_merger.specs.Seeking.{at_or_past}
+use Rattle.lsm_model.specs.Files.{all_entries}
+use Rattle.lsm_model.specs.Scanning.{IsScan}
+use Rattle.lsm_iterators.specs.Seeking.{at_or_past}
 use Rattle.lsm_version.specs.Versions.{Levels, files}
 use Rattle.lsm_store.specs.Promised.{AnswersAll}
 use Rattle.lsm_store.specs.Readers.{KnowsAll, KnownVersion, Learnt}

@@ -1,6 +1,0 @@
-use Rattle.lsm_loading.specs.Marks.{marked_in}
-use Rattle.lsm_bench.proofs.running.run_named.Given as goal
-
--- how far the new state was
-abbrev pub ghosts-run_state : goal.ghosts-run_state
-ghosts-run_state g a = record { found = marked_in a.state }

@@ -1,0 +1,166 @@
+-- What is left behind the lines, and why all is not done.
+use Rattle.std.proofs.Common.{◌≡◌, ℕ, ◌+◌, ◌<◌, ◌≤◌, List, [], ◌∷◌, ◌++◌, length, get_or, take, drop, Option, Some, None, All, refl, sym, ap, ◌∙◌, subst, append_assoc, inl, inr}
+use Rattle.std.proofs.lemmas.List.{drop_more, take-append-drop, take_all}
+use Rattle.std.proofs.lemmas.List.Elements.{All-more}
+use Rattle.std.specs.Prelude.{Result, Ok, Err, IfErr, OnErr, OnOk}
+use Rattle.lsm_codec.specs.Entries.{Entry}
+use Rattle.lsm_shelf.specs.Asked.{Asked}
+use Rattle.lsm_shelf.specs.declared.shelf_fault.ShelfFault.{ShelfFault}
+use Rattle.lsm_history.specs.History.{IsLater}
+use Rattle.lsm_batch.specs.declared.write.Write.{Write}
+use Rattle.lsm_lines.specs.Gathering.{Pending}
+use Rattle.lsm_lines.specs.declared.write_line_fault.WriteLineFault.{WriteLineFault}
+use Rattle.lsm_lines.specs.declared.write_line_fault.WriteLineFault.TheVariants as lines
+use Rattle.lsm_store.specs.Workers.{IsWorkersEnd}
+use Rattle.lsm_store.specs.declared.worker_end.WorkerEnd.{WorkerEnd}
+use Rattle.lsm_store.specs.declared.worker_fault.WorkerFault.{WorkerFault}
+use Rattle.lsm_bulk_load.specs.Ending.{IsFaultless, IsFirstFault, IsLate}
+use Rattle.lsm_bulk_load.specs.Loading.{IsLoaded, IsStopped, IsUnloaded, SomeAreIn, SomeAreInToo, StopsBehind}
+use Rattle.lsm_bulk_load.specs.Marks.{Marked}
+use Rattle.lsm_bulk_load.specs.declared.load_fault.LoadFault.{LoadFault}
+use Rattle.lsm_bulk_load.specs.declared.load_fault.LoadFault.TheVariants.{OutOfMemory, Shelf, Line, Ingest, Other, Worker, Due}
+use Rattle.lsm_bulk_load.specs.declared.progress.Progress.{Progress}
+use Rattle.lsm_bulk_load.proofs.LoadLaws.{loads_none}
+
+-- ---- workers
+
+split_at : (ends : List WorkerEnd) (i : ℕ) (d : WorkerEnd) → i < length ends → ends ≡ take i ends ++ get_or ends i d ∷ drop (i + 1) ends
+split_at ends i d lt = sym (take-append-drop i ends) ∙ ap (λ (es : List WorkerEnd). take i ends ++ es) (drop_more ends i d lt)
+
+pub first_fault : (ends : List WorkerEnd) (i : ℕ) (d : WorkerEnd) (fault : WorkerFault) → i < length ends → All IsFaultless (take i ends)
+    → (get_or ends i d).fault ≡ Some fault → IsFirstFault fault ends
+first_fault ends i d fault lt before its = record {
+  front = take i ends;
+  first = get_or ends i d;
+  back = drop (i + 1) ends;
+  parts = split_at ends i d lt;
+  faultless = before;
+  its = its;
+}
+
+pub more_faultless : (ends : List WorkerEnd) (i : ℕ) (d : WorkerEnd) → i < length ends → All IsFaultless (take i ends)
+    → (get_or ends i d).fault ≡ None → All IsFaultless (take (i + 1) ends)
+more_faultless ends i d lt before its = All-more IsFaultless ends i d lt before its
+
+pub all_faultless : (ends : List WorkerEnd) (i : ℕ) → length ends ≤ i → All IsFaultless (take i ends) → All IsFaultless ends
+all_faultless ends i end before = subst (λ (es : List WorkerEnd). All IsFaultless es) (take_all i ends end) before
+
+-- ---- histories
+
+later_same : (es : List Entry) → IsLater es es
+later_same es = ([], refl)
+
+later_is : (now old : List Entry) → now ≡ old → IsLater now old
+later_is now old e = ([], e)
+
+later_then : (a b c : List Entry) → IsLater c b → IsLater b a → IsLater c a
+later_then a b c p q = (p.0 ++ q.0, p.1 ∙ ap (λ (l : List Entry). p.0 ++ l) q.1 ∙ sym (append_assoc p.0 q.0 a))
+
+-- ---- what is in
+
+-- nothing came in yet
+none_came : (old : Pending) (found : Marked) (p : Progress) → old.held ≡ [] → p ≡ record { lines = 0; batches = 0 } → SomeAreIn old found found p
+none_came old found p held none =
+    (old.left, old.held, loads_none old found p held (ap (λ (q : Progress). q.lines) none) (ap (λ (q : Progress). q.batches) none))
+
+all_in : (old : Pending) (found now : Marked) (p : Progress) → IsLoaded old found now p → SomeAreIn old found now p
+all_in old found now p l = (l.0, [], l.1)
+
+before_line : (old : Pending) (found now : Marked) (p : Progress) (fault : WriteLineFault) → StopsBehind old found now p fault → SomeAreIn old found now p
+before_line old found now p (lines.BadLine place) s = (s.0, [], s.1)
+before_line old found now p lines.LongLine s = (s.0, [], s.1)
+before_line old found now p lines.LargeWrite s = (s.0, [], s.1)
+before_line old found now p lines.Read s = (s.0, [], s.1)
+before_line old found now p lines.OutOfMemory s = s
+
+-- up to the mark, or some earlier one
+in_too : (Refused : Asked → ShelfFault → Type 0) (origin : Marked) (old : Pending) (found mark : Marked) (p : Progress) (e : LoadFault) → IsStopped Refused origin old found mark p e
+    → SomeAreInToo old found mark p
+in_too Refused origin old found mark p OutOfMemory s = (mark, s, later_same mark.history)
+in_too Refused origin old found mark p (Line fault) s = (mark, before_line old found mark p fault s, later_same mark.history)
+in_too Refused origin old found mark p (Ingest fault) s = (mark, (s.0, s.1, s.2), later_same mark.history)
+in_too Refused origin old found mark p Other s = s
+in_too Refused origin old found mark p (Shelf fault) s = absurd s
+in_too Refused origin old found mark p (Worker fault) s = absurd s
+in_too Refused origin old found mark p Due s = absurd s
+
+too_later : (old : Pending) (found mark now : Marked) (p : Progress) → SomeAreInToo old found mark p → IsLater now.history mark.history → SomeAreInToo old found now p
+too_later old found mark now p s later = (s.0, s.1, later_then s.0.history mark.history now.history later s.2)
+
+-- ---- why all is not done
+
+of_lines : (Refused : Asked → ShelfFault → Type 0) (Honest : Type 0) (origin : Marked) (old : Pending) (found now : Marked) (p : Progress) (e : LoadFault)
+    → IsStopped Refused origin old found now p e → IsUnloaded Refused Honest origin old found now p e
+of_lines Refused Honest origin old found now p OutOfMemory s = s
+of_lines Refused Honest origin old found now p (Line fault) s = s
+of_lines Refused Honest origin old found now p (Ingest fault) s = s
+of_lines Refused Honest origin old found now p Other s = s
+of_lines Refused Honest origin old found now p (Shelf fault) s = absurd s
+of_lines Refused Honest origin old found now p (Worker fault) s = absurd s
+of_lines Refused Honest origin old found now p Due s = absurd s
+
+-- all lines are in, and then this
+behind_all : {T : Type 0} (Refused : Asked → ShelfFault → Type 0) (Honest : Type 0) (origin : Marked) (old : Pending) (found mark now : Marked) (p : Progress) (x : T) (ends : List WorkerEnd) (e : LoadFault)
+    → IsLoaded old found mark p → All (IsWorkersEnd Honest) ends → IsLate {T = T} mark now (Ok x) ends e → IsUnloaded Refused Honest origin old found now p e
+behind_all Refused Honest origin old found mark now p x ends e l each (inl k) =
+    rw k.0 (too_later old found mark now p (mark, all_in old found mark p l, later_same mark.history) k.1)
+behind_all Refused Honest origin old found mark now p x ends (Worker fault) l each (inr k) =
+    (subst (λ (m : Marked). IsLoaded old found m p) (sym k.0) l, (ends, each, k.1))
+behind_all Refused Honest origin old found mark now p x ends Due l each (inr k) = subst (λ (m : Marked). IsLoaded old found m p) (sym k.0) l
+behind_all Refused Honest origin old found mark now p x ends OutOfMemory l each (inr k) = absurd k.1
+behind_all Refused Honest origin old found mark now p x ends (Line fault) l each (inr k) = absurd k.1
+behind_all Refused Honest origin old found mark now p x ends (Ingest fault) l each (inr k) = absurd k.1
+behind_all Refused Honest origin old found mark now p x ends Other l each (inr k) = absurd k.1
+behind_all Refused Honest origin old found mark now p x ends (Shelf fault) l each (inr k) = absurd k.1
+
+-- not all are
+behind_some : (T : Type 0) (Refused : Asked → ShelfFault → Type 0) (Honest : Type 0) (origin : Marked) (old : Pending) (found mark now : Marked) (p : Progress) (f : LoadFault) (ends : List WorkerEnd) (e : LoadFault)
+    → IsStopped Refused origin old found mark p f → IsLate {T = T} mark now (Err f) ends e → IsUnloaded Refused Honest origin old found now p e
+behind_some T Refused Honest origin old found mark now p f ends e s (inl k) = rw k.0 (too_later old found mark now p (in_too Refused origin old found mark p f s) k.1)
+behind_some T Refused Honest origin old found mark now p f ends e s (inr k) =
+    let here : IsStopped Refused origin old found now p f = subst (λ (m : Marked). IsStopped Refused origin old found m p f) (sym k.0) s in
+    rw k.1 (of_lines Refused Honest origin old found now p f here)
+
+-- ---- one reason
+
+pub late_other : {T : Type 0} (mark now : Marked) (loaded : Result T LoadFault) (ends : List WorkerEnd) → IsLater now.history mark.history → IsLate mark now loaded ends Other
+late_other mark now loaded ends later = inl (refl, later)
+
+pub late_lines : {T : Type 0} (mark now : Marked) (loaded : Result T LoadFault) (ends : List WorkerEnd) (e : LoadFault) → loaded ≡ Err e → now ≡ mark → IsLate mark now loaded ends e
+late_lines mark now loaded ends e is same = rw is (inr (same, refl))
+
+pub late_worker : {T : Type 0} (mark now : Marked) (loaded : Result T LoadFault) (ends : List WorkerEnd) (x : T) (fault : WorkerFault) → loaded ≡ Ok x → now ≡ mark → IsFirstFault fault ends
+    → IsLate mark now loaded ends (Worker fault)
+late_worker mark now loaded ends x fault is same first = rw is (inr (same, first))
+
+pub late_due : {T : Type 0} (mark now : Marked) (loaded : Result T LoadFault) (ends : List WorkerEnd) (x : T) → loaded ≡ Ok x → now ≡ mark → IsLate mark now loaded ends Due
+late_due mark now loaded ends x is same = rw is (inr (same, tt))
+
+pub none_refused : {T : Type 0} (loaded : Result T LoadFault) (x : T) → loaded ≡ Ok x → OnErr loaded ⊥
+none_refused loaded x is = rw is tt
+
+-- ---- a load beside workers, by what came of the lines, and then of the workers
+
+pub finished : {T : Type 0} (old : Pending) (found mark m now : Marked) (p : Progress) (loaded done : Result T LoadFault) → mark ≡ found → OnOk loaded (IsLoaded old mark m p)
+    → OnOk done (OnErr loaded ⊥) → OnOk done (now ≡ m) → OnOk done (IsLoaded old found now p)
+finished old found mark m now p (Ok x) (Ok y) same l none is =
+    subst (λ (f : Marked). IsLoaded old f now p) same (subst (λ (n : Marked). IsLoaded old mark n p) (sym is) l)
+finished old found mark m now p (Err e) (Ok y) same l none is = absurd none
+finished old found mark m now p loaded (Err e) same l none is = tt
+
+pub unfinished : {T : Type 0} (Refused : Asked → ShelfFault → Type 0) (Honest : Type 0) (origin : Marked) (old : Pending) (found mark m now : Marked) (p : Progress) (ends : List WorkerEnd)
+    (loaded done : Result T LoadFault) → mark ≡ found → OnOk loaded (IsLoaded old mark m p) → IfErr loaded (λ e. IsStopped Refused origin old mark m p e)
+    → All (IsWorkersEnd Honest) ends → IfErr done (λ e. IsLate m now loaded ends e) → IfErr done (λ e. IsUnloaded Refused Honest origin old found now p e)
+unfinished Refused Honest origin old found mark m now p ends loaded (Ok y) same l s each late = tt
+unfinished Refused Honest origin old found mark m now p ends (Ok x) (Err e) same l s each late =
+    behind_all Refused Honest origin old found m now p x ends e (subst (λ (f : Marked). IsLoaded old f m p) same l) each late
+unfinished {T} Refused Honest origin old found mark m now p ends (Err f) (Err e) same l s each late =
+    behind_some T Refused Honest origin old found m now p f ends e (subst (λ (g : Marked). IsStopped Refused origin old g m p f) same s) late
+
+-- no worker began
+pub unbegun : {T : Type 0} (Refused : Asked → ShelfFault → Type 0) (Honest : Type 0) (origin : Marked) (old : Pending) (found mark now : Marked) (p : Progress) (done : Result T LoadFault)
+    → mark ≡ found → old.held ≡ [] → p ≡ record { lines = 0; batches = 0 } → IfErr done (λ e. IsLate {T = T} mark now (Err OutOfMemory) [] e)
+    → IfErr done (λ e. IsUnloaded Refused Honest origin old found now p e)
+unbegun Refused Honest origin old found mark now p (Ok y) same held none late = tt
+unbegun {T} Refused Honest origin old found mark now p (Err e) same held none late =
+    behind_some T Refused Honest origin old found mark now p OutOfMemory [] e (subst (λ (m : Marked). SomeAreIn old found m p) (sym same) (none_came old found p held none)) late

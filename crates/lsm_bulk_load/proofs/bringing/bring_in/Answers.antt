@@ -1,0 +1,9 @@
+use Rattle.lsm_bulk_load.proofs.MarkLaws.{came_next, even_ingest}
+use Rattle.lsm_bulk_load.proofs.bringing.bring_in.Goals as goal
+
+pub ingest-requires-clause-kept : goal.ingest-requires-clause-kept
+ingest-requires-clause-kept g c κs within = even_ingest (g.S.Shelf.refuses g.N.Naming.place) g.O.Origin.found c.args.batch.now
+
+pub returns-in-Ok-mark_behind-clause-came : goal.returns-in-Ok-mark_behind-clause-came
+returns-in-Ok-mark_behind-clause-came g c =
+    came_next g.O.Origin.found c.args.mark c.in-Ok-mark_behind.next c.args.batch.now c.in-Ok.came c.args.shelf.now c.ingest.new.shelf c.in-Ok.ensures.ok c.in-Ok-mark_behind.ensures.next

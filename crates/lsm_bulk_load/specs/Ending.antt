@@ -1,0 +1,38 @@
+-- What is left behind lines that were loaded beside workers (this project's rule).
+use Rattle.std.specs.Prelude.{◌≡◌, ◌⊎◌, ⊤, List, ◌∷◌, ◌++◌, All, None, Some, Result, Ok, Err}
+use Rattle.lsm_history.specs.History.{IsLater}
+use Rattle.lsm_picker.specs.Choice.{HasNoChoice}
+use Rattle.lsm_live.specs.Reserving.{reserved_jobs}
+use Rattle.lsm_state.specs.Held.{Held}
+use Rattle.lsm_store.specs.declared.worker_end.WorkerEnd.{WorkerEnd}
+use Rattle.lsm_store.specs.declared.worker_fault.WorkerFault.{WorkerFault}
+use Rattle.lsm_bulk_load.specs.Marks.{Marked}
+use Rattle.lsm_bulk_load.specs.declared.load_fault.LoadFault.{LoadFault}
+use Rattle.lsm_bulk_load.specs.declared.load_fault.LoadFault.TheVariants.{Other, Worker, Due}
+
+-- Nothing is due: there is no compaction to choose beside the live jobs.
+abbrev pub IsIdle : Held → Type 0
+IsIdle h = HasNoChoice h.slots.version (reserved_jobs h.live)
+
+abbrev pub IsFaultless : WorkerEnd → Type 0
+IsFaultless e = e.fault ≡ None
+
+-- the fault of the first worker that has one
+pub record IsFirstFault (fault : WorkerFault) (ends : List WorkerEnd) : Type 0 where
+  pub front : List WorkerEnd
+  pub first : WorkerEnd
+  pub back : List WorkerEnd
+  pub parts : ends ≡ front ++ first ∷ back
+  pub faultless : All IsFaultless front
+  pub its : first.fault ≡ Some fault
+
+-- Why all is not done, where the lines came to this and workers ended so: the lines' own fault; or all lines are in, and this worker ended early, or something is due.
+abbrev pub IsOfEnd : {T : Type 0} → Result T LoadFault → List WorkerEnd → LoadFault → Type 0
+IsOfEnd (Err fault) ends e = e ≡ fault
+IsOfEnd (Ok x) ends (Worker fault) = IsFirstFault fault ends
+IsOfEnd (Ok x) ends Due = ⊤
+IsOfEnd (Ok x) ends e = ⊥
+
+-- The state goes on from the mark, since another batch came in; or it is just as far, and that is why.
+abbrev pub IsLate : {T : Type 0} → (mark now : Marked) → Result T LoadFault → List WorkerEnd → LoadFault → Type 0
+IsLate mark now loaded ends e = ((e ≡ Other) × IsLater now.history mark.history) ⊎ ((now ≡ mark) × IsOfEnd loaded ends e)

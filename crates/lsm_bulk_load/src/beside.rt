@@ -1,0 +1,169 @@
+//! Lines come into a state while workers compact beside.
+
+ghost use Rattle.std.specs.Prelude.{◌≡◌, [], All, IfErr, IfSome, OnOk};
+ghost use Rattle.lsm_shelf.specs.Told.{Forked};
+ghost use Rattle.lsm_store.specs.Workers.{IsWorkersEnd};
+ghost use Rattle.lsm_bulk_load.specs.Ending.{IsIdle};
+ghost use Rattle.lsm_bulk_load.specs.Loading.{IsLoaded, IsStopped, IsUnloaded};
+ghost use Rattle.lsm_bulk_load.specs.Marks.{IsEven, marked_in};
+
+use crate::crew::Crew;
+use crate::ending::finish;
+use crate::load_fault::LoadFault;
+use crate::loading::load;
+use crate::mark::Mark;
+use crate::origin::Origin;
+use crate::progress::Progress;
+use crate::teller::Teller;
+use lsm_lines::BatchReader;
+use lsm_slots::Boarded;
+use lsm_state::State;
+use lsm_store::{Background, NoGate, WorkerEnd, with_workers};
+use lsm_table::{NamedShelf, Shelf};
+use std::alloc::Global;
+use std::io::Read;
+use std::sync::Wait;
+use std::thread::Threads;
+
+/// What lines came to, the mark behind those that came in, and how much that is; and the workers'
+/// ends.
+type Answer<N, O> = (
+    (Result<(), LoadFault>, Mark<N, O>, Progress),
+    Vec<WorkerEnd>,
+);
+
+/// What a load comes to.
+#[derive(Drop)]
+pub struct Loaded<N: Boarded, S: Shelf> {
+    /// Whether all is done, or why it is not.
+    pub done: Result<(), LoadFault>,
+    /// How much came in.
+    pub progress: Progress,
+    /// The state behind that.
+    pub state: State<N, S>,
+}
+
+/// Loads the lines of an input into a store, while its workers compact until nothing is due. None
+/// where there was no memory for the workers; then nothing came in of the lines.
+#[tactic(auto, using(crate::proofs::MarkLaws::even_compacting))]
+fn load_all<N: Boarded, S: Shelf, O: Origin, R: Threads + Wait + Sync, I: Read + Drop, T: Teller>(
+    rt: &R,
+    alloc: Global,
+    crew: Crew<N, S, O>,
+    mark: Mark<N, O>,
+    lines: BatchReader<I>,
+    teller: &mut T,
+) -> (Option<Answer<N, O>>, State<N, S>)
+    requires { lines.held ≡ [] }
+    ensures loaded { IfSome result.0 (λ a.
+        OnOk a.0.0 (IsLoaded lines mark a.0.1 a.0.2)) }
+    ensures refused { IfSome result.0 (λ a. IfErr a.0.0 (λ e.
+        IsStopped (S.refuses N.place) O.found lines mark a.0.1 a.0.2 e)) }
+    ensures ends { IfSome result.0 (λ a. All (IsWorkersEnd S.honest) a.1.items) }
+    ensures even { IsEven O.found (marked_in result.1) }
+{
+    let Crew {
+        store,
+        shelves,
+        own,
+    } = crew;
+    let lent = &store;
+    let told = &mut *teller;
+    let run = with_workers(
+        rt,
+        alloc,
+        &store,
+        shelves,
+        &NoGate,
+        move |background: &Background| -> (Result<(), LoadFault>, Mark<N, O>, Progress)
+            requires { lines.held ≡ [] }
+            ensures loaded { OnOk result.0 (IsLoaded lines mark result.1 result.2) }
+            ensures refused { IfErr result.0 (λ e.
+                IsStopped (S.refuses N.place) O.found lines mark result.1 result.2 e) }
+        {
+            let mut own = own;
+            let mut lines = lines;
+            let loaded = load(
+                rt, alloc, lent, background, &mut own, &mut lines, mark, told,
+            );
+            background.wait_until_idle(rt);
+            loaded
+        },
+    );
+    match run {
+        Ok(answer) => (Some(answer), store.into_state()),
+        Err(refused) => {
+            drop(refused);
+            (None, store.into_state())
+        }
+    }
+}
+
+/// Loads the lines of an input, of which none was gathered yet, into a state, while so many workers
+/// compact beside, until all lines are in and nothing is due. The shelf is asked for forks alone.
+///
+/// The state comes back. It is just as far as the lines made it that are counted; only behind
+/// `Other` it goes on from there. All of them are lines before the first one that is no write of a
+/// batch, where one is not.
+#[tactic(auto, using(crate::proofs::EndingLaws::finished, crate::proofs::EndingLaws::unfinished, crate::proofs::EndingLaws::unbegun, crate::proofs::MarkLaws::even_first))]
+pub fn load_beside<N, S, O, R, I, T>(
+    rt: &R,
+    alloc: Global,
+    state: State<N, S>,
+    shelf: &mut NamedShelf<N, S>,
+    workers: usize,
+    lines: BatchReader<I>,
+    teller: &mut T,
+) -> Loaded<N, S>
+where
+    N: Boarded,
+    S: Shelf,
+    O: Origin,
+    R: Threads + Wait + Sync,
+    I: Read + Drop,
+    T: Teller,
+    requires found { O.found ≡ marked_in state }
+    requires held { lines.held ≡ [] }
+    ensures loaded { OnOk result.done
+        (IsLoaded lines (marked_in state) (marked_in result.state) result.progress) }
+    ensures idle { OnOk result.done (S.honest → IsIdle result.state) }
+    ensures refused { IfErr result.done (λ e. IsUnloaded (S.refuses N.place) S.honest O.found
+        lines (marked_in state) (marked_in result.state) result.progress e) }
+    ensures told { Forked shelf.old shelf.new }
+{
+    let mut state = state;
+    let before: Mark<N, O> = Mark::of(&mut state);
+    let mark: Mark<N, O> = Mark::of(&mut state);
+    let crew = match Crew::new(alloc, state, shelf, workers) {
+        Ok(crew) => crew,
+        Err((state, fault)) => {
+            return Loaded {
+                done: Err(LoadFault::Shelf(fault)),
+                progress: Progress::none(),
+                state,
+            };
+        }
+    };
+    let (answer, mut state) = load_all(rt, alloc, crew, mark, lines, teller);
+    match answer {
+        Some(answer) => {
+            let (came, ends) = answer;
+            let (loaded, mark, progress) = came;
+            let done = finish(alloc, mark, &mut state, loaded, &ends);
+            Loaded {
+                done,
+                progress,
+                state,
+            }
+        }
+        None => {
+            let refused = Err(LoadFault::OutOfMemory);
+            let done = finish(alloc, before, &mut state, refused, &[]);
+            Loaded {
+                done,
+                progress: Progress::none(),
+                state,
+            }
+        }
+    }
+}

@@ -1,0 +1,84 @@
+//! What is left behind the lines: whether workers ended early, and whether nothing is due.
+
+ghost use Rattle.std.specs.Prelude.{◌≡◌, All, IfErr, OnErr, OnOk};
+ghost use Rattle.lsm_bulk_load.specs.Ending.{IsFaultless, IsFirstFault, IsIdle, IsLate};
+ghost use Rattle.lsm_bulk_load.specs.Marks.{IsEven, marked_in};
+ghost use Rattle.lsm_bulk_load.specs.declared.load_fault.LoadFault.TheVariants.{Due};
+
+use crate::load_fault::LoadFault;
+use crate::mark::Mark;
+use crate::origin::Origin;
+use lsm_slots::Boarded;
+use lsm_state::State;
+use lsm_store::{WorkerEnd, WorkerFault};
+use lsm_table::Shelf;
+use std::alloc::Global;
+
+/// The fault of a worker, if it has one.
+fn fault_of(end: &WorkerEnd) -> Option<WorkerFault>
+    ensures { result ≡ end.now.fault }
+{
+    end.fault
+}
+
+/// Whether no worker ended early; else why the first one did.
+fn judge(ends: &[WorkerEnd]) -> Result<(), WorkerFault>
+    ensures faultless { OnOk result (All IsFaultless ends.now) }
+    ensures first { IfErr result (λ fault. IsFirstFault fault ends.now) }
+{
+    for end in ends {
+        if let Some(fault) = fault_of(end) {
+            return Err(fault);
+        }
+    }
+    Ok(())
+}
+
+/// Whether there is nothing to compact. What is chosen is given up again.
+fn nothing_is_due<N: Boarded, S: Shelf>(
+    alloc: Global,
+    state: &mut State<N, S>,
+) -> Result<(), LoadFault>
+    ensures idle { OnOk result (S.honest → IsIdle state.new) }
+    ensures due { IfErr result (λ e. e ≡ Due) }
+    ensures same { marked_in state.new ≡ marked_in state.old }
+{
+    match state.reserve(alloc) {
+        Ok(None) => Ok(()),
+        Ok(Some(job)) => {
+            let _ = state.cancel(job.ticket());
+            Err(LoadFault::Due)
+        }
+        Err(_) => Err(LoadFault::Due),
+    }
+}
+
+/// Whether all is done, where lines came in up to a mark, and workers ended so: the state is just
+/// as far as the mark, all lines are in, no worker ended early, and nothing is due.
+#[tactic(auto, using(crate::proofs::EndingLaws::late_other, crate::proofs::EndingLaws::late_lines, crate::proofs::EndingLaws::late_worker, crate::proofs::EndingLaws::late_due, crate::proofs::EndingLaws::none_refused))]
+pub(crate) fn finish<N: Boarded, S: Shelf, O: Origin>(
+    alloc: Global,
+    mark: Mark<N, O>,
+    state: &mut State<N, S>,
+    loaded: Result<(), LoadFault>,
+    ends: &[WorkerEnd],
+) -> Result<(), LoadFault>
+    requires { IsEven O.found (marked_in state.old) }
+    ensures as_far { OnOk result (marked_in state.new ≡ mark) }
+    ensures loaded { OnOk result (OnErr loaded ⊥) }
+    ensures idle { OnOk result (S.honest → IsIdle state.new) }
+    ensures faultless { OnOk result (All IsFaultless ends.now) }
+    ensures late { IfErr result (λ e. IsLate mark (marked_in state.new) loaded ends.now e) }
+{
+    if !mark.is_of(state) {
+        return Err(LoadFault::Other);
+    }
+    match loaded {
+        Ok(()) => {}
+        Err(fault) => return Err(fault),
+    }
+    match judge(ends) {
+        Ok(()) => nothing_is_due(alloc, state),
+        Err(fault) => Err(LoadFault::Worker(fault)),
+    }
+}

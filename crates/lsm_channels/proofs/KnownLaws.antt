@@ -1,0 +1,26 @@
+-- What is known goes on.
+use Rattle.std.proofs.Common.{◌≡◌, List, [], ◌++◌, sym, ap, ◌∙◌, append_assoc}
+use Rattle.lsm_codec.specs.Entries.{Entry}
+use Rattle.lsm_history.specs.History.{IsLater}
+use Rattle.lsm_state.specs.Held.{Held}
+use Rattle.lsm_channels.specs.Compacting.{IsCompacted}
+use Rattle.lsm_channels.specs.Served.{IsToldBy}
+
+pub told_later : (h : Held) (knew knows : List Entry) → IsToldBy h knew knows → IsLater knows knew
+told_later h knew knows told = (told.later.0, told.known ∙ told.later.1)
+
+-- what the state has of another history is known too
+pub told_other : (h : Held) (knew knows other : List Entry) → IsToldBy h knew knows → IsLater h.history other → IsLater knows other
+told_other h knew knows other told later = (later.0, told.known ∙ later.1)
+
+pub later_same : (now old : List Entry) → now ≡ old → IsLater now old
+later_same now old e = ([], e)
+
+pub later_then : (a b c : List Entry) → IsLater b a → IsLater c b → IsLater c a
+later_then a b c p q = (q.0 ++ p.0, q.1 ∙ ap (λ (es : List Entry). q.0 ++ es) p.1 ∙ sym (append_assoc q.0 p.0 a))
+
+told_since : (h : Held) (first knew knows : List Entry) → IsLater knew first → IsToldBy h knew knows → IsToldBy h first knows
+told_since h first knew knows later told = record { later = later_then first knew h.history later told.later; known = told.known }
+
+pub compacted_since : (Honest : Type 0) (first knew knows : List Entry) → IsLater knew first → IsCompacted Honest knew knows → IsCompacted Honest first knows
+compacted_since Honest first knew knows later c = (c.0, told_since c.0 first knew knows later c.1, c.2)

@@ -1,0 +1,40 @@
+-- What a session is answered by what is read.
+use Rattle.std.proofs.Common.{◌≡◌, ℕ, List, Result, Ok, Err, IfErr, IfOk, refl, subst, inl, inr}
+use Rattle.std.specs.Prelude.{◌⊎◌}
+use Rattle.lsm_codec.specs.Entries.{Entry}
+use Rattle.lsm_history.specs.History.{IsLater}
+use Rattle.lsm_shelf.specs.Told.{Told}
+use Rattle.lsm_state.specs.declared.state_fault.StateFault.{StateFault}
+use Rattle.lsm_store.specs.Readers.{Learnt}
+use Rattle.lsm_channels.specs.Answered.{refusal_frame}
+use Rattle.lsm_channels.specs.Served.{Served}
+
+-- what is said of snapshots that were taken, of a reader before and after, and of what was known and is known
+abbrev pub Seeing : Type 0 → Type 1
+Seeing X = List (ℕ × ℕ) → Learnt → Learnt → List Entry → List Entry → X → Type 0
+
+abbrev pub session_of : Learnt → Told → List Entry → List (ℕ × ℕ) → Served
+session_of reader shelf known taken = record { reader = reader; shelf = shelf; known = known; taken = taken }
+
+-- The frame says what was read, or the refusal of it. The shelf and the snapshots are as they were, and the reader learnt no earlier history.
+abbrev pub ReadsBy : Seeing (List ℕ) → Seeing StateFault → (before after : Served) → List ℕ → Type 0
+ReadsBy Done Fault before after frame =
+    (after.shelf ≡ before.shelf) × (after.taken ≡ before.taken) × IsLater after.reader.history before.reader.history
+    × (Done before.taken before.reader after.reader before.known after.known frame
+    ⊎ ((e : StateFault) × Fault before.taken before.reader after.reader before.known after.known e × (frame ≡ refusal_frame e)))
+
+-- what was read is answered
+pub says_read : {T : Type 0} (Done : Seeing (List ℕ)) (Fault : Seeing StateFault) (bytes : T → List ℕ) (session : Served) (b a : Learnt) (shelf : Told) (knew knows : List Entry)
+    (taken held : List (ℕ × ℕ)) (done : Result T StateFault) (v : T) → session_of b shelf knew taken ≡ session → held ≡ taken → IsLater a.history b.history
+    → done ≡ Ok v → IfOk done (λ w. Done held b a knew knows (bytes w)) → ReadsBy Done Fault session (session_of a shelf knows taken) (bytes v)
+says_read Done Fault bytes session b a shelf knew knows taken held done v view same later is said =
+    let read = subst (λ ts. Done ts b a knew knows (bytes v)) same (subst (λ r. IfOk r (λ w. Done held b a knew knows (bytes w))) is said) in
+    subst (λ (s : Served). ReadsBy Done Fault s (session_of a shelf knows taken) (bytes v)) view (refl, refl, later, inl read)
+
+-- a refusal is answered
+pub says_refused : {T : Type 0} (Done : Seeing (List ℕ)) (Fault : Seeing StateFault) (frame : List ℕ) (session : Served) (b a : Learnt) (shelf : Told) (knew knows : List Entry)
+    (taken held : List (ℕ × ℕ)) (done : Result T StateFault) (e : StateFault) → session_of b shelf knew taken ≡ session → held ≡ taken → IsLater a.history b.history
+    → done ≡ Err e → IfErr done (λ f. Fault held b a knew knows f) → frame ≡ refusal_frame e → ReadsBy Done Fault session (session_of a shelf knows taken) frame
+says_refused Done Fault frame session b a shelf knew knows taken held done e view same later is refused said =
+    let fault = subst (λ ts. Fault ts b a knew knows e) same (subst (λ r. IfErr r (λ f. Fault held b a knew knows f)) is refused) in
+    subst (λ (s : Served). ReadsBy Done Fault s (session_of a shelf knows taken) frame) view (refl, refl, later, inr (e, fault, said))

@@ -1,0 +1,13 @@
+use Rattle.std.proofs.Common.{ap, ◌∙◌, inl}
+use Rattle.lsm_frames.specs.Answers.{Told}
+use Rattle.lsm_channels.specs.Answered.{done_frame}
+use Rattle.lsm_channels.specs.Counting.{sizes_of}
+use Rattle.lsm_channels.proofs.session.answer_statistics.Goals as goal
+
+pub returns-in_ok-answer-in-Ok-clause-answered : goal.returns-in_ok-answer-in-Ok-clause-answered
+returns-in_ok-answer-in-Ok-clause-answered g c = inl (
+  c.in-Ok.last,
+  c.in-Ok.files.items,
+  c.in-Ok.ensures.listed,
+  c.in_ok-answer-in-Ok.ensures ∙ ap (λ ls. done_frame (Told c.in-Ok.last ls)) (c.sizes_of-sizes.ensures ∙ ap sizes_of c.deref.ensures.value),
+)

@@ -1,0 +1,60 @@
+//! Why no database is served.
+
+use lsm_cmd_write::WriterFault;
+use lsm_directory::DirectoryFault;
+
+/// Why no database is served.
+#[derive(Debug, Drop)]
+pub(crate) enum OpeningFault {
+    /// The opening request is in another form.
+    BadOpening,
+    /// There is no database, and none is to be made.
+    NoDatabase,
+    /// There is one, and that is to be refused.
+    IsThere,
+    /// The folder was not opened, or its database neither opened nor begun.
+    Folder(WriterFault),
+}
+
+/// The number and the name of a refusal of a folder.
+fn of_directory(fault: &DirectoryFault) -> (u8, &'static str) {
+    match fault {
+        DirectoryFault::Shelf(fault) => (fault.number(), fault.name()),
+        DirectoryFault::Manifest(fault) => (fault.number(), fault.name()),
+        DirectoryFault::Tables(fault) => (fault.number(), fault.name()),
+        DirectoryFault::Read(fault) => (fault.number(), fault.name()),
+        DirectoryFault::NumbersSpent => (46, "NumbersSpent"),
+        DirectoryFault::Locked => (52, "Locked"),
+        DirectoryFault::OutOfMemory | DirectoryFault::Write | DirectoryFault::Absent => {
+            (1, "OutOfMemory")
+        }
+    }
+}
+
+/// The number and the name of a refusal of a database.
+fn of_folder(fault: &WriterFault) -> (u8, &'static str) {
+    match fault {
+        WriterFault::Directory(fault) => of_directory(fault),
+        WriterFault::LostCurrent(_) => (10, "Missing"),
+        WriterFault::UnflushedLog(_) => (51, "UnflushedLog"),
+        WriterFault::State(fault) => (fault.number(), fault.name()),
+        // No file of writes is read here.
+        WriterFault::OutOfMemory
+        | WriterFault::Read
+        | WriterFault::Write
+        | WriterFault::BadLine(_, _) => (1, "OutOfMemory"),
+    }
+}
+
+impl OpeningFault {
+    /// The number and the name by which it is answered: those in docs/FORMATS.md, or above 200
+    /// those of an opening.
+    pub(crate) fn refusal(&self) -> (u8, &'static str) {
+        match self {
+            OpeningFault::BadOpening => (201, "BadOpening"),
+            OpeningFault::NoDatabase => (202, "NoDatabase"),
+            OpeningFault::IsThere => (203, "IsThere"),
+            OpeningFault::Folder(fault) => of_folder(fault),
+        }
+    }
+}

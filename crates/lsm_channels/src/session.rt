@@ -1,0 +1,349 @@
+//! What a channel is served with.
+
+ghost use Rattle.std.specs.Prelude.{◌≡◌, [], IfOk};
+ghost use Rattle.lsm_frames.specs.Requests.{Collects, Compacts, Reads, Releases, Scans};
+ghost use Rattle.lsm_frames.specs.Requests.{Snapshots, Statistics};
+ghost use Rattle.lsm_frames.specs.Requests.{Writes as AskedWrites};
+ghost use Rattle.lsm_frames.specs.Views.{asked_of, stretch_of};
+ghost use Rattle.lsm_history.specs.History.{IsLater};
+ghost use Rattle.lsm_channels.specs.Answering.{AnswersStatistics, IsAnswered};
+
+use crate::channel_reader::ChannelReader;
+use crate::collecting::collect;
+use crate::compacting::compact;
+use crate::reading::read;
+use crate::refusing::refuse;
+use crate::saying::{say_collected, say_compacted, say_released, say_taken, say_written};
+use crate::scanning::scan;
+use crate::snapshots::{release, take};
+use crate::statistics::{list, sizes_of};
+use crate::writing::write;
+use lsm_frames::{Keys, Range, Request, When, Writes, told};
+use lsm_history::Memory;
+use lsm_reader::Cached;
+use lsm_slots::Boarded;
+use lsm_state::StateFault;
+use lsm_store::{Background, Reader, Store};
+use lsm_table::{NamedShelf, Shelf};
+use std::alloc::{AllocError, Global};
+use std::marker::Model;
+use std::sync::Wait;
+use std::thread::Threads;
+
+/// Tells how much the database has.
+fn answer_statistics<N: Boarded, S: Shelf, R: Wait>(
+    rt: &R,
+    alloc: Global,
+    store: &Store<N, S>,
+    memory: &mut Memory<N>,
+) -> Result<Vec<u8>, AllocError>
+    ensures answered { IfOk result (λ v. AnswersStatistics memory.old memory.new v.items) }
+    ensures known { IsLater memory.new memory.old }
+{
+    match list(rt, alloc, store, memory) {
+        Ok((last, files)) => {
+            let sizes = sizes_of(&files);
+            let answer = told(alloc, last, &sizes)?;
+            Ok(answer)
+        }
+        Err(_) => {
+            let answer = refuse(alloc, StateFault::OutOfMemory)?;
+            Ok(answer)
+        }
+    }
+}
+
+/// What a channel is served with: a reader, which holds no pin between two requests, and a shelf;
+/// all that it knows to have come in, to be recalled; and the snapshots that it took, each a number
+/// and a sequence.
+#[derive(Drop)]
+pub struct Session<N: Boarded, S: Shelf> {
+    reader: ChannelReader<N, S>,
+    shelf: NamedShelf<N, S>,
+    memory: Memory<N>,
+    taken: Vec<(u64, u64)>,
+}
+
+impl<N: Boarded, S: Shelf> Model for Session<N, S> {
+    ghost use Rattle.lsm_channels.specs.Served.{Served};
+
+    ghost Value = { Served };
+
+    ghost view = { λ s. record {
+      reader = s.reader;
+      shelf = s.shelf;
+      known = s.memory;
+      taken = s.taken.items;
+    } };
+}
+
+impl<N: Boarded, S: Shelf> Session<N, S> {
+    /// A session with this reader and this shelf, and with these blocks for reads of a version of
+    /// which the reader has made all its pins. It knows what is remembered here, and took no
+    /// snapshot.
+    pub fn new(
+        alloc: Global,
+        reader: Reader<N, S>,
+        blocks: Cached<N, S>,
+        shelf: NamedShelf<N, S>,
+        memory: Memory<N>,
+    ) -> Session<N, S>
+        ensures { result
+            ≡ record { reader = reader; shelf = shelf; known = memory; taken = [] } }
+    {
+        Session {
+            reader: ChannelReader { reader, blocks },
+            shelf,
+            memory,
+            taken: Vec::new(alloc),
+        }
+    }
+
+    // Brings writes in.
+    fn write<R: Wait>(
+        &mut self,
+        rt: &R,
+        alloc: Global,
+        store: &Store<N, S>,
+        background: &Background,
+        writes: Writes<'_>,
+    ) -> Result<Vec<u8>, AllocError>
+        ensures answered { IfOk result (λ v. IsAnswered S.honest (S.refuses N.place)
+            (AskedWrites writes.entry) self.old self.new v.items) }
+        ensures known { IsLater self.new.known self.old.known }
+    {
+        let done = write(
+            rt,
+            alloc,
+            store,
+            background,
+            &mut self.memory,
+            &mut self.shelf,
+            writes,
+        );
+        let answer = say_written(alloc, done)?;
+        Ok(answer)
+    }
+
+    // Sees to it that nothing is left to compact.
+    fn compact<R: Threads + Wait + Sync>(
+        &mut self,
+        rt: &R,
+        alloc: Global,
+        store: &Store<N, S>,
+        background: &Background,
+    ) -> Result<Vec<u8>, AllocError>
+        ensures answered { IfOk result (λ v. IsAnswered S.honest (S.refuses N.place) Compacts
+            self.old self.new v.items) }
+        ensures known { IsLater self.new.known self.old.known }
+    {
+        let done = compact(
+            rt,
+            alloc,
+            store,
+            background,
+            &mut self.memory,
+            &mut self.shelf,
+        );
+        let answer = say_compacted(alloc, done)?;
+        Ok(answer)
+    }
+
+    // Removes the tables that nothing needs.
+    fn collect<R: Wait>(
+        &mut self,
+        rt: &R,
+        alloc: Global,
+        store: &Store<N, S>,
+    ) -> Result<Vec<u8>, AllocError>
+        ensures answered { IfOk result (λ v. IsAnswered S.honest (S.refuses N.place) Collects
+            self.old self.new v.items) }
+        ensures known { IsLater self.new.known self.old.known }
+    {
+        let done = collect(rt, alloc, store, &mut self.memory, &mut self.shelf);
+        let answer = say_collected(alloc, done)?;
+        Ok(answer)
+    }
+
+    // Takes a snapshot.
+    fn take<R: Wait>(
+        &mut self,
+        rt: &R,
+        alloc: Global,
+        store: &Store<N, S>,
+    ) -> Result<Vec<u8>, AllocError>
+        ensures answered { IfOk result (λ v. IsAnswered S.honest (S.refuses N.place) Snapshots
+            self.old self.new v.items) }
+        ensures known { IsLater self.new.known self.old.known }
+    {
+        let done = take(rt, store, &mut self.memory, &mut self.taken);
+        let answer = say_taken(alloc, done)?;
+        Ok(answer)
+    }
+
+    // Gives a snapshot up.
+    fn release<R: Wait>(
+        &mut self,
+        rt: &R,
+        alloc: Global,
+        store: &Store<N, S>,
+        number: u64,
+    ) -> Result<Vec<u8>, AllocError>
+        ensures answered { IfOk result (λ v. IsAnswered S.honest (S.refuses N.place)
+            (Releases number) self.old self.new v.items) }
+        ensures known { IsLater self.new.known self.old.known }
+    {
+        let done = release(rt, store, &mut self.memory, &mut self.taken, number);
+        let answer = say_released(alloc, done)?;
+        Ok(answer)
+    }
+
+    // Tells how much the database has.
+    fn tell<R: Wait>(
+        &mut self,
+        rt: &R,
+        alloc: Global,
+        store: &Store<N, S>,
+    ) -> Result<Vec<u8>, AllocError>
+        ensures answered { IfOk result (λ v. IsAnswered S.honest (S.refuses N.place) Statistics
+            self.old self.new v.items) }
+        ensures known { IsLater self.new.known self.old.known }
+    {
+        answer_statistics(rt, alloc, store, &mut self.memory)
+    }
+
+    // Reads keys.
+    fn read<R: Wait>(
+        self,
+        rt: &R,
+        alloc: Global,
+        store: &Store<N, S>,
+        when: When,
+        keys: Keys<'_>,
+    ) -> (Session<N, S>, Result<Vec<u8>, AllocError>)
+        ensures answered { IfOk result.1 (λ v. IsAnswered S.honest (S.refuses N.place)
+            (Reads when keys.entry) self result.0 v.items) }
+        ensures known { IsLater result.0.known self.known }
+    {
+        let Session {
+            reader,
+            shelf,
+            mut memory,
+            taken,
+        } = self;
+        let (reader, done) = read(rt, alloc, store, reader, &mut memory, &taken, when, keys);
+        match done {
+            Ok(answer) => (
+                Session {
+                    reader,
+                    shelf,
+                    memory,
+                    taken,
+                },
+                Ok(answer),
+            ),
+            Err(fault) => match refuse(alloc, fault) {
+                Ok(answer) => (
+                    Session {
+                        reader,
+                        shelf,
+                        memory,
+                        taken,
+                    },
+                    Ok(answer),
+                ),
+                Err(error) => (
+                    Session {
+                        reader,
+                        shelf,
+                        memory,
+                        taken,
+                    },
+                    Err(error),
+                ),
+            },
+        }
+    }
+
+    // Shows pairs.
+    fn scan<R: Wait>(
+        self,
+        rt: &R,
+        alloc: Global,
+        store: &Store<N, S>,
+        range: Range<'_>,
+    ) -> (Session<N, S>, Result<Vec<u8>, AllocError>)
+        ensures answered { IfOk result.1 (λ v. IsAnswered S.honest (S.refuses N.place)
+            (Scans (stretch_of range.entry)) self result.0 v.items) }
+        ensures known { IsLater result.0.known self.known }
+    {
+        let Session {
+            reader,
+            shelf,
+            mut memory,
+            taken,
+        } = self;
+        let (reader, done) = scan(rt, alloc, store, reader, &mut memory, &taken, range);
+        match done {
+            Ok(answer) => (
+                Session {
+                    reader,
+                    shelf,
+                    memory,
+                    taken,
+                },
+                Ok(answer),
+            ),
+            Err(fault) => match refuse(alloc, fault) {
+                Ok(answer) => (
+                    Session {
+                        reader,
+                        shelf,
+                        memory,
+                        taken,
+                    },
+                    Ok(answer),
+                ),
+                Err(error) => (
+                    Session {
+                        reader,
+                        shelf,
+                        memory,
+                        taken,
+                    },
+                    Err(error),
+                ),
+            },
+        }
+    }
+
+    /// Does what a request asks: the session as it is then, and the frame of the answer, which is
+    /// the store's own (`answered`), of a state that has all that the session knew. What it knows
+    /// goes on (`known`). `AllocError` where there is no memory even for a refusal; what was asked
+    /// may be done then.
+    pub fn perform<R: Threads + Wait + Sync>(
+        self,
+        rt: &R,
+        alloc: Global,
+        store: &Store<N, S>,
+        background: &Background,
+        request: Request<'_>,
+    ) -> (Session<N, S>, Result<Vec<u8>, AllocError>)
+        ensures answered { IfOk result.1 (λ v. IsAnswered S.honest (S.refuses N.place)
+            (asked_of request.entry) self result.0 v.items) }
+        ensures known { IsLater result.0.known self.known }
+    {
+        let mut session = self;
+        let answer = match request {
+            Request::Read(when, keys) => return session.read(rt, alloc, store, when, keys),
+            Request::Scan(range) => return session.scan(rt, alloc, store, range),
+            Request::Write(writes) => session.write(rt, alloc, store, background, writes),
+            Request::Snapshot => session.take(rt, alloc, store),
+            Request::Release(number) => session.release(rt, alloc, store, number),
+            Request::Compact => session.compact(rt, alloc, store, background),
+            Request::Collect => session.collect(rt, alloc, store),
+            Request::Statistics => session.tell(rt, alloc, store),
+        };
+        (session, answer)
+    }
+}

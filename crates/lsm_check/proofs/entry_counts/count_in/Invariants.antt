@@ -1,6 +1,0 @@
-use Rattle.std.proofs.Common.{◌≡◌, take}
-use Rattle.lsm_check.specs.Counts.{counted}
-use Rattle.lsm_check.proofs.entry_counts.count_in.Given as goal
-
-abbrev pub invariant-loop-own : goal.invariant-loop-own
-invariant-loop-own l = l.count ≡ counted (take l.own-index l.sequences)

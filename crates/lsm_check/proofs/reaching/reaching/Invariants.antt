@@ -1,5 +1,0 @@
-use Rattle.lsm_check.proofs.ReachingFiles.{Walked}
-use Rattle.lsm_check.proofs.reaching.reaching.Given as goal
-
-abbrev pub invariant-loop-table : goal.invariant-loop-table
-invariant-loop-table l = Walked l.aged l.table-index l.greatest l.numbers.items

@@ -1,6 +1,0 @@
-use Rattle.std.proofs.Common.{take, map}
-use Rattle.lsm_check.specs.Settled.{Adds, SomeBelow}
-use Rattle.lsm_check.proofs.unsettled.compare_level.Given as goal
-
-abbrev pub invariant-loop-index : goal.invariant-loop-index
-invariant-loop-index g l = Adds (SomeBelow l.level (take l.index l.tables) (map (λ v. v.items) l.levels)) l.fn.numbers.items l.numbers.items

@@ -1,5 +1,0 @@
-use Rattle.lsm_choice.proofs.Choosing.{AllTried}
-use Rattle.lsm_choice.proofs.candidates.first_clear.Given as goal
-
-abbrev pub invariant-loop-table : goal.invariant-loop-table
-invariant-loop-table g l = g.S.Shelf.honest → AllTried l.version l.reservations l.level l.beyond l.table-index

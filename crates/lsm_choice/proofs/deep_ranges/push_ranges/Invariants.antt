@@ -1,6 +1,0 @@
-use Rattle.std.proofs.Common.{◌≡◌, ◌++◌, take}
-use Rattle.lsm_choice.specs.RangesBelow.{ranges_of}
-use Rattle.lsm_choice.proofs.deep_ranges.push_ranges.Given as goal
-
-abbrev pub invariant-loop-table : goal.invariant-loop-table
-invariant-loop-table g l = l.ranges.items ≡ l.initial.ranges.items ++ ranges_of (take l.table-index l.tables)

@@ -1,5 +1,0 @@
-use Rattle.lsm_choice.proofs.Opening.{input_in}
-use Rattle.lsm_choice.proofs.laws.inputs_are_of_the_version.Goals as goal
-
-pub returns : goal.returns
-returns c = λ v p ticket floor ranges is_move F s h. input_in v p F s h

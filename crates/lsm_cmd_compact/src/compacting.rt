@@ -1,0 +1,266 @@
+//! A directory is compacted.
+
+pub(crate) mod compaction;
+pub(crate) mod job_teller;
+pub(crate) mod opening;
+pub(crate) mod program;
+pub(crate) mod progress;
+pub(crate) mod sweeping;
+pub(crate) mod tally;
+
+ghost use Rattle.std.specs.Prelude.{◌≡◌, ◌≢◌, ◌⊎◌, All, IfErr, IfOk, IsFalse, OnOk, replicate};
+ghost use Rattle.std.specs.Prelude.{vec_len};
+ghost use Rattle.std.specs.Io.KnownBytes.{Appends, Keeps};
+ghost use Rattle.lsm_shelf.specs.Stored.{Stored};
+ghost use Rattle.lsm_shelf.specs.Told.{Forked, fresh};
+ghost use Rattle.lsm_shelf.specs.declared.shelf_fault.ShelfFault.TheVariants.{OutOfMemory};
+ghost use Rattle.lsm_slots.specs.Slots.{Looked};
+ghost use Rattle.lsm_state.specs.Held.{Held};
+ghost use Rattle.lsm_state.specs.Making.{IsNewBoard, IsNewHistory};
+ghost use Rattle.lsm_store.specs.Compacting.{IsKeptByCompaction, IsSeated};
+ghost use Rattle.lsm_store.specs.Readers.{SeatsPinners};
+ghost use Rattle.lsm_store.specs.Workers.{IsWorkersEnd};
+ghost use Rattle.lsm_store.specs.Working.{AreReturned};
+ghost use Rattle.lsm_cmd_write.specs.WriterFault.{of_shelf};
+ghost use Rattle.lsm_cmd_write.specs.Starting.{usual};
+ghost use Rattle.lsm_cmd_write.specs.declared.faults.writer_fault.WriterFault.TheVariants.{Write as WriteFault};
+ghost use Rattle.lsm_cmd_compact.specs.Compacting.{AreEnds, AreFaultless, IsCompactFault, IsCompacted};
+ghost use Rattle.lsm_cmd_compact.specs.Compacting.{IsOfManning, IsSwept, IsWorkersFault, Refuses};
+ghost use Rattle.lsm_cmd_compact.specs.Compacting.{installed_text};
+ghost use Rattle.lsm_cmd_compact.specs.declared.compact_fault.CompactFault.TheVariants.{Writer as WriterVariant};
+
+use crate::compact_fault::CompactFault;
+use crate::compacting::compaction::Compaction;
+use crate::compacting::job_teller::JobTeller;
+use crate::compacting::opening::open;
+use crate::compacting::progress::{tell_installed, tell_opened, tell_removed};
+use crate::compacting::sweeping::{find_manifest, sweep};
+use crate::compacting::tally::judge;
+use lsm_cmd_write::{NewParts, WriterFault};
+use lsm_slots::Boarded;
+use lsm_state::{State, StateFault};
+use lsm_store::laws::what_was_found_is_kept;
+use lsm_store::{Invariant, NoGate, Returned, Store, run_workers_returning};
+use lsm_table::{NamedShelf, Shelf, ShelfFault};
+use lsm_text::CompactOptions;
+use std::alloc::{AllocFailed, Global};
+use std::io::{self, Write};
+use std::marker::Brand;
+use std::sync::Wait;
+use std::thread::Threads;
+
+/// Lets workers compact a store, one for each shelf; each job that they begin is said where that is
+/// asked for.
+#[tactic(auto, using(lsm_directory::proofs::CallerLemmas::keeps_same))]
+fn run_all<N: Boarded, S: Shelf, K: Invariant, R: Threads + Wait + Sync, E: Write + Send>(
+    rt: &R,
+    alloc: Global,
+    store: &Store<N, S, K>,
+    shelves: Vec<NamedShelf<N, S>>,
+    progress: bool,
+    err: &mut E,
+) -> Result<Vec<Returned<N, S>>, AllocFailed<Vec<NamedShelf<N, S>>>>
+    requires kept { IsKeptByCompaction S.honest K.keeps }
+    ensures len { IfOk result (λ v. vec_len v ≡ vec_len shelves) }
+    ensures ends { IfOk result (λ v. All (λ r. IsWorkersEnd S.honest r.0) v.items) }
+    ensures returned { IfOk result (λ v.
+        AreReturned S.honest (S.refuses N.place) K.keeps shelves.items v.items) }
+    ensures quiet { IsFalse progress → Keeps (E.contents err.old) (E.contents err.new) }
+{
+    if progress {
+        let teller = JobTeller::new(rt, err);
+        return run_workers_returning(rt, alloc, store, shelves, &teller);
+    }
+    run_workers_returning(rt, alloc, store, shelves, &NoGate)
+}
+
+/// What the workers of a store have done, one for each of so many new forks, when none of them ends
+/// with a fault.
+fn work<N: Boarded, S: Shelf, K: Invariant, R: Threads + Wait + Sync, E: Write + Send>(
+    rt: &R,
+    alloc: Global,
+    store: &Store<N, S, K>,
+    shelves: Vec<NamedShelf<N, S>>,
+    options: CompactOptions,
+    err: &mut E,
+) -> Result<Vec<Returned<N, S>>, CompactFault>
+    requires kept { IsKeptByCompaction S.honest K.keeps }
+    requires count { vec_len shelves ≡ options.workers }
+    requires new { shelves.items ≡ replicate options.workers (fresh N.place) }
+    ensures ends { IfOk result (λ v.
+        AreEnds (S.refuses N.place) S.honest K.keeps N.place options.workers v.items) }
+    ensures faultless { IfOk result (λ v. AreFaultless v.items) }
+    ensures refused { IfErr result (λ e. (e ≡ WriterVariant (of_shelf OutOfMemory))
+        ⊎ IsWorkersFault (S.refuses N.place) S.honest K.keeps N.place options.workers e) }
+    ensures quiet { IsFalse options.progress → Keeps (E.contents err.old) (E.contents err.new) }
+{
+    let Ok(returned) = run_all(rt, alloc, store, shelves, options.progress, err) else {
+        return Err(CompactFault::of_shelf(ShelfFault::OutOfMemory));
+    };
+    judge(&returned)?;
+    Ok(returned)
+}
+
+/// Lets so many workers compact a state, beside which a lock keeps a fact: the state, of which the
+/// fact holds, and what each worker has done, when none of them ends with a fault.
+fn compact_state<N: Boarded, S: Shelf, K: Invariant, R: Threads + Wait + Sync, E: Write + Send>(
+    rt: &R,
+    alloc: Global,
+    state: State<N, S>,
+    shelf: &mut NamedShelf<N, S>,
+    options: CompactOptions,
+    err: &mut E,
+) -> Result<(State<N, S>, Vec<Returned<N, S>>), CompactFault>
+    requires seats { SeatsPinners state }
+    requires kept { (h : Held) → IsSeated state h → K.keeps h }
+    requires steps { IsKeptByCompaction S.honest K.keeps }
+    ensures kept { IfOk result (λ r. ∥ K.keeps r.0 ∥₁) }
+    ensures ends { IfOk result (λ r.
+        AreEnds (S.refuses N.place) S.honest K.keeps N.place options.workers r.1.items) }
+    ensures faultless { IfOk result (λ r. AreFaultless r.1.items) }
+    ensures refused { IfErr result (λ e. IsOfManning e
+        ⊎ IsWorkersFault (S.refuses N.place) S.honest K.keeps N.place options.workers e) }
+    ensures told { Forked shelf.old shelf.new }
+    ensures quiet { IsFalse options.progress → Keeps (E.contents err.old) (E.contents err.new) }
+{
+    let made: Compaction<N, S, K> = match Compaction::new(alloc, state, shelf, options.workers) {
+        Ok(compaction) => compaction,
+        Err(fault) => return Err(CompactFault::of_shelf(fault)),
+    };
+    let Compaction { store, shelves } = made;
+    let returned = work(rt, alloc, &store, shelves, options, err)?;
+    Ok((store.into_state(), returned))
+}
+
+/// Removes what a state does not keep, and says how much where that is asked for.
+#[tactic(auto, using(lsm_directory::proofs::CallerLemmas::keeps_same))]
+fn sweep_all<N: Boarded, S: Shelf, R: Wait, E: Write>(
+    rt: &R,
+    alloc: Global,
+    state: &mut State<N, S>,
+    shelf: &mut NamedShelf<N, S>,
+    progress: bool,
+    err: &mut E,
+) -> Result<(), StateFault>
+    ensures ok { OnOk result (IsSwept S.honest N.board state.new shelf.old shelf.new) }
+    ensures refused { IfErr result (λ e.
+        Refuses (S.refuses N.place) S.honest N.board state.new e shelf.old shelf.new) }
+    ensures looked { Looked state.old.slots state.new.slots }
+    ensures rest { state.new ≡ record state.old { slots = state.new.slots } }
+    ensures quiet { IsFalse progress → Keeps (E.contents err.old) (E.contents err.new) }
+{
+    let removed = sweep(rt, alloc, state, shelf)?;
+    tell_removed(removed, progress, err);
+    Ok(())
+}
+
+/// Writes how many results were installed, and flushes.
+fn reply<O: Write>(out: &mut O, installed: u32) -> io::Result<()>
+    ensures written { OnOk result
+        (Appends (O.contents out.old) (O.contents out.new) (installed_text installed)) }
+{
+    writeln!(out, "installed {installed}")?;
+    out.flush()
+}
+
+/// Opens the directory of a shelf, lets so many workers compact it, reads the manifest, removes
+/// what nothing names any more, and writes the reply: how many versions became current meanwhile,
+/// one for each result.
+#[tactic(auto, using(lsm_directory::proofs::CallerLemmas::keeps_same, crate::proofs::Quiet::quiet_then))]
+fn compact_named<N: Boarded, S: Shelf, R: Threads + Wait + Sync, O: Write, E: Write + Send>(
+    rt: &R,
+    alloc: Global,
+    shelf: &mut NamedShelf<N, S>,
+    options: CompactOptions,
+    parts: NewParts<S>,
+    out: &mut O,
+    err: &mut E,
+) -> Result<(), CompactFault>
+    requires records { parts.records ≡ N.registry }
+    requires shelf { shelf.old.place ≡ N.place }
+    requires board { IsNewBoard N.board usual parts.publisher parts.pinners.items }
+    requires seats { vec_len parts.pinners ≡ usual.readers }
+    requires history { IsNewHistory N.history parts.history }
+    ensures done { OnOk result (IsCompacted (S.refuses N.place) S.honest options.workers shelf.old
+        shelf.new (O.contents out.old) (O.contents out.new)) }
+    ensures fault { IfErr result (λ e.
+        IsCompactFault (Stored S.Receipt (S.is_of N.place) S.Receipt.number S.Receipt.image)
+        (S.refuses N.place) S.honest options.workers e shelf.old shelf.new) }
+    ensures left { IfErr result (λ e. e ≢ WriterVariant WriteFault
+        → Keeps (O.contents out.old) (O.contents out.new)) }
+    ensures quiet { IsFalse options.progress → Keeps (E.contents err.old) (E.contents err.new) }
+{
+    let parts = parts.named(alloc)?;
+    let state = open(rt, alloc, shelf, parts)?;
+    tell_opened(&state, options.progress, err);
+    what_was_found_is_kept::<State<N, S>>();
+    let begun = state.current().0;
+    let (mut left, _returned) = compact_state::<N, S, Brand, R, E>(
+        rt, alloc, state, shelf, options, err,
+    )?;
+    let installed = left.current().0.saturating_sub(begun);
+    tell_installed(installed, options.progress, err);
+    find_manifest(rt, alloc, &left, shelf)?;
+    sweep_all(rt, alloc, &mut left, shelf, options.progress, err)?;
+    match reply(out, installed) {
+        Ok(()) => Ok(()),
+        Err(_) => Err(CompactFault::Writer(WriterFault::Write)),
+    }
+}
+
+/// The same under the name that was picked for the parts and the shelf, which is given back.
+fn compact_as<N: Boarded, S: Shelf, R: Threads + Wait + Sync, O: Write, E: Write + Send>(
+    rt: &R,
+    alloc: Global,
+    shelf: S,
+    options: CompactOptions,
+    parts: NewParts<S>,
+    out: &mut O,
+    err: &mut E,
+) -> (Result<(), CompactFault>, S)
+    requires records { parts.records ≡ N.registry }
+    requires shelf { (S.told shelf).place ≡ N.place }
+    requires board { IsNewBoard N.board usual parts.publisher parts.pinners.items }
+    requires seats { vec_len parts.pinners ≡ usual.readers }
+    requires history { IsNewHistory N.history parts.history }
+    ensures done { OnOk result.0 (IsCompacted (S.refuses N.place) S.honest options.workers
+        (S.told shelf) (S.told result.1) (O.contents out.old) (O.contents out.new)) }
+    ensures fault { IfErr result.0 (λ e.
+        IsCompactFault (Stored S.Receipt (S.is_of N.place) S.Receipt.number S.Receipt.image)
+        (S.refuses N.place) S.honest options.workers e (S.told shelf) (S.told result.1)) }
+    ensures left { IfErr result.0 (λ e. e ≢ WriterVariant WriteFault
+        → Keeps (O.contents out.old) (O.contents out.new)) }
+    ensures quiet { IsFalse options.progress → Keeps (E.contents err.old) (E.contents err.new) }
+{
+    let mut shelf: NamedShelf<N, S> = NamedShelf::of(shelf);
+    let done = compact_named(rt, alloc, &mut shelf, options, parts, out, err);
+    (done, shelf.into_shelf())
+}
+
+/// Opens the directory of a shelf, lets so many workers compact it, removes what nothing names any
+/// more, and writes `installed M`. The shelf is given back.
+#[tactic(auto, using(lsm_directory::proofs::CallerLemmas::keeps_same))]
+pub(crate) fn compact_to<S: Shelf, R: Threads + Wait + Sync, O: Write, E: Write + Send>(
+    rt: &R,
+    alloc: Global,
+    shelf: S,
+    options: CompactOptions,
+    out: &mut O,
+    err: &mut E,
+) -> (Result<(), CompactFault>, S)
+    ensures done { OnOk result.0 (IsCompacted (S.refuses (S.told shelf).place) S.honest
+        options.workers (S.told shelf) (S.told result.1) (O.contents out.old)
+        (O.contents out.new)) }
+    ensures fault { IfErr result.0 (λ e. IsCompactFault (Stored S.Receipt
+        (S.is_of (S.told shelf).place) S.Receipt.number S.Receipt.image)
+        (S.refuses (S.told shelf).place) S.honest options.workers e
+        (S.told shelf) (S.told result.1)) }
+    ensures left { IfErr result.0 (λ e. e ≢ WriterVariant WriteFault
+        → Keeps (O.contents out.old) (O.contents out.new)) }
+    ensures quiet { IsFalse options.progress → Keeps (E.contents err.old) (E.contents err.new) }
+{
+    match NewParts::make(alloc) {
+        Ok(parts) => compact_as::<Brand, S, R, O, E>(rt, alloc, shelf, options, parts, out, err),
+        Err(fault) => (Err(CompactFault::from(fault)), shelf),
+    }
+}

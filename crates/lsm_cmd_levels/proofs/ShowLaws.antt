@@ -1,0 +1,115 @@
+-- What a run says, by what reading the manifest and showing its shape say.
+use Rattle.std.proofs.Common.{◌≡◌, ℕ, List, ◌∷◌, Option, IfErr, OnErr, OnOk, arith, inl, inr, refl, sym, subst}
+use Rattle.std.specs.Prelude.{Result, Ok, Err}
+use Rattle.std.specs.Io.KnownBytes.{Appends, Keeps}
+use Rattle.std.proofs.KnownBytes.{Keeps-refl, Keeps-trans}
+use Rattle.lsm_folder.specs.declared.folder_calls.FolderCalls.{Ghosts}
+use Rattle.lsm_manifest.specs.declared.shape.Shape.{Shape}
+use Rattle.lsm_codec.specs.Lists.{Has}
+use Rattle.lsm_codec.proofs.CallerLemmas.{has_right}
+use Rattle.lsm_shelf.specs.Asked.{Asked}
+use Rattle.lsm_shelf.specs.Refusals.{MayRefuse}
+use Rattle.lsm_shelf.specs.Told.{Told}
+use Rattle.lsm_shelf.specs.declared.shelf_fault.ShelfFault.{ShelfFault}
+use Rattle.lsm_storage.specs.declared.file.file_shelf.FileShelf.{FileShelf}
+use Rattle.lsm_journal.specs.Recovering.{IsRecoverRefusal}
+use Rattle.lsm_journal.specs.declared.recover_fault.RecoverFault.{RecoverFault}
+use Rattle.lsm_journal.specs.declared.recover_fault.RecoverFault.TheVariants as recover_faults
+use Rattle.lsm_text.specs.Printing.{Begins}
+use Rattle.lsm_text.specs.declared.form.Form.{Form}
+use Rattle.lsm_directory.specs.Folders.{IsShelfAt, told_by}
+use Rattle.lsm_directory.specs.Logs.{IsFirstUnread, NoneUnread}
+use Rattle.lsm_directory.specs.Looking.{TellsBeside}
+use Rattle.lsm_directory.specs.declared.faults.directory_fault.DirectoryFault.{DirectoryFault}
+use Rattle.lsm_directory.specs.declared.faults.directory_fault.DirectoryFault.TheVariants as why
+use Rattle.lsm_directory.specs.declared.folder.folder_file.FolderFile.{FolderFile}
+use Rattle.lsm_cmd_levels.specs.Dues.{IsDueNext}
+use Rattle.lsm_cmd_levels.specs.declared.due.Due.{Due}
+use Rattle.lsm_cmd_levels.specs.Layout.{FailsToLayOut, IsLaidOut, IsLayoutFault, IsNotNamed, IsShown, IsUnshown, LaysOutAt, Names, ReadsManifest, Shows, text_of}
+use Rattle.lsm_text.specs.declared.request.LevelsLine.{LevelsLine}
+use Rattle.lsm_text.specs.declared.levels_output.LevelsOutput.{LevelsOutput}
+
+-- ---- a shelf
+
+module _ (form : Form) (output : LevelsOutput) where
+  pub shown_as : (s : Shape) (rest : ℕ) (due : Option Due) (text : List ℕ) → IsDueNext s due → text ≡ text_of form output s rest due → IsShown form output s rest text
+  shown_as s rest due text next is = (due, next, is)
+
+  pub shows_text : (s : Shape) (rest : ℕ) (text : List ℕ) (old new : Option (List ℕ)) → IsShown form output s rest text → Appends old new text → Shows form output s rest old new
+  shows_text s rest text old new is printed = (text, is, printed)
+
+  pub stops_text : (s : Shape) (rest : ℕ) (text : List ℕ) (old new : Option (List ℕ)) → IsShown form output s rest text → Begins old new text → IsUnshown form output s rest why.Write old new
+  stops_text s rest text old new is begun = (text, is, begun)
+
+  pub laid_out : {T : Type 0} (r : Result T DirectoryFault) (others : List FolderFile) (was is : Told) (s : Shape) (rest : ℕ) (old new said_old said_new : Option (List ℕ))
+      → Names was is s rest → OnOk r (Shows form output s rest old new) → (NoneUnread s.log s.prev_log others → Keeps said_old said_new)
+      → OnOk r (IsLaidOut form output others was is old new said_old said_new)
+  laid_out (Ok x) others was is s rest old new said_old said_new named shown quiet = record { shape = s; rest = rest; named = named; shown = shown; quiet = quiet }
+  laid_out (Err e) others was is s rest old new said_old said_new named shown quiet = tt
+
+  pub not_shown : {T : Type 0} (r : Result T DirectoryFault) (Refused : Asked → ShelfFault → Type 0) (was is : Told) (s : Shape) (rest : ℕ) (old new : Option (List ℕ))
+      → Names was is s rest → IfErr r (λ e. IsUnshown form output s rest e old new) → IfErr r (λ e. IsLayoutFault Refused form output e was is old new)
+  not_shown (Ok x) Refused was is s rest old new named fault = tt
+  not_shown (Err e) Refused was is s rest old new named fault = inr (s, rest, named, fault)
+
+  pub not_named : (e : DirectoryFault) (Refused : Asked → ShelfFault → Type 0) (was is : Told) (old : Option (List ℕ)) → IsNotNamed Refused e was is → IsLayoutFault Refused form output e was is old old
+  not_named e Refused was is old fault = inl (fault, Keeps-refl old)
+
+pub named_reads : (was is : Told) (s : Shape) (rest : ℕ) → Names was is s rest → ReadsManifest was is
+named_reads was is s rest n = inr (n.held.number, n.held.bytes, n.told)
+
+recover_reads : (Refused : Asked → ShelfFault → Type 0) (e : RecoverFault) (was is : Told) → IsRecoverRefusal Refused e was is → ReadsManifest was is
+recover_reads Refused (recover_faults.Shelf e) was is r = inl r.0
+recover_reads Refused (recover_faults.Log e) was is r = let gave = r.1 in inr (gave.0, r.0, gave.1)
+recover_reads Refused (recover_faults.Edit e) was is r = let gave = r.1 in inr (gave.0, r.0, gave.1)
+recover_reads Refused (recover_faults.Replay e) was is r = let gave = r.1 in inr (gave.0, r.0, gave.1)
+
+pub fault_reads : (Refused : Asked → ShelfFault → Type 0) (e : DirectoryFault) (was is : Told) → IsNotNamed Refused e was is → ReadsManifest was is
+fault_reads Refused why.OutOfMemory was is h = absurd h
+fault_reads Refused why.Write was is h = absurd h
+fault_reads Refused (why.Shelf e) was is h = absurd h
+fault_reads Refused (why.Manifest e) was is h = recover_reads Refused e was is h
+fault_reads Refused (why.Tables e) was is h = absurd h
+fault_reads Refused (why.Read e) was is h = absurd h
+fault_reads Refused why.NumbersSpent was is h = absurd h
+fault_reads Refused why.Locked was is h = absurd h
+fault_reads Refused why.Absent was is h = absurd h
+
+-- a log was found that is to be noted
+pub noted : (log prev : ℕ) (files : List FolderFile) (n : ℕ) → IsFirstUnread log prev files n → NoneUnread log prev files → ⊥
+noted log prev files n first none =
+    none first.file (subst (λ (fs : List FolderFile). Has fs first.file) (sym first.parts) (has_right first.before (first.file ∷ first.after) first.file (inl refl))) first.unread
+
+-- ---- a folder
+
+module _ {C M : Type 0} (folders : Ghosts C M) where
+  pub lays_out : {T : Type 0} (r : Result T DirectoryFault) (line : LevelsLine) (others : List FolderFile) (begun ended : FileShelf C M) (old new said_old said_new : Option (List ℕ))
+      → IsShelfAt folders line.path.now (TellsBeside others) begun
+      → OnOk r (IsLaidOut line.form line.output others (told_by folders begun) (told_by folders ended) old new said_old said_new)
+      → OnOk r (LaysOutAt folders line old new said_old said_new)
+  lays_out (Ok x) line others begun ended old new said_old said_new on done = record { others = others; begun = begun; on = on; ended = ended; done = done }
+  lays_out (Err e) line others begun ended old new said_old said_new on done = tt
+
+  pub fails : {T : Type 0} (r : Result T DirectoryFault) (line : LevelsLine) (others : List FolderFile) (begun ended : FileShelf C M) (old new : Option (List ℕ))
+      → IsShelfAt folders line.path.now (TellsBeside others) begun
+      → IfErr r (λ e. IsLayoutFault MayRefuse line.form line.output e (told_by folders begun) (told_by folders ended) old new)
+      → ReadsManifest (told_by folders begun) (told_by folders ended) → IfErr r (λ e. FailsToLayOut folders line e old new)
+  fails (Ok x) line others begun ended old new on says reads = tt
+  fails (Err e) line others begun ended old new on says reads = inr record { others = others; begun = begun; on = on; ended = ended; says = says; reads = reads }
+
+  pub laid_on : {T F : Type 0} (r : Result T F) (status : ℕ) (line : LevelsLine) (old new said told last : Option (List ℕ)) → OnErr r (status ≡ 1)
+      → OnOk r (LaysOutAt folders line old new said told) → (status ≡ 0 → Keeps told last) → status ≡ 0 → LaysOutAt folders line old new said last
+  laid_on (Ok x) status line old new said told last err done kept zero = record {
+    others = done.others;
+    begun = done.begun;
+    on = done.on;
+    ended = done.ended;
+    done = record {
+      shape = done.done.shape;
+      rest = done.done.rest;
+      named = done.done.named;
+      shown = done.done.shown;
+      quiet = λ none. Keeps-trans said told last (done.done.quiet none) (kept zero);
+    };
+  }
+  laid_on (Err e) status line old new said told last err done kept zero = absurd (omega (arith, err, zero))

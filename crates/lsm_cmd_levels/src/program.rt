@@ -1,0 +1,89 @@
+//! One run of the command.
+
+ghost use Rattle.std.specs.Prelude.{◌≡◌, ◌≢◌, IfErr, IfOk, OnOk};
+ghost use Rattle.lsm_directory.specs.Folders.{IsShelfAt};
+ghost use Rattle.lsm_directory.specs.Holding.{IsFolderFault};
+ghost use Rattle.lsm_directory.specs.Looking.{TellsBeside};
+ghost use Rattle.lsm_directory.specs.declared.faults.directory_fault.DirectoryFault.{DirectoryFault};
+ghost use Rattle.lsm_cmd_levels.specs.Layout.{FailsToLayOut, LaysOutAt};
+
+use crate::showing::lay_out;
+use lsm_directory::{
+    DirectoryFault, FolderFile, Known, Paths, files_beside, open_at, refuse, status_of,
+};
+use lsm_folder::{FolderCalls, Reasons};
+use lsm_storage::FileShelf;
+use lsm_text::LevelsLine;
+use std::io::Write;
+use std::sync::Wait;
+
+/// Opens the folder at a path to read: a shelf on it, whose lock is held as long as the shelf is,
+/// and the files that `files_beside` finds there.
+fn open_shelf<C: FolderCalls, P: Paths<C>, R: Wait>(
+    rt: &R,
+    paths: &P,
+    path: &str,
+    reasons: &Reasons,
+) -> Result<(FileShelf<C>, Vec<FolderFile>), DirectoryFault>
+    ensures found { IfOk result (λ o.
+        IsShelfAt C.FolderCalls path.now (TellsBeside o.1.items) o.0) }
+    ensures fault { IfErr result IsFolderFault }
+{
+    let mut folder = open_at(paths, path, reasons)?;
+    let files = files_beside(rt, paths.alloc(), &mut folder)?;
+
+    // That a file was not there to be locked, or is gone, is no reason of a later refusal.
+    reasons.forget();
+    Ok((FileShelf::over(folder), files))
+}
+
+/// Shows the levels of the folder at a path.
+fn levels_at<C: FolderCalls + Send + Sync, P: Paths<C>, R: Wait, O: Write, E: Write>(
+    rt: &R,
+    paths: &P,
+    line: &LevelsLine<'_>,
+    reasons: &Reasons,
+    out: &mut O,
+    err: &mut E,
+) -> Result<(), DirectoryFault>
+where
+    C::Mark: Send + Sync,
+    ensures done { OnOk result (LaysOutAt C.FolderCalls line.now (O.contents out.old)
+        (O.contents out.new) (E.contents err.old) (E.contents err.new)) }
+    ensures refused { IfErr result (λ e. FailsToLayOut C.FolderCalls line.now e
+        (O.contents out.old) (O.contents out.new)) }
+{
+    let (shelf, files) = open_shelf(rt, paths, line.path, reasons)?;
+    let alloc = paths.alloc();
+    let (done, _shelf) = lay_out(rt, alloc, shelf, line.form, line.output, &files, out, err);
+    done
+}
+
+/// Shows the levels of the folder at a path by its manifest alone, and answers the exit status: 0
+/// where that is done, and 1 where it is refused. Each log that is not read is noted on `err`. A
+/// fault is one line on `err`; where it is `9 Device` or `10 Missing`, what the system answered
+/// stands behind it. Nothing is written in the folder.
+///
+/// The refusals of `Journal::recover`; `Shelf` of `Device` where it is no folder that can be
+/// opened; the refusals of `files_beside`.
+pub fn run_levels<C: FolderCalls + Send + Sync, P: Paths<C>, R: Wait, O: Write, E: Write>(
+    rt: &R,
+    paths: &P,
+    line: &LevelsLine<'_>,
+    out: &mut O,
+    err: &mut E,
+) -> u8
+where
+    C::Mark: Send + Sync,
+    ensures done { result ≡ 0 → LaysOutAt C.FolderCalls line.now (O.contents out.old)
+        (O.contents out.new) (E.contents err.old) (E.contents err.new) }
+    ensures refused { result ≢ 0 → (result ≡ 1) × ((fault : DirectoryFault) × FailsToLayOut
+        C.FolderCalls line.now fault (O.contents out.old) (O.contents out.new)) }
+{
+    let reasons = match Reasons::new(paths.alloc()) {
+        Ok(reasons) => reasons,
+        Err(fault) => return refuse(DirectoryFault::from(fault), err),
+    };
+    let done = levels_at(rt, paths, line, &reasons, out, err);
+    status_of(done, Known::answered(Some(&reasons)), err)
+}

@@ -1,0 +1,166 @@
+//! What is shown of a folder's manifest.
+
+ghost use Rattle.std.specs.Prelude.{◌≡◌, IfErr, IfOk, OnOk};
+ghost use Rattle.std.specs.Io.KnownBytes.{Keeps};
+ghost use Rattle.lsm_directory.specs.Logs.{NoneUnread};
+ghost use Rattle.lsm_cmd_levels.specs.Layout.{IsLaidOut, IsLayoutFault, IsNotNamed, IsShown, IsUnshown};
+ghost use Rattle.lsm_cmd_levels.specs.Layout.{Names, ReadsManifest, Shows, text_of};
+
+use crate::drawing::{Sheet, picture_text};
+use crate::due::{Due, due_next};
+use crate::lines::{files_text, levels_text};
+use lsm_directory::{DirectoryFault, FolderFile, Wording, first_unread, push_logs, write_output};
+use lsm_journal::{Journal, Recovered};
+use lsm_manifest::Shape;
+use lsm_table::{NamedShelf, Naming, Shelf};
+use lsm_text::{Form, LevelsOutput};
+use std::alloc::{AllocError, Global};
+use std::io::{self, Write};
+use std::marker::Brand;
+use std::sync::Wait;
+
+/// What is shown of a shape, of what is due in it, and of so many bytes at its manifest's end.
+fn text_with(
+    alloc: Global,
+    form: Form,
+    output: LevelsOutput,
+    shape: &Shape,
+    rest: u64,
+    due: Option<Due<'_>>,
+) -> Result<Vec<u8>, AllocError>
+    ensures { IfOk result (λ text. text.items ≡ text_of form output shape.now rest due.entry) }
+{
+    match output {
+        LevelsOutput::Levels => levels_text(alloc, shape, rest, due),
+        LevelsOutput::Files => files_text(alloc, form, shape, rest, due),
+        LevelsOutput::Svg => picture_text(alloc, Sheet { shape, due, form }, rest),
+    }
+}
+
+/// What is shown of a shape whose manifest has so many bytes at its end that hold no whole record,
+/// with the compaction that is due in it. `AllocError` where a growth was refused.
+#[tactic(auto, using(crate::proofs::ShowLaws::shown_as))]
+pub fn text_of(
+    alloc: Global,
+    form: Form,
+    output: LevelsOutput,
+    shape: &Shape,
+    rest: u64,
+) -> Result<Vec<u8>, AllocError>
+    ensures { IfOk result (λ text. IsShown form output shape.now rest text.items) }
+{
+    let due = due_next(shape)?;
+    let text = text_with(alloc, form, output, shape, rest, due)?;
+    Ok(text)
+}
+
+/// Writes a note for each log that is not read.
+fn write_notes<E: Write>(
+    alloc: Global,
+    files: &[FolderFile],
+    shape: &Shape,
+    err: &mut E,
+) -> io::Result<()> {
+    let mut text = Vec::new(alloc);
+    push_logs(&mut text, Wording::Noted, files, shape.log, shape.prev_log)?;
+    err.write_all(text.as_slice())?;
+    err.flush()
+}
+
+/// Notes each log that is not read. What can't be written is left out.
+fn tell_notes<E: Write>(alloc: Global, files: &[FolderFile], shape: &Shape, err: &mut E)
+    ensures { NoneUnread shape.now.log shape.now.prev_log files.now
+        → Keeps (E.contents err.old) (E.contents err.new) }
+{
+    match first_unread(files, shape.log, shape.prev_log) {
+        None => {}
+        Some(_) => {
+            let _ = write_notes(alloc, files, shape, err);
+        }
+    }
+}
+
+/// Writes what is shown of a manifest.
+#[tactic(auto, using(crate::proofs::ShowLaws::shows_text, crate::proofs::ShowLaws::stops_text))]
+fn show<O: Write>(
+    alloc: Global,
+    form: Form,
+    output: LevelsOutput,
+    recovered: &Recovered,
+    out: &mut O,
+) -> Result<(), DirectoryFault>
+    ensures shown { OnOk result (Shows form output recovered.now.shape recovered.now.rest
+        (O.contents out.old) (O.contents out.new)) }
+    ensures fault { IfErr result (λ e. IsUnshown form output recovered.now.shape
+        recovered.now.rest e (O.contents out.old) (O.contents out.new)) }
+{
+    let text = match text_of(alloc, form, output, &recovered.shape, recovered.rest) {
+        Ok(text) => text,
+        Err(_) => return Err(DirectoryFault::OutOfMemory),
+    };
+    match write_output(out, text.as_slice()) {
+        Ok(()) => Ok(()),
+        Err(_) => Err(DirectoryFault::Write),
+    }
+}
+
+/// Reads the manifest that the directory of a shelf names.
+fn read_named<N: Naming, S: Shelf, R: Wait>(
+    rt: &R,
+    alloc: Global,
+    shelf: &mut NamedShelf<N, S>,
+) -> Result<Recovered, DirectoryFault>
+    ensures named { IfOk result (λ r. Names shelf.old shelf.new r.shape r.rest) }
+    ensures fault { IfErr result (λ e. IsNotNamed (S.refuses N.place) e shelf.old shelf.new) }
+{
+    // Nothing is sent through the journal, so it has no use for its limit.
+    match Journal::recover(rt, alloc, shelf, u64::MAX) {
+        Ok(recovered) => Ok(recovered),
+        Err(fault) => Err(DirectoryFault::Manifest(fault)),
+    }
+}
+
+/// The same under the name that was picked for the shelf, which is given back.
+fn read_as<N: Naming, S: Shelf, R: Wait>(
+    rt: &R,
+    alloc: Global,
+    shelf: S,
+) -> (Result<Recovered, DirectoryFault>, S)
+    requires shelf { (S.told shelf).place ≡ N.place }
+    ensures named { IfOk result.0 (λ r. Names (S.told shelf) (S.told result.1) r.shape r.rest) }
+    ensures fault { IfErr result.0 (λ e.
+        IsNotNamed (S.refuses N.place) e (S.told shelf) (S.told result.1)) }
+{
+    let mut shelf: NamedShelf<N, S> = NamedShelf::of(shelf);
+    let read = read_named(rt, alloc, &mut shelf);
+    (read, shelf.into_shelf())
+}
+
+/// Reads the manifest that the directory of a shelf names, and writes what is shown of it on
+/// `out`; notes on `err` each log that is not read. The shelf is given back.
+#[tactic(auto, using(crate::proofs::ShowLaws::laid_out, crate::proofs::ShowLaws::not_shown, crate::proofs::ShowLaws::not_named, crate::proofs::ShowLaws::named_reads, crate::proofs::ShowLaws::fault_reads))]
+pub fn lay_out<S: Shelf, R: Wait, O: Write, E: Write>(
+    rt: &R,
+    alloc: Global,
+    shelf: S,
+    form: Form,
+    output: LevelsOutput,
+    files: &[FolderFile],
+    out: &mut O,
+    err: &mut E,
+) -> (Result<(), DirectoryFault>, S)
+    ensures done { OnOk result.0 (IsLaidOut form output files.now (S.told shelf) (S.told result.1)
+        (O.contents out.old) (O.contents out.new) (E.contents err.old) (E.contents err.new)) }
+    ensures fault { IfErr result.0 (λ e. IsLayoutFault (S.refuses (S.told shelf).place) form output
+        e (S.told shelf) (S.told result.1) (O.contents out.old) (O.contents out.new)) }
+    ensures reads { ReadsManifest (S.told shelf) (S.told result.1) }
+{
+    let (read, shelf) = read_as::<Brand, S, R>(rt, alloc, shelf);
+    match read {
+        Ok(recovered) => {
+            tell_notes(alloc, files, &recovered.shape, err);
+            (show(alloc, form, output, &recovered, out), shelf)
+        }
+        Err(fault) => (Err(fault), shelf),
+    }
+}

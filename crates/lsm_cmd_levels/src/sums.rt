@@ -1,0 +1,81 @@
+//! What a level counts, by a shape alone. All sums are told in 128 bits, whatever sizes a manifest
+//! names; only more files than memory holds could come to more.
+
+ghost use Rattle.std.specs.Prelude.{◌≡◌, ◌+◌, ◌*◌, ◌≤◌, IfOk};
+ghost use Rattle.lsm_cmd_levels.specs.Sums.{bytes_of, files_at, load, scale, weight};
+
+use lsm_manifest::{FileMeta, Shape};
+use std::alloc::AllocError;
+
+/// A score of 1, in parts.
+pub(crate) const WHOLE: u128 = 104_857_600_000;
+
+/// The sum of two numbers.
+pub(crate) fn sum_of(a: u128, b: u128) -> Result<u128, AllocError>
+    ensures { IfOk result (λ n. n ≡ a + b) }
+{
+    a.checked_add(b).ok_or(AllocError)
+}
+
+/// The product of two numbers.
+pub(crate) fn product_of(a: u128, b: u128) -> Result<u128, AllocError>
+    ensures { IfOk result (λ n. n ≡ a * b) }
+{
+    a.checked_mul(b).ok_or(AllocError)
+}
+
+/// The files of a level.
+pub(crate) fn files_at(shape: &Shape, level: usize) -> &[FileMeta]
+    ensures { result.now ≡ files_at shape.now level }
+{
+    match shape.levels.get(level) {
+        Some(files) => files.as_slice(),
+        None => &[],
+    }
+}
+
+/// The bytes of files.
+#[tactic(auto)]
+pub(crate) fn bytes_of(files: &[FileMeta]) -> Result<u128, AllocError>
+    ensures { IfOk result (λ n. n ≡ bytes_of files.now) }
+{
+    let mut bytes = 0;
+    for file in files {
+        bytes = sum_of(bytes, u128::from(file.size))?;
+    }
+    Ok(bytes)
+}
+
+/// What counts of a level's files: at level 0 their number, at the others their bytes.
+fn load(level: usize, files: &[FileMeta]) -> Result<u128, AllocError>
+    ensures { IfOk result (λ n. n ≡ load level files.now) }
+{
+    match level {
+        0 => Ok(files.len() as u128),
+        _ => bytes_of(files),
+    }
+}
+
+/// What each file of level 0, and each byte of another level, weighs.
+fn scale(level: usize) -> u128
+    requires { level ≤ 5 }
+    ensures { result ≡ scale level }
+{
+    match level {
+        0 => 26_214_400_000,
+        1 => 10_000,
+        2 => 1_000,
+        3 => 100,
+        4 => 10,
+        _ => 1,
+    }
+}
+
+/// The score of a level, 0 to 5, in parts.
+#[tactic(auto, unfolding(crate::specs::Sums::weight))]
+pub(crate) fn weight(level: usize, files: &[FileMeta]) -> Result<u128, AllocError>
+    requires { level ≤ 5 }
+    ensures { IfOk result (λ n. n ≡ weight level files.now) }
+{
+    product_of(load(level, files)?, scale(level))
+}

@@ -1,0 +1,67 @@
+-- What a load leaves, by what each of its steps says.
+use Rattle.std.proofs.Common.{◌≡◌, ◌∙◌, ℕ, List, [], Option, ap, subst, sym}
+use Rattle.std.specs.Prelude.{◌-◌}
+use Rattle.atomic_table.specs.Seated.{TableId}
+use Rattle.lsm_shelf.specs.Asked.{Asked}
+use Rattle.lsm_shelf.specs.Told.{Forked, Told}
+use Rattle.lsm_shelf.specs.declared.shelf_fault.ShelfFault.{ShelfFault}
+use Rattle.lsm_state.specs.Held.{Held}
+use Rattle.lsm_state.specs.declared.state_fault.StateFault.{StateFault}
+use Rattle.lsm_text.specs.declared.form.Form.{Form}
+use Rattle.lsm_directory.specs.declared.folder.folder_file.FolderFile.{FolderFile}
+use Rattle.lsm_lines.specs.Gathering.{Pending}
+use Rattle.lsm_lines.specs.Passing.{PassesLines}
+use Rattle.lsm_bulk_load.specs.Ending.{IsIdle}
+use Rattle.lsm_bulk_load.specs.Loading.{IsLoaded}
+use Rattle.lsm_bulk_load.specs.Marks.{Marked, marked_in}
+use Rattle.lsm_bulk_load.specs.declared.progress.Progress.{Progress}
+use Rattle.lsm_cmd_compact.specs.Compacting.{IsSwept, Refuses}
+use Rattle.lsm_cmd_write.specs.Starting.{IsStarted}
+use Rattle.lsm_cmd_write.specs.declared.ingesting.start.Start.{Start}
+use Rattle.lsm_cmd_load.specs.Loaded.{IsToCome, IsUnswept, LoadsAll, LoadsWhole}
+
+-- the lines that are still to come, behind those that were passed over
+pub to_come : (form : Form) (from count : ℕ) (input : Option (List ℕ)) (old new : Pending) → old ≡ record { form = form; held = []; left = input } → count ≡ from - 1
+    → PassesLines count old.left new.left → new ≡ record old { left = new.left } → IsToCome from form input new
+to_come form from count input old new made is passed rest = (
+  new.left,
+  subst (λ (x : Option (List ℕ)). PassesLines (from - 1) x new.left) (ap (λ (p : Pending). p.left) made)
+      (subst (λ n. PassesLines n old.left new.left) is passed),
+  rest ∙ ap (λ (p : Pending). record p { left = new.left }) made,
+)
+
+-- all lines came in; what is left is just as far as the state behind them
+pub loads_all : (Honest : Type 0) (start : Start) (logs : List FolderFile) (pending : Pending) (p : Progress) (found loaded left : Held) (was opened is : Told)
+    → IsStarted Honest start logs found was opened → IsLoaded pending (marked_in found) (marked_in loaded) p → (Honest → IsIdle left) → Forked opened is → marked_in left ≡ marked_in loaded
+    → LoadsAll Honest start logs pending p left was is
+loads_all Honest start logs pending p found loaded left was opened is started all idle forked same = record {
+  found = found;
+  mid = opened;
+  started = started;
+  loaded = subst (λ (m : Marked). IsLoaded pending (marked_in found) m p) (sym same) all;
+  idle = idle;
+  forked = forked;
+}
+
+pub loads_whole : (Honest : Type 0) (start : Start) (logs : List FolderFile) (pending : Pending) (p : Progress) (board : TableId) (found loaded left : Held) (was opened mid is : Told)
+    → IsStarted Honest start logs found was opened → IsLoaded pending (marked_in found) (marked_in loaded) p → (Honest → IsIdle left) → Forked opened mid → marked_in left ≡ marked_in loaded
+    → IsSwept Honest board left mid is → LoadsWhole Honest start logs pending p was is
+loads_whole Honest start logs pending p board found loaded left was opened mid is started all idle forked same swept = record {
+  left = left;
+  mid = mid;
+  loads = loads_all Honest start logs pending p found loaded left was opened mid started all idle forked same;
+  board = board;
+  swept = swept;
+}
+
+pub unswept : (Refused : Asked → ShelfFault → Type 0) (Honest : Type 0) (start : Start) (logs : List FolderFile) (pending : Pending) (p : Progress) (fault : StateFault) (board : TableId)
+    (found loaded left : Held) (was opened mid is : Told) → IsStarted Honest start logs found was opened → IsLoaded pending (marked_in found) (marked_in loaded) p → (Honest → IsIdle left) → Forked opened mid
+    → marked_in left ≡ marked_in loaded → Refuses Refused Honest board left fault mid is → IsUnswept Refused Honest start logs pending fault was is
+unswept Refused Honest start logs pending p fault board found loaded left was opened mid is started all idle forked same refuses = record {
+  p = p;
+  left = left;
+  mid = mid;
+  loads = loads_all Honest start logs pending p found loaded left was opened mid started all idle forked same;
+  board = board;
+  refuses = refuses;
+}

@@ -1,0 +1,34 @@
+-- What a run says, by what a load says of the shelf of the folder that was opened.
+use Rattle.std.proofs.Common.{◌≢◌, ℕ, List, Option, IfErr, OnErr, OnOk, inr}
+use Rattle.std.specs.Prelude.{Result, Ok, Err}
+use Rattle.std.specs.Io.KnownBytes.{Keeps}
+use Rattle.lsm_folder.specs.Calls.{AreHonest}
+use Rattle.lsm_folder.specs.declared.folder_calls.FolderCalls.{Ghosts}
+use Rattle.lsm_folder.specs.declared.mark.Mark as mark
+use Rattle.lsm_shelf.specs.Refusals.{MayRefuse}
+use Rattle.lsm_storage.specs.declared.file.file_shelf.FileShelf.{FileShelf}
+use Rattle.lsm_text.specs.declared.load_options.LoadOptions.{LoadOptions}
+use Rattle.lsm_directory.specs.Folders.{IsShelfAt, stored_at, told_by}
+use Rattle.lsm_directory.specs.declared.folder.folder_file.FolderFile.{FolderFile}
+use Rattle.lsm_cmd_write.specs.Preparing.{IsPrepared}
+use Rattle.lsm_cmd_write.specs.declared.ingesting.start.Start.{Start}
+use Rattle.lsm_cmd_load.specs.Loaded.{IsInputFault, IsInputLoaded}
+use Rattle.lsm_cmd_load.specs.LoadedAt.{FailsToLoad, LoadsAt}
+use Rattle.lsm_cmd_load.specs.declared.stopped.Stopped.{Stopped}
+use Rattle.lsm_cmd_load.specs.declared.stopped.Stopped.TheVariants.{Write}
+
+module _ {C M : Type 0} (folders : Ghosts C M) where
+  pub loads_at : {T F : Type 0} (r : Result T F) (path : List ℕ) (options : LoadOptions) (input : Option (List ℕ)) (start : Start) (logs : List FolderFile) (begun ended : FileShelf C M)
+      (old new : Option (List ℕ)) → IsShelfAt folders path (IsPrepared options.ingest start logs) begun
+      → OnOk r (IsInputLoaded (AreHonest folders.calls) start logs options input (told_by folders begun) (told_by folders ended) old new) → OnOk r (LoadsAt folders path options input old new)
+  loads_at (Ok x) path options input start logs begun ended old new on done = record { start = start; logs = logs; begun = begun; on = on; ended = ended; done = done }
+  loads_at (Err e) path options input start logs begun ended old new on done = tt
+
+module _ {C M : Type 0} (folders : Ghosts C M) (marks : mark.Ghosts M) where
+  pub fails_to_load : {T : Type 0} (r : Result T Stopped) (path : List ℕ) (options : LoadOptions) (input : Option (List ℕ)) (start : Start) (logs : List FolderFile) (begun ended : FileShelf C M)
+      (old new : Option (List ℕ)) → IsShelfAt folders path (IsPrepared options.ingest start logs) begun
+      → IfErr r (λ e. IsInputFault (stored_at folders marks (told_by folders begun).place) MayRefuse (AreHonest folders.calls) start logs options input e (told_by folders begun) (told_by folders ended))
+      → IfErr r (λ e. e ≢ Write → Keeps old new) → OnErr r (FailsToLoad folders marks path options input old new)
+  fails_to_load (Ok x) path options input start logs begun ended old new on fault left = tt
+  fails_to_load (Err e) path options input start logs begun ended old new on fault left =
+      inr (e, record { start = start; logs = logs; begun = begun; on = on; ended = ended; refused = (fault, left) })

@@ -1,0 +1,49 @@
+use Rattle.std.proofs.lemmas.Result.{err_from_is_err_and}
+use Rattle.lsm_cmd_load.proofs.LoadedLaws.{loads_whole, unswept}
+use Rattle.lsm_cmd_load.proofs.into_directory.load_named.Goals as goal
+
+pub returns-clause-fault : goal.returns-clause-fault
+returns-clause-fault g c = (
+  c.load_beside-done.result.progress,
+  c.line_behind-line.ensures,
+  record {
+    found = c.in_ok-state.state;
+    mid = c.start.new.shelf;
+    started = c.in_ok-state.ensures.started;
+    left = c.load_beside-done.result.state;
+    board = g.N.Boarded.board;
+    lawful = c.options-options.ensures.law;
+    unloaded = rw c.in-Err.is at c.load_beside-done.ensures.refused;
+    forked = c.load_beside-done.ensures.told;
+  },
+)
+
+pub returns-in_err-sweep-in-Ok-clause-fault : goal.returns-in_err-sweep-in-Ok-clause-fault
+returns-in_err-sweep-in-Ok-clause-fault g c =
+    let p = err_from_is_err_and c.from_residual-in_err-sweep-in-Ok.result c.from_residual-in_err-sweep-in-Ok.ensures.1 in
+    let loaded = rw c.in-Ok.is at c.load_beside-done.ensures.loaded in
+    let idle = rw c.in-Ok.is at c.load_beside-done.ensures.idle in
+    rw (p.1, p.2) (unswept (g.S.Shelf.refuses g.N.Naming.place) g.S.Shelf.honest c.args.prepared.now.start c.args.prepared.now.logs.items c.args.lines c.load_beside-done.result.progress
+    c.in_err-sweep-in-Ok.field-0.0 g.N.Boarded.board c.in_ok-state.state c.load_beside-done.result.state c.sweep.new.state c.args.shelf.now c.start.new.shelf c.load_beside-done.new.shelf
+    c.sweep.new.shelf c.in_ok-state.ensures.started loaded (λ h. c.sweep.ensures.idle (idle h)) c.load_beside-done.ensures.told c.sweep.ensures.same c.in_err-sweep-in-Ok.ensures.refused)
+
+pub returns-in-Ok-reply-clause-done : goal.returns-in-Ok-reply-clause-done
+returns-in-Ok-reply-clause-done g c =
+    let loaded = rw c.in-Ok.is at c.load_beside-done.ensures.loaded in
+    let idle = rw c.in-Ok.is at c.load_beside-done.ensures.idle in (
+      c.load_beside-done.result.progress,
+      loads_whole g.S.Shelf.honest c.args.prepared.now.start c.args.prepared.now.logs.items c.args.lines c.load_beside-done.result.progress g.N.Boarded.board c.in_ok-state.state
+          c.load_beside-done.result.state c.sweep.new.state c.args.shelf.now c.start.new.shelf c.load_beside-done.new.shelf c.sweep.new.shelf c.in_ok-state.ensures.started
+          loaded (λ h. c.sweep.ensures.idle (idle h)) c.load_beside-done.ensures.told c.sweep.ensures.same c.in_ok-sweep-in-Ok.ensures.ok,
+      c.in-Ok-reply.ensures.written,
+    )
+
+pub returns-in-Ok-clause-fault : goal.returns-in-Ok-clause-fault
+returns-in-Ok-clause-fault g c =
+    let loaded = rw c.in-Ok.is at c.load_beside-done.ensures.loaded in
+    let idle = rw c.in-Ok.is at c.load_beside-done.ensures.idle in (
+      c.load_beside-done.result.progress,
+      loads_whole g.S.Shelf.honest c.args.prepared.now.start c.args.prepared.now.logs.items c.args.lines c.load_beside-done.result.progress g.N.Boarded.board c.in_ok-state.state
+          c.load_beside-done.result.state c.sweep.new.state c.args.shelf.now c.start.new.shelf c.load_beside-done.new.shelf c.sweep.new.shelf c.in_ok-state.ensures.started
+          loaded (λ h. c.sweep.ensures.idle (idle h)) c.load_beside-done.ensures.told c.sweep.ensures.same c.in_ok-sweep-in-Ok.ensures.ok,
+    )

@@ -1,0 +1,210 @@
+-- What a command answers, by what opening the directory and asking it answer.
+use Rattle.std.proofs.Common.{◌≢◌, ℕ, List, Bool, Option, IfErr, OnOk, ◌≡◌, inl, inr, sym}
+use Rattle.std.specs.Prelude.{Result, Ok, Err, IsFalse}
+use Rattle.std.specs.Io.KnownBytes.{Keeps}
+use Rattle.std.proofs.KnownBytes.{Keeps-refl, Keeps-trans}
+use Rattle.lsm_shelf.specs.Asked.{Asked}
+use Rattle.lsm_shelf.specs.Told.{Told, Becomes, Counted, finding, listing}
+use Rattle.lsm_shelf.specs.declared.shelf_fault.ShelfFault.{ShelfFault}
+use Rattle.lsm_shelf.specs.declared.shelf_fault.ShelfFault.TheVariants as shelf_faults
+use Rattle.lsm_shelf.proofs.CallerLemmas.{becomes_same, becomes_then}
+use Rattle.lsm_table.specs.ReadFault.{ReadCounted}
+use Rattle.lsm_table.specs.declared.read_fault.ReadFault.{ReadFault}
+use Rattle.lsm_table.specs.declared.read_fault.ReadFault.TheVariants.{Shelf as ShelfOfRead, Table as TableOfRead}
+use Rattle.lsm_table.proofs.CallerLemmas.{read_counted_later}
+use Rattle.lsm_journal.specs.Finding.{IsFindRefusal, IsFound}
+use Rattle.lsm_journal.specs.HeldManifest.{HeldManifest}
+use Rattle.lsm_journal.specs.Recovering.{IsRecoverRefusal}
+use Rattle.lsm_journal.specs.declared.open_fault.OpenFault.{OpenFault}
+use Rattle.lsm_journal.specs.declared.open_fault.OpenFault.TheVariants as open_faults
+use Rattle.lsm_journal.specs.declared.recover_fault.RecoverFault.{RecoverFault}
+use Rattle.lsm_journal.specs.declared.recover_fault.RecoverFault.TheVariants as recover_faults
+use Rattle.lsm_version.specs.Versions.{Levels}
+use Rattle.lsm_text.specs.declared.directory_command.DirectoryCommand.{DirectoryCommand}
+use Rattle.lsm_text.specs.declared.directory_command.DirectoryCommand.TheVariants.{Check, List as ListFiles, Get, Scan}
+use Rattle.lsm_directory.specs.DirectoryFault.{of_open}
+use Rattle.lsm_cmd_read.specs.Answers.{HasNoNote, IsLookedIntoAsGiven, IsLookFault, IsNotLookedInto, IsPerformFault, Leaves, Prints, PrintsBefore, ReliesOn, SaysAbsent}
+use Rattle.lsm_text.specs.declared.form.Form.{Form}
+use Rattle.lsm_cmd_read.specs.Directory.{AreGiven, Holds, OnlyReads}
+use Rattle.lsm_cmd_read.specs.Opening.{IsOpenRefusal}
+use Rattle.lsm_directory.specs.declared.folder.folder_file.FolderFile.{FolderFile}
+use Rattle.lsm_directory.specs.declared.faults.directory_fault.DirectoryFault.{DirectoryFault}
+use Rattle.lsm_directory.specs.declared.faults.directory_fault.DirectoryFault.TheVariants.{OutOfMemory, Write, Shelf, Manifest, Tables, Read, NumbersSpent, Locked, Absent}
+
+-- after later reads of tables
+pub holds_later : (Honest : Type 0) (was mid is : Told) (v : Levels) (rest log prev : ℕ) → Becomes mid is → Holds Honest was mid v rest log prev → Holds Honest was is v rest log prev
+holds_later Honest was mid is v rest log prev b h = record {
+  held = h.held;
+  limit = h.limit;
+  next = h.next;
+  found = record {
+    shape = h.found.shape;
+    listed = h.found.listed;
+    loaded = h.found.loaded;
+    limit_is = h.found.limit_is;
+    least = h.found.least;
+    fits = h.found.fits;
+    told = becomes_then (listing h.found.listed (finding h.held.number h.held.bytes was)) mid is h.found.told b;
+  };
+  logs = h.logs;
+  previous = h.previous;
+}
+
+shelf_counted_from : (e : ShelfFault) (listed : List ℕ) (number : ℕ) (bytes : List ℕ) (was is : Told) → Counted e (listing listed (finding number bytes was)) is → Counted e was is
+shelf_counted_from shelf_faults.OutOfMemory listed number bytes was is c = c
+shelf_counted_from shelf_faults.Device listed number bytes was is c = c
+shelf_counted_from shelf_faults.Missing listed number bytes was is c = c
+shelf_counted_from (shelf_faults.Taken n) listed number bytes was is c = c
+
+-- a refusal after the manifest was read and the tables were listed
+counted_from : (e : ReadFault) (listed : List ℕ) (number : ℕ) (bytes : List ℕ) (was is : Told) → ReadCounted e (listing listed (finding number bytes was)) is → ReadCounted e was is
+counted_from (ShelfOfRead fault) listed number bytes was is k = (k.0, shelf_counted_from fault listed number bytes was is k.1)
+counted_from (TableOfRead fault) listed number bytes was is k = tt
+
+pub read_counted_from : (Honest : Type 0) (e : ReadFault) (was mid is : Told) (v : Levels) (rest log prev : ℕ) → Holds Honest was mid v rest log prev → ReadCounted e mid is → ReadCounted e was is
+read_counted_from Honest e was mid is v rest log prev h c =
+    counted_from e h.found.listed h.held.number h.held.bytes was is (read_counted_later e (listing h.found.listed (finding h.held.number h.held.bytes was)) mid is h.found.told c)
+
+-- ---- a directory that is not opened
+
+module _ (Stored : ℕ → List ℕ → Type 0) (Refused : Asked → ShelfFault → Type 0) (Honest : Type 0) where
+  pub open_refused : (e : OpenFault) (was is : Told) → IsFindRefusal Stored Refused Honest e was is → IsOpenRefusal Stored Refused Honest (of_open e) was is
+  open_refused open_faults.OutOfMemory was is h = h
+  open_refused (open_faults.Shelf e) was is h = h
+  open_refused (open_faults.Recover e) was is h = h
+  open_refused (open_faults.Check e) was is h = h
+  open_refused open_faults.NumbersSpent was is h = h
+
+  pub fault_from_open : (command : DirectoryCommand) (e : DirectoryFault) (was is : Told) → IsOpenRefusal Stored Refused Honest e was is
+      → IsLookFault Stored Refused Honest command e was is
+  fault_from_open command OutOfMemory was is h = tt
+  fault_from_open command Write was is h = absurd h
+  fault_from_open command (Shelf e) was is h = h
+  fault_from_open command (Manifest e) was is h = h
+  fault_from_open command (Tables e) was is h = h
+  fault_from_open command (Read e) was is h = absurd h
+  fault_from_open command NumbersSpent was is h = h
+  fault_from_open command Locked was is h = absurd h
+  fault_from_open command Absent was is h = absurd h
+
+  -- where nothing was written, a refusal to open leaves what it may
+  pub keeps_leaves : (form : Form) (command : DirectoryCommand) (fault : DirectoryFault) (was is : Told) (old : Option (List ℕ))
+      → IsOpenRefusal Stored Refused Honest fault was is → Leaves form command Stored Honest fault was is old old
+  keeps_leaves form command OutOfMemory was is old f = inl (Keeps-refl old)
+  keeps_leaves form command Write was is old f = absurd f
+  keeps_leaves form command (Shelf fault) was is old f = Keeps-refl old
+  keeps_leaves form command (Manifest fault) was is old f = Keeps-refl old
+  keeps_leaves form command (Tables fault) was is old f = Keeps-refl old
+  keeps_leaves form command (Read fault) was is old f = absurd f
+  keeps_leaves form command NumbersSpent was is old f = Keeps-refl old
+  keeps_leaves form command Locked was is old f = absurd f
+  keeps_leaves form command Absent was is old f = absurd f
+
+  -- ---- an open directory
+
+  fault_later : (command : DirectoryCommand) (was mid is : Told) (v : Levels) (rest log prev : ℕ) (fault : DirectoryFault)
+      → Becomes mid is → Holds Honest was mid v rest log prev → AreGiven Stored v → IsPerformFault Honest command v fault mid is → IsLookFault Stored Refused Honest command fault was is
+  fault_later command was mid is v rest log prev OutOfMemory b h given f = f
+  fault_later command was mid is v rest log prev Write b h given f = (v, (rest, log, prev, holds_later Honest was mid is v rest log prev b h, given))
+  fault_later command was mid is v rest log prev (Shelf fault) b h given f = absurd f
+  fault_later command was mid is v rest log prev (Manifest fault) b h given f = absurd f
+  fault_later command was mid is v rest log prev (Tables fault) b h given f = absurd f
+  fault_later command was mid is v rest log prev (Read fault) b h given f =
+      (v, (rest, log, prev, holds_later Honest was mid is v rest log prev b h, given), f.0, read_counted_from Honest fault was mid is v rest log prev h f.1)
+  fault_later command was mid is v rest log prev NumbersSpent b h given f = absurd f
+  fault_later command was mid is v rest log prev Locked b h given f = absurd f
+  fault_later command was mid is v rest log prev Absent b h given f = (v, (rest, log, prev, holds_later Honest was mid is v rest log prev b h, given), f)
+
+  pub is_fault : {T : Type 0} (r : Result T DirectoryFault) (command : DirectoryCommand) (was mid is : Told) (v : Levels) (rest log prev : ℕ)
+      → Becomes mid is → Holds Honest was mid v rest log prev → AreGiven Stored v → IfErr r (λ e. IsPerformFault Honest command v e mid is)
+      → IfErr r (λ e. IsLookFault Stored Refused Honest command e was is)
+  is_fault (Ok x) command was mid is v rest log prev b h given f = search
+  is_fault (Err e) command was mid is v rest log prev b h given f = fault_later command was mid is v rest log prev e b h given f
+
+pub is_done : {T : Type 0} (r : Result T DirectoryFault) (form : Form) (command : DirectoryCommand) (others : List FolderFile) (progress : Bool) (Stored : ℕ → List ℕ → Type 0) (Honest : Type 0) (was mid is : Told) (v : Levels) (rest log prev : ℕ)
+    (old new said judged noted told : Option (List ℕ)) → Becomes mid is → Holds Honest was mid v rest log prev → AreGiven Stored v → (ReliesOn Honest command → OnOk r (Prints form command v rest log prev others old new))
+    → (IsFalse progress → Keeps said judged) → (HasNoNote command log prev others → Keeps judged noted) → (IsFalse progress → Keeps noted told) → OnOk r (IsLookedIntoAsGiven form command others progress Stored Honest was is old new said told)
+is_done (Ok x) form command others progress Stored Honest was mid is v rest log prev old new said judged noted told b h given w j q k = record {
+  looked = record {
+    version = v;
+    rest = rest;
+    log = log;
+    prev = prev;
+    holds = holds_later Honest was mid is v rest log prev b h;
+    printed = w;
+    quiet = λ asked none. Keeps-trans said noted told (Keeps-trans said judged noted (j asked) (q none)) (k asked);
+  };
+  given = given;
+}
+is_done (Err e) form command others progress Stored Honest was mid is v rest log prev old new said judged noted told b h given w j q k = search
+
+-- an absent key leaves what is written before a fault by a read of a key: nothing
+absent_leaves : (form : Form) (command : DirectoryCommand) (Honest : Type 0) (v : Levels) (old new : Option (List ℕ)) → SaysAbsent Honest command v
+    → PrintsBefore form command Honest v old new → Keeps old new
+absent_leaves form (Check workers) Honest v old new says p = p
+absent_leaves form ListFiles Honest v old new says p = p
+absent_leaves form (Get key output) Honest v old new says p = p
+absent_leaves form (Scan options) Honest v old new says p = absurd says
+
+leaves_later : (form : Form) (command : DirectoryCommand) (Stored : ℕ → List ℕ → Type 0) (Honest : Type 0) (fault : DirectoryFault) (was mid is : Told) (v : Levels) (rest log prev : ℕ) (old new : Option (List ℕ))
+    → Becomes mid is → Holds Honest was mid v rest log prev → AreGiven Stored v → IsPerformFault Honest command v fault mid is → (fault ≢ Write → PrintsBefore form command Honest v old new)
+    → Leaves form command Stored Honest fault was is old new
+leaves_later form command Stored Honest OutOfMemory was mid is v rest log prev old new b h given f p = inr (v, (rest, log, prev, holds_later Honest was mid is v rest log prev b h, given), p (λ e. cc))
+leaves_later form command Stored Honest Write was mid is v rest log prev old new b h given f p = tt
+leaves_later form command Stored Honest (Shelf fault) was mid is v rest log prev old new b h given f p = absurd f
+leaves_later form command Stored Honest (Manifest fault) was mid is v rest log prev old new b h given f p = absurd f
+leaves_later form command Stored Honest (Tables fault) was mid is v rest log prev old new b h given f p = absurd f
+leaves_later form command Stored Honest (Read fault) was mid is v rest log prev old new b h given f p = (v, (rest, log, prev, holds_later Honest was mid is v rest log prev b h, given), p (λ e. cc))
+leaves_later form command Stored Honest NumbersSpent was mid is v rest log prev old new b h given f p = absurd f
+leaves_later form command Stored Honest Locked was mid is v rest log prev old new b h given f p = absurd f
+leaves_later form command Stored Honest Absent was mid is v rest log prev old new b h given f p = absent_leaves form command Honest v old new f (p (λ e. cc))
+
+pub is_left : {T : Type 0} (r : Result T DirectoryFault) (form : Form) (command : DirectoryCommand) (Stored : ℕ → List ℕ → Type 0) (Honest : Type 0) (was mid is : Told) (v : Levels) (rest log prev : ℕ) (old new : Option (List ℕ))
+    → Becomes mid is → Holds Honest was mid v rest log prev → AreGiven Stored v → IfErr r (λ e. IsPerformFault Honest command v e mid is) → IfErr r (λ e. e ≢ Write → PrintsBefore form command Honest v old new)
+    → IfErr r (λ e. Leaves form command Stored Honest e was is old new)
+is_left (Ok x) form command Stored Honest was mid is v rest log prev old new b h given f p = search
+is_left (Err e) form command Stored Honest was mid is v rest log prev old new b h given f p = leaves_later form command Stored Honest e was mid is v rest log prev old new b h given f p
+
+pub is_refused : {T : Type 0} (r : Result T DirectoryFault) (form : Form) (command : DirectoryCommand) (Stored : ℕ → List ℕ → Type 0) (Refused : Asked → ShelfFault → Type 0) (Honest : Type 0) (was is : Told) (old new : Option (List ℕ))
+    → IfErr r (λ e. IsLookFault Stored Refused Honest command e was is) → IfErr r (λ e. Leaves form command Stored Honest e was is old new) → IfErr r (λ e. IsNotLookedInto form command e Stored Refused Honest was is old new)
+is_refused (Ok x) form command Stored Refused Honest was is old new f k = search
+is_refused (Err e) form command Stored Refused Honest was is old new f k = record { says = f; left = k }
+
+-- memory ran out before anything was written
+pub memory_refused : (form : Form) (command : DirectoryCommand) (Stored : ℕ → List ℕ → Type 0) (Refused : Asked → ShelfFault → Type 0) (Honest : Type 0) (was is : Told) (old : Option (List ℕ))
+    → IsNotLookedInto form command OutOfMemory Stored Refused Honest was is old old
+memory_refused form command Stored Refused Honest was is old = record { says = tt; left = inl (Keeps-refl old) }
+
+-- ---- nothing but reads
+
+pub reads_none : (t : Told) → OnlyReads t t
+reads_none t = inl (becomes_same t)
+
+-- the manifest was refused
+recover_reads : (Refused : Asked → ShelfFault → Type 0) (e : RecoverFault) (was is : Told) → IsRecoverRefusal Refused e was is → OnlyReads was is
+recover_reads Refused (recover_faults.Shelf e) was is r = inl r.0
+recover_reads Refused (recover_faults.Log e) was is r = let gave = r.1 in inr (gave.0, r.0, inl gave.1)
+recover_reads Refused (recover_faults.Edit e) was is r = let gave = r.1 in inr (gave.0, r.0, inl gave.1)
+recover_reads Refused (recover_faults.Replay e) was is r = let gave = r.1 in inr (gave.0, r.0, inl gave.1)
+
+-- or what it names
+pub reads_refused : (Stored : ℕ → List ℕ → Type 0) (Refused : Asked → ShelfFault → Type 0) (Honest : Type 0) (e : OpenFault) (was is : Told)
+    → IsFindRefusal Stored Refused Honest e was is → OnlyReads was is
+reads_refused Stored Refused Honest open_faults.OutOfMemory was is r = inr (r.held.number, r.held.bytes, r.told)
+reads_refused Stored Refused Honest (open_faults.Shelf e) was is r = inr (r.held.number, r.held.bytes, inl r.told)
+reads_refused Stored Refused Honest (open_faults.Recover e) was is r = recover_reads Refused e was is r
+reads_refused Stored Refused Honest (open_faults.Check e) was is r = inr (r.held.number, r.held.bytes, inl r.told)
+reads_refused Stored Refused Honest open_faults.NumbersSpent was is r = inr (r.held.number, r.held.bytes, inr (r.listed, r.told))
+
+-- a directory that was found
+pub found_held : (Honest : Type 0) (limit : ℕ) (h : HeldManifest) (v : Levels) (rest next log prev : ℕ) (was is : Told) → IsFound Honest limit h v rest next was is → log ≡ h.log → prev ≡ h.prev_log
+    → Holds Honest was is v rest log prev
+found_held Honest limit h v rest next log prev was is f logs previous = record { held = h; limit = limit; next = next; found = f; logs = sym logs; previous = sym previous }
+
+pub reads_found : (Honest : Type 0) (limit : ℕ) (h : HeldManifest) (v : Levels) (rest next : ℕ) (was is : Told) → IsFound Honest limit h v rest next was is → OnlyReads was is
+reads_found Honest limit h v rest next was is f = inr (h.number, h.bytes, inr (f.listed, f.told))
+
+pub reads_later : (was mid is : Told) → OnlyReads was mid → Becomes mid is → OnlyReads was is
+reads_later was mid is (inl b) c = inl (becomes_then was mid is b c)
+reads_later was mid is (inr (number, bytes, inl b)) c = inr (number, bytes, inl (becomes_then (finding number bytes was) mid is b c))
+reads_later was mid is (inr (number, bytes, inr (listed, b))) c = inr (number, bytes, inr (listed, becomes_then (listing listed (finding number bytes was)) mid is b c))

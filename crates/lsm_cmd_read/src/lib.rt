@@ -1,0 +1,37 @@
+//! The commands of the program `lsm` that only read a LevelDB folder: `check`, `list`, `get` and
+//! `scan`.
+//!
+//! Stands on `lsm_directory` for the folder, its lock and its logs, on `lsm_journal` to find the
+//! database there, and on `lsm_query` to read it. Its contract: `run_look` does what a line of
+//! words asks, and answers the exit status; over an honest shelf what is printed is of the version
+//! that the folder holds, and the folder was only read.
+#![tactic(auto)]
+
+// One run, and what is asked.
+mod inquiry;
+mod program;
+
+// A directory that is opened, and what is done on it.
+mod given;
+mod opened;
+mod performing;
+
+// A command each.
+mod answering;
+mod checking;
+mod json_lines;
+mod listing;
+mod scanning;
+
+// What a check counts; what is told beside.
+mod counting;
+mod notes;
+mod progress;
+
+// What holds of what is printed.
+mod laws;
+
+pub use inquiry::Inquiry;
+pub use laws::one_object;
+pub use opened::{Opened, open};
+pub use program::{look, run_look};

@@ -1,0 +1,235 @@
+//! One run of a command on a directory.
+
+ghost use Rattle.std.specs.Prelude.{◌≡◌, ◌≢◌, ◌⊎◌, All, IfErr, IfOk, OnOk};
+ghost use Rattle.lsm_storage.specs.FileShelf.{file_told};
+ghost use Rattle.lsm_shelf.specs.Stored.{Stored};
+ghost use Rattle.lsm_cmd_read.specs.Answers.{IsLookedIntoAsGiven, IsNotLookedInto, names_files};
+ghost use Rattle.lsm_cmd_read.specs.Directory.{OnlyReads};
+ghost use Rattle.lsm_directory.specs.Folders.{IsShelfAt};
+ghost use Rattle.lsm_directory.specs.Holding.{IsFolderFault};
+ghost use Rattle.lsm_cmd_read.specs.Looked.{FailsToLook, LooksAt, LooksAtGiven};
+ghost use Rattle.lsm_directory.specs.Looking.{TellsBeside};
+ghost use Rattle.lsm_directory.specs.declared.faults.directory_fault.DirectoryFault.{DirectoryFault};
+ghost use Rattle.lsm_directory.specs.declared.faults.directory_fault.DirectoryFault.TheVariants.{OutOfMemory};
+
+use crate::inquiry::Inquiry;
+use crate::performing::perform_as;
+use lsm_directory::{
+    DirectoryFault, FolderFile, Known, Paths, files_beside, open_at, refuse, status_of,
+};
+use lsm_folder::{FolderCalls, Reasons};
+use lsm_storage::FileShelf;
+use lsm_table::{Records, Shelf};
+use lsm_text::{DirectoryCommand, DirectoryLine};
+use std::alloc::{AllocError, Global};
+use std::io::Write;
+use std::marker::Brand;
+use std::sync::Wait;
+use std::thread;
+use std::thread::Threads;
+
+/// Whether the refusals of a command name the files of tables.
+fn names_files(command: &DirectoryCommand) -> bool
+    ensures { result ≡ names_files command.now }
+{
+    match command {
+        DirectoryCommand::Check(_) | DirectoryCommand::Scan(_) => true,
+        DirectoryCommand::List | DirectoryCommand::Get(_, _) => false,
+    }
+}
+
+/// Does what a command asks, with records of its own.
+#[tactic(auto, using(crate::proofs::ReadingOutcomes::memory_refused, crate::proofs::ReadingOutcomes::reads_none))]
+fn begin<S: Shelf, R: Threads + Wait + Sync, O: Write, E: Write + Send>(
+    rt: &R,
+    alloc: Global,
+    shelf: S,
+    shelves: Vec<S>,
+    inquiry: &Inquiry<'_>,
+    out: &mut O,
+    err: &mut E,
+) -> (Result<(), DirectoryFault>, S)
+    requires shelves { All (λ s. (S.told s).place ≡ (S.told shelf).place) shelves.items }
+    ensures done { OnOk result.0 (IsLookedIntoAsGiven inquiry.now.form inquiry.now.command.now
+        inquiry.now.files.now inquiry.now.progress (Stored S.Receipt (S.is_of (S.told shelf).place)
+        S.Receipt.number S.Receipt.image) S.honest (S.told shelf) (S.told result.1)
+        (O.contents out.old) (O.contents out.new) (E.contents err.old) (E.contents err.new)) }
+    ensures refused { IfErr result.0 (λ e. IsNotLookedInto inquiry.now.form
+        inquiry.now.command.now e (Stored S.Receipt (S.is_of (S.told shelf).place) S.Receipt.number
+        S.Receipt.image) (S.refuses (S.told shelf).place) S.honest (S.told shelf) (S.told result.1)
+        (O.contents out.old) (O.contents out.new)) }
+    ensures reads { OnlyReads (S.told shelf) (S.told result.1) }
+{
+    match Records::new(alloc) {
+        Ok(records) => {
+            perform_as::<Brand, S, R, O, E>(rt, alloc, shelf, shelves, records, inquiry, out, err)
+        }
+        Err(fault) => (Err(DirectoryFault::from(fault)), shelf),
+    }
+}
+
+/// Opens the directory of a shelf to read, does what is asked of it, and answers the exit status: 0
+/// where it is done, and 1 where it is refused. `list`, `get` and `scan` note on `err` each log
+/// that is not read. A fault is one line on `err`; `check` and `scan` name in it the file of which
+/// a table is refused, and `list` and `get` in a second one. Where it is `9 Device` or
+/// `10 Missing`, what the system answered stands behind it. A `get` that prints no line of its
+/// answer is `absent` where the key has none. Nothing is written in the directory. The shelf is
+/// given back. A thread for each of the other shelves, forks of it, reads and judges tables.
+pub fn look<S: Shelf, R: Threads + Wait + Sync, O: Write, E: Write + Send>(
+    rt: &R,
+    alloc: Global,
+    shelf: S,
+    shelves: Vec<S>,
+    inquiry: &Inquiry<'_>,
+    out: &mut O,
+    err: &mut E,
+) -> (u8, S)
+    requires shelves { All (λ s. (S.told s).place ≡ (S.told shelf).place) shelves.items }
+    ensures done { result.0 ≡ 0 → IsLookedIntoAsGiven inquiry.now.form inquiry.now.command.now
+        inquiry.now.files.now inquiry.now.progress (Stored S.Receipt (S.is_of (S.told shelf).place)
+        S.Receipt.number S.Receipt.image) S.honest (S.told shelf) (S.told result.1)
+        (O.contents out.old) (O.contents out.new) (E.contents err.old) (E.contents err.new) }
+    ensures refused { result.0 ≢ 0 → (result.0 ≡ 1)
+        × ((fault : DirectoryFault) × IsNotLookedInto inquiry.now.form inquiry.now.command.now fault
+        (Stored S.Receipt (S.is_of (S.told shelf).place) S.Receipt.number S.Receipt.image)
+        (S.refuses (S.told shelf).place) S.honest (S.told shelf) (S.told result.1)
+        (O.contents out.old) (O.contents out.new)) }
+    ensures reads { OnlyReads (S.told shelf) (S.told result.1) }
+{
+    let (done, shelf) = begin(rt, alloc, shelf, shelves, inquiry, out, err);
+    let known = Known {
+        writes: &[],
+        reasons: inquiry.reasons,
+        names_files: names_files(inquiry.command),
+    };
+    (status_of(done, known, err), shelf)
+}
+
+/// How many processors this program may use, 16 at most; 2 where the system does not say.
+fn usable_processors<R: Threads>(rt: &R) -> usize {
+    match thread::available_parallelism(rt) {
+        Ok(processors) => processors.get().min(16),
+        Err(_) => 2,
+    }
+}
+
+/// How many threads read and judge the tables for a command. Other commands than a check read them
+/// by this one alone.
+fn threads_for<R: Threads>(rt: &R, command: &DirectoryCommand) -> usize {
+    match command {
+        DirectoryCommand::Check(Some(workers)) => *workers,
+        DirectoryCommand::Check(None) => usable_processors(rt),
+        DirectoryCommand::List | DirectoryCommand::Get(_, _) | DirectoryCommand::Scan(_) => 0,
+    }
+}
+
+/// So many more shelves on a folder.
+fn shelves_on<C: FolderCalls>(
+    alloc: Global,
+    folder: &C,
+    count: usize,
+) -> Result<Vec<FileShelf<C>>, AllocError>
+    ensures { IfOk result (λ v.
+        All (λ s. (file_told C.place s).place ≡ C.place folder.now) v.items) }
+{
+    let mut shelves = Vec::new(alloc);
+    for _ in 0..count {
+        let Ok(fork) = folder.fork() else {
+            return Err(AllocError);
+        };
+        let shelf = FileShelf::over(fork);
+        shelves.push(shelf)?;
+    }
+    Ok(shelves)
+}
+
+/// Opens the folder at a path for a command that only reads: a shelf on it, whose lock is held as
+/// long as the shelf is, so many more, and the files that `files_beside` finds there.
+fn open_shelf<C: FolderCalls, P: Paths<C>, R: Wait>(
+    rt: &R,
+    paths: &P,
+    path: &str,
+    count: usize,
+    reasons: &Reasons,
+) -> Result<(FileShelf<C>, Vec<FileShelf<C>>, Vec<FolderFile>), DirectoryFault>
+    ensures found { IfOk result (λ o.
+        IsShelfAt C.FolderCalls path.now (TellsBeside o.2.items) o.0) }
+    ensures place { IfOk result (λ o.
+        All (λ s. (file_told C.place s).place ≡ (file_told C.place o.0).place) o.1.items) }
+    ensures fault { IfErr result (λ e. IsFolderFault e ⊎ (e ≡ OutOfMemory)) }
+{
+    let mut folder = open_at(paths, path, reasons)?;
+    let files = files_beside(rt, paths.alloc(), &mut folder)?;
+    let shelves = shelves_on(paths.alloc(), &folder, count)?;
+
+    // That a file was not there to be locked, or is gone, is no reason of a later refusal.
+    reasons.forget();
+    Ok((FileShelf::over(folder), shelves, files))
+}
+
+/// Does what a line asks of the folder at its path.
+fn look_at<
+    C: FolderCalls + Send + Sync,
+    P: Paths<C>,
+    R: Threads + Wait + Sync,
+    O: Write,
+    E: Write + Send,
+>(
+    rt: &R,
+    paths: &P,
+    line: &DirectoryLine<'_>,
+    reasons: &Reasons,
+    out: &mut O,
+    err: &mut E,
+) -> Result<(), DirectoryFault>
+where
+    C::Mark: Send + Sync,
+    ensures done { OnOk result (LooksAtGiven C.FolderCalls C.Mark.Mark line.now
+        (O.contents out.old) (O.contents out.new) (E.contents err.old) (E.contents err.new)) }
+    ensures refused { IfErr result (λ e. FailsToLook C.FolderCalls C.Mark.Mark line.now e
+        (O.contents out.old) (O.contents out.new)) }
+{
+    let count = threads_for(rt, &line.command);
+    let (shelf, shelves, files) = open_shelf(rt, paths, line.path, count, reasons)?;
+    let inquiry = Inquiry {
+        command: &line.command,
+        form: line.form,
+        files: &files,
+        progress: line.progress,
+        reasons: Some(reasons),
+    };
+    let (done, _shelf) = begin(rt, paths.alloc(), shelf, shelves, &inquiry, out, err);
+    done
+}
+
+/// Does what a line asks of the folder at its path, and answers the exit status, as `look` does.
+/// `Shelf` of `Device` where it is no folder that can be opened; the refusals of `files_beside`.
+pub fn run_look<
+    C: FolderCalls + Send + Sync,
+    P: Paths<C>,
+    R: Threads + Wait + Sync,
+    O: Write,
+    E: Write + Send,
+>(rt: &R, paths: &P, line: &DirectoryLine<'_>, out: &mut O, err: &mut E) -> u8
+where
+    C::Mark: Send + Sync,
+    ensures done { result ≡ 0 → LooksAt C.FolderCalls line.now (O.contents out.old)
+        (O.contents out.new) (E.contents err.old) (E.contents err.new) }
+    ensures given { result ≡ 0 → LooksAtGiven C.FolderCalls C.Mark.Mark line.now
+        (O.contents out.old) (O.contents out.new) (E.contents err.old) (E.contents err.new) }
+    ensures refused { result ≢ 0 → (result ≡ 1) × ((fault : DirectoryFault)
+        × FailsToLook C.FolderCalls C.Mark.Mark line.now fault (O.contents out.old)
+        (O.contents out.new)) }
+{
+    let reasons = match Reasons::new(paths.alloc()) {
+        Ok(reasons) => reasons,
+        Err(fault) => return refuse(DirectoryFault::from(fault), err),
+    };
+    let done = look_at(rt, paths, line, &reasons, out, err);
+    let known = Known {
+        writes: &[],
+        reasons: Some(&reasons),
+        names_files: names_files(&line.command),
+    };
+    status_of(done, known, err)
+}

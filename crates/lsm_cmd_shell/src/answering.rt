@@ -1,0 +1,39 @@
+//! The reply to a command of a script.
+
+ghost use Rattle.std.specs.Prelude.{List, ℕ, OnOk};
+ghost use Rattle.std.specs.Io.KnownBytes.{Appends};
+ghost use Rattle.lsm_script.specs.ReplyText.{reply_text};
+ghost use Rattle.lsm_script.specs.Steps.{IsStep, stage};
+ghost use Rattle.lsm_script.specs.declared.reply.Reply.{Reply};
+ghost use Rattle.lsm_cmd_shell.specs.Batching.{Says};
+
+use crate::saying::{Unsaid, say_reply};
+use lsm_script::{Command, Desk};
+use lsm_slots::Boarded;
+use lsm_state::State;
+use lsm_table::{NamedShelf, Shelf};
+use lsm_text::Form;
+use std::alloc::Global;
+use std::io::Write;
+use std::sync::Wait;
+
+/// Does a command, and says its reply. `text` is memory for it.
+pub(crate) fn answer<N: Boarded, S: Shelf, R: Wait, O: Write>(
+    rt: &R,
+    alloc: Global,
+    state: &mut State<N, S>,
+    desk: &mut Desk<N, S>,
+    shelf: &mut NamedShelf<N, S>,
+    form: Form,
+    command: &Command,
+    text: &mut Vec<u8>,
+    out: &mut O,
+) -> Result<(), Unsaid>
+    ensures { (said : List ℕ) × (r : Reply) × IsStep S.honest command.now r
+        (stage state.old desk.old shelf.old) (stage state.new desk.new shelf.new)
+        × Says (reply_text form r) said
+        × OnOk result (Appends (O.contents out.old) (O.contents out.new) said) }
+{
+    let reply = desk.answer(rt, alloc, state, shelf, command);
+    say_reply(text, form, &reply, out)
+}

@@ -1,0 +1,178 @@
+//! A conversation beside workers.
+
+ghost use Rattle.std.specs.Prelude.{◌≡◌, List, None, ℕ, OnOk};
+ghost use Rattle.std.specs.Io.KnownBytes.{Appends};
+ghost use Rattle.lsm_script.specs.Steps.{stage};
+ghost use Rattle.lsm_cmd_shell.specs.Batching.{standing};
+ghost use Rattle.lsm_cmd_shell.specs.Beside.{IsLent, IsRepliedBeside, IsTalkBeside, waiting};
+ghost use Rattle.lsm_cmd_shell.specs.Talk.{IsHeld, IsLineOf, IsReplied, IsTurnOf};
+
+use crate::saying::Unsaid;
+use crate::talk_fault::TalkFault;
+use crate::talking::{next_line, reply_next, went_on};
+use lsm_history::Memory;
+use lsm_lines::{LineReader, NextLine, WriteBuffer};
+use lsm_script::Desk;
+use lsm_slots::Boarded;
+use lsm_state::State;
+use lsm_store::{Background, Store};
+use lsm_table::{NamedShelf, Shelf};
+use lsm_text::Form;
+use std::alloc::Global;
+use std::io::{Read, Write};
+use std::mem;
+use std::sync::Wait;
+
+/// The state has all that is remembered. All that has come in is remembered from then on.
+#[tactic(auto, using(crate::proofs::BesideLaws::lent))]
+fn catch_up<N: Boarded, S: Shelf>(state: &mut State<N, S>, memory: &mut Memory<N>)
+    ensures lent { IsLent S.honest memory.old state.old }
+    ensures known { memory.new ≡ state.old.history }
+    ensures same { state.new ≡ state.old }
+{
+    let now = state.remember();
+    let before = mem::replace(memory, now);
+    state.recall(before);
+    state.law();
+}
+
+/// Replies to what was read next, on a state that is lent, which has all that is remembered. All
+/// that has come in then is remembered.
+fn reply_lent<N: Boarded, S: Shelf, R: Wait, I: Read + Drop, O: Write>(
+    state: &mut State<N, S>,
+    rt: &R,
+    alloc: Global,
+    memory: &mut Memory<N>,
+    desk: &mut Desk<N, S>,
+    begun: &mut Option<WriteBuffer>,
+    shelf: &mut NamedShelf<N, S>,
+    form: Form,
+    next: NextLine,
+    lines: &LineReader<I>,
+    text: &mut Vec<u8>,
+    out: &mut O,
+) -> Result<(), Unsaid>
+    requires { IsHeld next lines.now.line }
+    ensures lent { IsLent S.honest memory.old state.old }
+    ensures replied { (line : List ℕ) → IsLineOf next lines.now.line line → (said : List ℕ)
+        × IsReplied S.honest form line said
+        (standing (stage state.old desk.old shelf.old) begun.old)
+        (standing (stage state.new desk.new shelf.new) begun.new)
+        × OnOk result (Appends (O.contents out.old) (O.contents out.new) said) }
+    ensures known { memory.new ≡ state.new.history }
+{
+    catch_up(state, memory);
+    let said = reply_next(
+        rt, alloc, state, desk, begun, shelf, form, next, lines, text, out,
+    );
+    *memory = state.remember();
+    said
+}
+
+/// The same, on the state that the store lends for it.
+fn reply_under_lock<N: Boarded, S: Shelf, R: Wait, I: Read + Drop, O: Write>(
+    rt: &R,
+    alloc: Global,
+    store: &Store<N, S>,
+    memory: &mut Memory<N>,
+    desk: &mut Desk<N, S>,
+    begun: &mut Option<WriteBuffer>,
+    shelf: &mut NamedShelf<N, S>,
+    form: Form,
+    next: NextLine,
+    lines: &LineReader<I>,
+    text: &mut Vec<u8>,
+    out: &mut O,
+) -> Result<(), Unsaid>
+    requires { IsHeld next lines.now.line }
+    ensures replied { (line : List ℕ) → IsLineOf next lines.now.line line → (said : List ℕ)
+        × IsRepliedBeside S.honest form line said
+        (waiting memory.old shelf.old desk.old begun.old)
+        (waiting memory.new shelf.new desk.new begun.new)
+        × OnOk result (Appends (O.contents out.old) (O.contents out.new) said) }
+{
+    reply_lent(
+        &mut store.lock(rt).state,
+        rt,
+        alloc,
+        memory,
+        desk,
+        begun,
+        shelf,
+        form,
+        next,
+        lines,
+        text,
+        out,
+    )
+}
+
+/// Reads the next line, and replies to it. `false` at the end of the input, and at `quit`. The
+/// store lends its state once the line is there.
+fn take_turn<N: Boarded, S: Shelf, R: Wait, I: Read + Drop, O: Write>(
+    rt: &R,
+    alloc: Global,
+    store: &Store<N, S>,
+    memory: &mut Memory<N>,
+    desk: &mut Desk<N, S>,
+    begun: &mut Option<WriteBuffer>,
+    shelf: &mut NamedShelf<N, S>,
+    form: Form,
+    lines: &mut LineReader<I>,
+    text: &mut Vec<u8>,
+    out: &mut O,
+) -> Result<bool, TalkFault>
+    ensures turn { IsTurnOf (IsRepliedBeside S.honest form) result lines.old lines.new
+        (waiting memory.old shelf.old desk.old begun.old)
+        (waiting memory.new shelf.new desk.new begun.new)
+        (O.contents out.old) (O.contents out.new) }
+{
+    match next_line(lines) {
+        Ok(Some(next)) => {
+            let said = reply_under_lock(
+                rt, alloc, store, memory, desk, begun, shelf, form, next, lines, text, out,
+            );
+            went_on(said)
+        }
+        Ok(None) => Ok(false),
+        Err(fault) => Err(fault),
+    }
+}
+
+/// Replies to lines as `talk` does, on the state of a store, whose workers compact beside: it is
+/// locked for each line, and not while the next one is waited for. Behind each reply the workers
+/// look again. What is remembered when it begins has come in before.
+///
+/// # Errors
+/// Those of `talk`.
+pub fn talk_beside<N: Boarded, S: Shelf, R: Wait, I: Read + Drop, O: Write>(
+    rt: &R,
+    alloc: Global,
+    store: &Store<N, S>,
+    background: &Background,
+    memory: &mut Memory<N>,
+    desk: &mut Desk<N, S>,
+    shelf: &mut NamedShelf<N, S>,
+    form: Form,
+    lines: &mut LineReader<I>,
+    out: &mut O,
+) -> Result<(), TalkFault>
+    ensures talk { IsTalkBeside S.honest form lines.old.left result
+        (waiting memory.old shelf.old desk.old None) (waiting memory.new shelf.new desk.new None)
+        (O.contents out.old) (O.contents out.new) }
+{
+    let mut begun = None;
+    let mut text = Vec::new(alloc);
+    for _turn in 0..u64::MAX {
+        let turn = take_turn(
+            rt, alloc, store, memory, desk, &mut begun, shelf, form, lines, &mut text, out,
+        );
+        background.wake(rt);
+        match turn {
+            Ok(true) => {}
+            Ok(false) => return Ok(()),
+            Err(fault) => return Err(fault),
+        }
+    }
+    Err(TalkFault::Read)
+}

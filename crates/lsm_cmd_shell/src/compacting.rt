@@ -1,0 +1,63 @@
+//! The reply to `compact`.
+
+ghost use Rattle.std.specs.Prelude.{◌≡◌, ◌++◌, List, ℕ, OnOk};
+ghost use Rattle.std.specs.Io.KnownBytes.{Appends};
+ghost use Rattle.lsm_script.specs.Steps.{stage};
+ghost use Rattle.lsm_cmd_compact.specs.Compacting.{installed_text};
+ghost use Rattle.lsm_cmd_shell.specs.Batching.{Says};
+ghost use Rattle.lsm_cmd_shell.specs.Talk.{IsCompactReply};
+
+use crate::rounds::compact_all;
+use crate::saying::{Unsaid, say, say_reply, say_unsaid};
+use lsm_script::{Desk, Reply};
+use lsm_slots::Boarded;
+use lsm_state::State;
+use lsm_table::{NamedShelf, Shelf};
+use lsm_text::{Form, push_decimal};
+use std::alloc::{AllocError, Global};
+use std::io::Write;
+use std::sync::Wait;
+
+/// Appends how many results were installed.
+fn push_installed(out: &mut Vec<u8>, count: u64) -> Result<(), AllocError>
+    ensures { OnOk result (out.new.items ≡ out.old.items ++ installed_text count) }
+{
+    out.extend_from_slice(b"installed ")?;
+    push_decimal(out, count)?;
+    out.push(b'\n')?;
+    Ok(())
+}
+
+/// Says how many results were installed.
+fn say_installed<O: Write>(text: &mut Vec<u8>, count: u64, out: &mut O) -> Result<(), Unsaid>
+    ensures { (said : List ℕ) × Says (installed_text count) said
+        × OnOk result (Appends (O.contents out.old) (O.contents out.new) said) }
+{
+    text.clear();
+    match push_installed(text, count) {
+        Ok(()) => say(out, text.as_slice()),
+        Err(_) => say_unsaid(out),
+    }
+}
+
+/// Compacts all that is due, and says how much that was, or why it ended before that. `text` is
+/// memory for it.
+pub(crate) fn compact<N: Boarded, S: Shelf, R: Wait, O: Write>(
+    rt: &R,
+    alloc: Global,
+    state: &mut State<N, S>,
+    desk: &mut Desk<N, S>,
+    shelf: &mut NamedShelf<N, S>,
+    form: Form,
+    text: &mut Vec<u8>,
+    out: &mut O,
+) -> Result<(), Unsaid>
+    ensures { (said : List ℕ) × IsCompactReply S.honest form said
+        (stage state.old desk.old shelf.old) (stage state.new desk.new shelf.new)
+        × OnOk result (Appends (O.contents out.old) (O.contents out.new) said) }
+{
+    match compact_all(rt, alloc, state, desk, shelf) {
+        Ok(count) => say_installed(text, count, out),
+        Err(fault) => say_reply(text, form, &Reply::Refused(fault), out),
+    }
+}

@@ -1,0 +1,268 @@
+//! A conversation with the database on a shelf, while workers compact beside.
+
+ghost use Rattle.std.specs.Prelude.{◌≡◌, All, IfErr, IfNone, IfSome, None, Ok, OnOk};
+ghost use Rattle.std.specs.Prelude.{vec_len};
+ghost use Rattle.lsm_shelf.specs.Stored.{Stored};
+ghost use Rattle.lsm_state.specs.Making.{IsNewBoard, IsNewHistory};
+ghost use Rattle.lsm_store.specs.Workers.{IsWorkersEnd};
+ghost use Rattle.lsm_cmd_write.specs.Starting.{usual};
+ghost use Rattle.lsm_cmd_shell.specs.Beside.{IsTalkedBeside, waiting};
+ghost use Rattle.lsm_bulk_load.specs.Ending.{IsFaultless, IsFirstFault};
+ghost use Rattle.lsm_cmd_shell.specs.Conversing.{IsBesideFault, IsConversedBeside, IsOfEnds};
+
+use crate::beside::talk_beside;
+use crate::crew::Crew;
+use crate::talk_fault::TalkFault;
+use lsm_cmd_compact::CompactFault;
+use lsm_cmd_write::{NewParts, Prepared, WriterFault, start};
+use lsm_history::Memory;
+use lsm_lines::LineReader;
+use lsm_script::Desk;
+use lsm_slots::Boarded;
+use lsm_state::State;
+use lsm_store::{Background, NoGate, Store, WorkerEnd, WorkerFault, with_workers};
+use lsm_table::{NamedShelf, Shelf};
+use lsm_text::Form;
+use std::alloc::Global;
+use std::io::{Read, Write};
+use std::marker::Brand;
+use std::sync::Wait;
+use std::thread::Threads;
+
+/// Replies to lines on the state of a store, while a worker for each shelf compacts: how that
+/// ended, and the workers' ends. None where there was no memory for the workers; then no line was
+/// read.
+///
+/// What is said is said of an output that begins as this one does. The toolchain tells nothing of
+/// what a closure that is handed on leaves of what it borrowed.
+fn talk_in_store<N, S, R, I, O>(
+    rt: &R,
+    alloc: Global,
+    store: &Store<N, S>,
+    shelves: Vec<NamedShelf<N, S>>,
+    memory: Memory<N>,
+    desk: Desk<N, S>,
+    own: NamedShelf<N, S>,
+    form: Form,
+    lines: LineReader<I>,
+    out: &mut O,
+) -> Option<(Result<(), TalkFault>, Vec<WorkerEnd>)>
+where
+    N: Boarded,
+    S: Shelf,
+    R: Threads + Wait + Sync,
+    I: Read + Drop,
+    O: Write,
+    ensures talked { IfSome result (λ r. IsTalkedBeside S.honest form lines.left r.0
+        (waiting memory own desk None) (O.contents out.old)) }
+    ensures count { IfSome result (λ r. vec_len r.1 ≡ vec_len shelves) }
+    ensures ends { IfSome result (λ r. All (IsWorkersEnd S.honest) r.1.items) }
+{
+    let told = &mut *out;
+    let run = with_workers(
+        rt,
+        alloc,
+        store,
+        shelves,
+        &NoGate,
+        move |background: &Background| -> Result<(), TalkFault>
+            ensures { IsTalkedBeside S.honest form lines.left result (waiting memory own desk None)
+                (O.contents told.entry.now) }
+        {
+            let mut memory = memory;
+            let mut desk = desk;
+            let mut own = own;
+            let mut lines = lines;
+            talk_beside(
+                rt,
+                alloc,
+                store,
+                background,
+                &mut memory,
+                &mut desk,
+                &mut own,
+                form,
+                &mut lines,
+                told,
+            )
+        },
+    );
+    match run {
+        Ok(run) => Some(run),
+        Err(refused) => {
+            drop(refused);
+            None
+        }
+    }
+}
+
+/// The fault of a worker, if it has one.
+fn fault_of(end: &WorkerEnd) -> Option<WorkerFault>
+    ensures { result ≡ end.now.fault }
+{
+    end.fault
+}
+
+/// The fault of the first worker that has one.
+fn first_fault(ends: &[WorkerEnd]) -> Option<WorkerFault>
+    ensures none { IfNone result (All IsFaultless ends.now) }
+    ensures some { IfSome result (λ fault. IsFirstFault fault ends.now) }
+{
+    for end in ends {
+        if let Some(fault) = fault_of(end) {
+            return Some(fault);
+        }
+    }
+    None
+}
+
+/// How a conversation ended beside workers that ended so.
+fn judge(talked: Result<(), TalkFault>, ends: &[WorkerEnd]) -> Result<(), CompactFault>
+    ensures done { OnOk result ((talked ≡ Ok tt) × All IsFaultless ends.now) }
+    ensures fault { IfErr result (IsOfEnds talked ends.now) }
+{
+    match talked {
+        Ok(()) => {}
+        Err(TalkFault::Read) => return Err(CompactFault::Writer(WriterFault::Read)),
+        Err(TalkFault::Write) => return Err(CompactFault::Writer(WriterFault::Write)),
+    }
+    match first_fault(ends) {
+        Some(fault) => Err(CompactFault::Worker(fault)),
+        None => Ok(()),
+    }
+}
+
+/// Begins or opens the directory of a shelf, and replies to lines while so many workers compact.
+/// Once it is begun or opened the shelf is asked for forks alone.
+fn converse_named<N, S, R, I, O>(
+    rt: &R,
+    alloc: Global,
+    shelf: &mut NamedShelf<N, S>,
+    prepared: &Prepared,
+    parts: NewParts<S>,
+    form: Form,
+    workers: usize,
+    lines: LineReader<I>,
+    out: &mut O,
+) -> Result<(), CompactFault>
+where
+    N: Boarded,
+    S: Shelf,
+    R: Threads + Wait + Sync,
+    I: Read + Drop,
+    O: Write,
+    requires records { parts.records ≡ N.registry }
+    requires board { IsNewBoard N.board usual parts.publisher parts.pinners.items }
+    requires seats { vec_len parts.pinners ≡ usual.readers }
+    requires history { IsNewHistory N.history parts.history }
+    ensures done { OnOk result (IsConversedBeside S.honest prepared.now.start
+        prepared.now.logs.items form workers lines.left shelf.old shelf.new
+        (O.contents out.old)) }
+    ensures fault { IfErr result (λ e. IsBesideFault (Stored S.Receipt (S.is_of N.place)
+        S.Receipt.number S.Receipt.image) (S.refuses N.place) S.honest prepared.now.start
+        prepared.now.logs.items form workers lines.left e shelf.old shelf.new
+        (O.contents out.old) (O.contents out.new)) }
+{
+    let parts = match parts.named(alloc) {
+        Ok(parts) => parts,
+        Err(_) => return Err(CompactFault::Writer(WriterFault::OutOfMemory)),
+    };
+    let mut state: State<N, S> = match start(rt, alloc, shelf, prepared, parts) {
+        Ok(state) => state,
+        Err(fault) => return Err(CompactFault::Writer(fault)),
+    };
+    let desk = match Desk::new(alloc, &state) {
+        Ok(desk) => desk,
+        Err(_) => return Err(CompactFault::Writer(WriterFault::OutOfMemory)),
+    };
+    let memory = state.remember();
+    let Crew {
+        store,
+        shelves,
+        own,
+    } = match Crew::new(alloc, state, shelf, workers) {
+        Ok(crew) => crew,
+        Err(fault) => return Err(CompactFault::Writer(WriterFault::of_shelf(fault))),
+    };
+    let Some((talked, ends)) = talk_in_store(
+        rt, alloc, &store, shelves, memory, desk, own, form, lines, out,
+    ) else {
+        return Err(CompactFault::Writer(WriterFault::OutOfMemory));
+    };
+    judge(talked, &ends)
+}
+
+/// The same under the name that was picked for the parts and the shelf, which is given back.
+fn converse_as<N, S, R, I, O>(
+    rt: &R,
+    alloc: Global,
+    shelf: S,
+    prepared: &Prepared,
+    parts: NewParts<S>,
+    form: Form,
+    workers: usize,
+    lines: LineReader<I>,
+    out: &mut O,
+) -> (Result<(), CompactFault>, S)
+where
+    N: Boarded,
+    S: Shelf,
+    R: Threads + Wait + Sync,
+    I: Read + Drop,
+    O: Write,
+    requires records { parts.records ≡ N.registry }
+    requires shelf { (S.told shelf).place ≡ N.place }
+    requires board { IsNewBoard N.board usual parts.publisher parts.pinners.items }
+    requires seats { vec_len parts.pinners ≡ usual.readers }
+    requires history { IsNewHistory N.history parts.history }
+    ensures done { OnOk result.0 (IsConversedBeside S.honest prepared.now.start
+        prepared.now.logs.items form workers lines.left (S.told shelf) (S.told result.1)
+        (O.contents out.old)) }
+    ensures fault { IfErr result.0 (λ e. IsBesideFault (Stored S.Receipt (S.is_of N.place)
+        S.Receipt.number S.Receipt.image) (S.refuses N.place) S.honest prepared.now.start
+        prepared.now.logs.items form workers lines.left e (S.told shelf) (S.told result.1)
+        (O.contents out.old) (O.contents out.new)) }
+{
+    let mut shelf: NamedShelf<N, S> = NamedShelf::of(shelf);
+    let done = converse_named(
+        rt, alloc, &mut shelf, prepared, parts, form, workers, lines, out,
+    );
+    (done, shelf.into_shelf())
+}
+
+/// As `converse`, while so many workers compact beside. Once the conversation has ended each of
+/// them ends what it has begun; the fault of the first one that has ended early is told then.
+pub fn converse_beside<S, R, I, O>(
+    rt: &R,
+    alloc: Global,
+    shelf: S,
+    prepared: &Prepared,
+    form: Form,
+    workers: usize,
+    input: I,
+    out: &mut O,
+) -> (Result<(), CompactFault>, S)
+where
+    S: Shelf,
+    R: Threads + Wait + Sync,
+    I: Read + Drop,
+    O: Write,
+    ensures done { OnOk result.0 (IsConversedBeside S.honest prepared.now.start
+        prepared.now.logs.items form workers (I.remaining input) (S.told shelf)
+        (S.told result.1) (O.contents out.old)) }
+    ensures fault { IfErr result.0 (λ e. IsBesideFault (Stored S.Receipt
+        (S.is_of (S.told shelf).place) S.Receipt.number S.Receipt.image)
+        (S.refuses (S.told shelf).place) S.honest prepared.now.start prepared.now.logs.items form
+        workers (I.remaining input) e (S.told shelf) (S.told result.1)
+        (O.contents out.old) (O.contents out.new)) }
+{
+    let lines = match LineReader::new(alloc, input) {
+        Ok(lines) => lines,
+        Err(_) => return (Err(CompactFault::Writer(WriterFault::OutOfMemory)), shelf),
+    };
+    let parts = match NewParts::make(alloc) {
+        Ok(parts) => parts,
+        Err(_) => return (Err(CompactFault::Writer(WriterFault::OutOfMemory)), shelf),
+    };
+    converse_as::<Brand, S, R, I, O>(rt, alloc, shelf, prepared, parts, form, workers, lines, out)
+}

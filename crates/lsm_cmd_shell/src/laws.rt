@@ -1,0 +1,31 @@
+//! A law of conversations, as the contract of a function that does nothing.
+
+ghost use Rattle.std.specs.Prelude.{List, None, ℕ};
+ghost use Rattle.lsm_shelf.specs.Told.{Told};
+ghost use Rattle.lsm_text.specs.declared.form.Form.{Form};
+ghost use Rattle.lsm_script.specs.History.{History, IsAnswered, IsOf, history_of};
+ghost use Rattle.lsm_script.specs.Scripts.{AreSteps};
+ghost use Rattle.lsm_script.specs.Steps.{stage_of};
+ghost use Rattle.lsm_script.specs.declared.command.Command.{Command};
+ghost use Rattle.lsm_script.specs.declared.reply.Reply.{Reply};
+ghost use Rattle.lsm_cmd_shell.specs.Asked.{AreDone};
+ghost use Rattle.lsm_cmd_shell.specs.Batching.{Standing, standing};
+ghost use Rattle.lsm_cmd_shell.specs.Talk.{AreReplied};
+
+use lsm_script::steps_are_of_the_history;
+use lsm_slots::Boarded;
+use lsm_state::State;
+use lsm_table::Shelf;
+
+/// A law: the commands that a conversation did from this state are those that its lines ask for, in
+/// their order, with the batches that they begin and commit; and what they were answered is of the
+/// history from the state's own entries. At the end the state is as the history says.
+pub fn talks_are_of_the_history<N: Boarded, S: Shelf>(state: &State<N, S>)
+    ensures { (form : Form) (told : Told) (lines : List (List ℕ)) (said : List ℕ) (t : Standing)
+        → AreReplied S.honest form lines said (standing (stage_of state.now told) None) t
+        → (commands : List Command) × (replies : List Reply) × AreDone form None lines commands
+        × ((h : History) × AreSteps (IsAnswered S.honest) commands replies (history_of state.now) h
+        × IsOf S.honest h t.stage.state) }
+{
+    steps_are_of_the_history(state);
+}

@@ -1,0 +1,147 @@
+//! The reply to one line.
+
+ghost use Rattle.std.specs.Prelude.{◌≡◌, ◌≢◌, ◌⊎◌, List, ℕ, OnOk, codes};
+ghost use Rattle.std.specs.Io.KnownBytes.{Appends};
+ghost use Rattle.lsm_script.specs.ReplyText.{reply_text};
+ghost use Rattle.lsm_script.specs.Steps.{OnDesk, stage};
+ghost use Rattle.lsm_script.specs.declared.command_fault.CommandFault.TheVariants.{State as StateRefusal};
+ghost use Rattle.lsm_script.specs.declared.reply.Reply.TheVariants.{Refused};
+ghost use Rattle.lsm_cmd_shell.specs.Batching.{no_memory, standing};
+ghost use Rattle.lsm_cmd_shell.specs.Statistics.{statistics_text};
+ghost use Rattle.lsm_cmd_shell.specs.Talk.{IsReplied, IsScanned, Obeys};
+
+use crate::answering::answer;
+use crate::ask::Ask;
+use crate::ask_line::ask_in;
+use crate::batching::{abort, begin, commit, put};
+use crate::compacting::compact;
+use crate::help::HELP;
+use crate::pairs::{ScanFault, print_version};
+use crate::saying::{Unsaid, say};
+use crate::statistics::push_statistics;
+use lsm_lines::WriteBuffer;
+use lsm_script::{CommandFault, Desk, Reply, push_reply};
+use lsm_slots::Boarded;
+use lsm_state::{State, StateFault};
+use lsm_table::{NamedShelf, Shelf};
+use lsm_text::{Form, KeyBounds};
+use std::alloc::Global;
+use std::io::Write;
+use std::sync::Wait;
+
+/// Says why a scan was stopped. `text` is memory for it.
+fn say_stopped<O: Write>(
+    text: &mut Vec<u8>,
+    form: Form,
+    fault: StateFault,
+    out: &mut O,
+) -> Result<(), Unsaid>
+    ensures { (said : List ℕ) × ((said ≡ reply_text form (Refused (StateRefusal fault)))
+        ⊎ (said ≡ no_memory))
+        × OnOk result (Appends (O.contents out.old) (O.contents out.new) said) }
+{
+    text.clear();
+    match push_reply(text, form, &Reply::Refused(CommandFault::State(fault))) {
+        Ok(()) => say(out, text.as_slice()),
+        Err(_) => say(out, b"refused 1 OutOfMemory\n"),
+    }
+}
+
+/// Writes what a scan shows, as it goes on, and how it ends.
+fn say_scan<N: Boarded, S: Shelf, O: Write>(
+    alloc: Global,
+    state: &State<N, S>,
+    shelf: &mut NamedShelf<N, S>,
+    form: Form,
+    bounds: &KeyBounds,
+    limit: Option<u64>,
+    text: &mut Vec<u8>,
+    out: &mut O,
+) -> Result<(), Unsaid>
+    ensures { (desk : OnDesk) → (said : List ℕ) × IsScanned S.honest form bounds.now limit said
+        (stage state.now desk shelf.old) (stage state.now desk shelf.new)
+        × OnOk result (Appends (O.contents out.old) (O.contents out.new) said) }
+{
+    let (_id, version) = state.current();
+    match print_version(shelf, alloc, version, form, bounds, limit, out) {
+        Ok(()) => say(out, b"end\n"),
+        Err(ScanFault::Write) => Err(Unsaid),
+        Err(ScanFault::NoMemory) => say(out, b"refused 1 OutOfMemory\n"),
+        Err(ScanFault::Read(fault)) => say_stopped(text, form, StateFault::Read(fault), out),
+    }
+}
+
+/// Says how much a state has. `text` is memory for it.
+fn say_statistics<N: Boarded, S: Shelf, O: Write>(
+    state: &State<N, S>,
+    text: &mut Vec<u8>,
+    out: &mut O,
+) -> Result<(), Unsaid>
+    ensures { (said : List ℕ) × ((said ≡ statistics_text state.now) ⊎ (said ≡ no_memory))
+        × OnOk result (Appends (O.contents out.old) (O.contents out.new) said) }
+{
+    text.clear();
+    match push_statistics(text, state) {
+        Ok(()) => say(out, text.as_slice()),
+        Err(_) => say(out, b"refused 1 OutOfMemory\n"),
+    }
+}
+
+/// Does what is asked, and says what that gives. `text` is memory for it.
+fn obey<N: Boarded, S: Shelf, R: Wait, O: Write>(
+    rt: &R,
+    alloc: Global,
+    state: &mut State<N, S>,
+    desk: &mut Desk<N, S>,
+    begun: &mut Option<WriteBuffer>,
+    shelf: &mut NamedShelf<N, S>,
+    form: Form,
+    ask: Ask,
+    text: &mut Vec<u8>,
+    out: &mut O,
+) -> Result<(), Unsaid>
+    ensures { (said : List ℕ) × Obeys S.honest form ask said
+        (standing (stage state.old desk.old shelf.old) begun.old)
+        (standing (stage state.new desk.new shelf.new) begun.new)
+        × OnOk result (Appends (O.contents out.old) (O.contents out.new) said) }
+{
+    match ask {
+        Ask::Do(command) => answer(rt, alloc, state, desk, shelf, form, &command, text, out),
+        Ask::Put(write) => put(rt, alloc, state, desk, begun, shelf, form, write, text, out),
+        Ask::Scan(bounds, limit) => {
+            say_scan(alloc, state, shelf, form, &bounds, limit, text, out)
+        }
+        Ask::Begin => begin(alloc, begun, out),
+        Ask::Commit => commit(rt, alloc, state, desk, begun, shelf, form, text, out),
+        Ask::Abort => abort(begun, out),
+        Ask::Compact => compact(rt, alloc, state, desk, shelf, form, text, out),
+        Ask::Stats => say_statistics(state, text, out),
+        Ask::Help => say(out, HELP),
+    }
+}
+
+/// Replies to a line: does what it asks for, and says what that gives. `text` is memory for it.
+pub(crate) fn reply_to<N: Boarded, S: Shelf, R: Wait, O: Write>(
+    rt: &R,
+    alloc: Global,
+    state: &mut State<N, S>,
+    desk: &mut Desk<N, S>,
+    begun: &mut Option<WriteBuffer>,
+    shelf: &mut NamedShelf<N, S>,
+    form: Form,
+    line: &[u8],
+    text: &mut Vec<u8>,
+    out: &mut O,
+) -> Result<(), Unsaid>
+    requires { line.now ≢ codes "quit" }
+    ensures { (said : List ℕ) × IsReplied S.honest form line.now said
+        (standing (stage state.old desk.old shelf.old) begun.old)
+        (standing (stage state.new desk.new shelf.new) begun.new)
+        × OnOk result (Appends (O.contents out.old) (O.contents out.new) said) }
+{
+    match ask_in(alloc, form, line) {
+        Ok(Some(ask)) => obey(rt, alloc, state, desk, begun, shelf, form, ask, text, out),
+        Ok(None) => say(out, b"bad line: help tells what lines there are\n"),
+        Err(_) => say(out, b"refused 1 OutOfMemory\n"),
+    }
+}

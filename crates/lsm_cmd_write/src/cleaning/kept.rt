@@ -1,0 +1,128 @@
+//! Which files of a folder its database needs.
+
+ghost use Rattle.std.specs.Prelude.{◌≡◌, ◌↔◌, ℕ, IfErr, IfOk, MatchBool};
+ghost use Rattle.std.specs.List.Sorted.{IsStrictlyIncreasing};
+ghost use Rattle.lsm_codec.specs.Lists.{Has};
+ghost use Rattle.lsm_cmd_write.specs.Cleaning.{HasNone, IsKept, IsSpare, IsUnkept, Needs};
+ghost use Rattle.lsm_shelf.specs.Stored.{Stored};
+
+use crate::faults::writer_fault::WriterFault;
+use crate::names::{is_temporary, manifest_in, table_in};
+use lsm_folder::FolderCalls;
+use lsm_journal::Found;
+use lsm_storage::FileShelf;
+use lsm_table::{NamedShelf, Naming, Records, Registry, Shelf};
+use std::alloc::{AllocError, Global};
+use std::marker::Brand;
+use std::sync::Wait;
+
+/// The numbers, each once, ascending.
+fn ascending(mut numbers: Vec<u64>) -> Result<Vec<u64>, AllocError>
+    ensures ascending { IfOk result (λ v. IsStrictlyIncreasing v.items) }
+    ensures all { IfOk result (λ v. (n : ℕ) → Has v.items n ↔ Has numbers.items n) }
+{
+    numbers.sort()?;
+    numbers.dedup();
+    Ok(numbers)
+}
+
+/// Whether a number is one of ascending ones.
+fn is_among(numbers: &[u64], number: u64) -> bool
+    requires { IsStrictlyIncreasing numbers.now }
+    ensures { MatchBool result (Has numbers.now number) (Has numbers.now number → ⊥) }
+{
+    numbers.binary_search(&number).is_ok()
+}
+
+/// The number of the manifest that `CURRENT` names, and those of its version's tables, ascending.
+#[derive(Debug, Drop)]
+pub(crate) struct Kept {
+    pub(crate) manifest: u64,
+    pub(crate) tables: Vec<u64>,
+    ghost ascending: { IsStrictlyIncreasing tables.items },
+}
+
+impl Kept {
+    /// Whether no version needs the file of this name: it is another manifest, a table that the
+    /// version does not have, or a temporary file.
+    pub(crate) fn spares(&self, name: &str) -> bool
+        ensures { MatchBool result (IsSpare self.now.manifest self.now.tables.items name.now)
+            (IsSpare self.now.manifest self.now.tables.items name.now → ⊥) }
+    {
+        if let Some(number) = manifest_in(name) {
+            return number != self.manifest;
+        }
+        if let Some(number) = table_in(name) {
+            return !is_among(&self.tables, number);
+        }
+        is_temporary(name)
+    }
+}
+
+/// What the database on the shelf needs.
+fn find_kept<N: Naming, S: Shelf, R: Wait>(
+    rt: &R,
+    alloc: Global,
+    shelf: &mut NamedShelf<N, S>,
+    records: Records<S::Receipt>,
+) -> Result<Kept, WriterFault>
+    requires named { records ≡ N.registry }
+    ensures kept { IfOk result (λ k.
+        IsKept S.honest k.manifest k.tables.items shelf.old shelf.new) }
+    ensures refused { IfErr result (λ e.
+        IsUnkept (Stored S.Receipt (S.is_of N.place) S.Receipt.number S.Receipt.image)
+        (S.refuses N.place) S.honest e shelf.old shelf.new) }
+{
+    let registry = Registry::shared(alloc, records)?;
+    // A journal that nothing is sent through has no use for its limit.
+    let found = Found::<N, S>::read(rt, alloc, shelf, &registry, u64::MAX)?;
+    let mut numbers = Vec::new(alloc);
+    found.version.push_numbers(&mut numbers)?;
+    let tables = ascending(numbers)?;
+    Ok(Kept {
+        manifest: found.journal.number(),
+        tables,
+    })
+}
+
+/// The same under the name that was picked for the records and the shelf, which is given back.
+fn find_kept_as<N: Naming, S: Shelf, R: Wait>(
+    rt: &R,
+    alloc: Global,
+    shelf: S,
+    records: Records<S::Receipt>,
+) -> (Result<Kept, WriterFault>, S)
+    requires records { records ≡ N.registry }
+    requires shelf { (S.told shelf).place ≡ N.place }
+    ensures kept { IfOk result.0 (λ k.
+        IsKept S.honest k.manifest k.tables.items (S.told shelf) (S.told result.1)) }
+    ensures refused { IfErr result.0 (λ e.
+        IsUnkept (Stored S.Receipt (S.is_of N.place) S.Receipt.number S.Receipt.image)
+        (S.refuses N.place) S.honest e (S.told shelf) (S.told result.1)) }
+{
+    let mut shelf: NamedShelf<N, S> = NamedShelf::of(shelf);
+    let kept = find_kept(rt, alloc, &mut shelf, records);
+    (kept, shelf.into_shelf())
+}
+
+/// What the database in a folder needs. The folder's value is asked for nothing but a fork.
+pub(crate) fn kept_in<C: FolderCalls + Send + Sync, R: Wait>(
+    rt: &R,
+    alloc: Global,
+    folder: &C,
+) -> Result<Kept, WriterFault>
+where
+    C::Mark: Send + Sync,
+    ensures kept { IfOk result (λ k.
+        Needs C.FolderCalls (C.place folder.now) k.manifest k.tables.items) }
+    ensures refused { IfErr result (λ e.
+        HasNone C.FolderCalls C.Mark.Mark (C.place folder.now) e) }
+{
+    let Ok(fork) = folder.fork() else {
+        return Err(WriterFault::OutOfMemory);
+    };
+    let records = Records::new(alloc)?;
+    let shelf = FileShelf::over(fork);
+    let (kept, _shelf) = find_kept_as::<Brand, FileShelf<C>, R>(rt, alloc, shelf, records);
+    kept
+}

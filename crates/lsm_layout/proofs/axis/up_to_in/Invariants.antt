@@ -1,7 +1,0 @@
-use Rattle.std.proofs.Common.{◌≡◌, ◌+◌, drop}
-use Rattle.std.specs.List.{sum_by}
-use Rattle.lsm_layout.specs.Axis.{up_to}
-use Rattle.lsm_layout.proofs.axis.up_to_in.Given as goal
-
-abbrev pub invariant-loop-file : goal.invariant-loop-file
-invariant-loop-file l = l.sum + sum_by (up_to l.key) (drop l.file-index l.files) ≡ sum_by (up_to l.key) l.files

@@ -1,7 +1,0 @@
-use Rattle.std.proofs.Common.{◌≡◌}
-use Rattle.lsm_layout.specs.Lines.{level_line, level_texts}
-use Rattle.lsm_layout.specs.Sums.{files_at}
-use Rattle.lsm_layout.proofs.lines.levels_text.Given as goal
-
-abbrev pub invariant-loop-level : goal.invariant-loop-level
-invariant-loop-level l = l.text.items ≡ level_texts (λ n. level_line n (files_at l.shape n)) l.level

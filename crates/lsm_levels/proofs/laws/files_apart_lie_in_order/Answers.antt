@@ -1,5 +1,0 @@
-use Rattle.lsm_levels.proofs.Beside.{apart_in_order, in_order_distinct}
-use Rattle.lsm_levels.proofs.laws.files_apart_lie_in_order.Goals as goal
-
-pub returns : goal.returns
-returns c = record { apart = apart_in_order; distinct = in_order_distinct }

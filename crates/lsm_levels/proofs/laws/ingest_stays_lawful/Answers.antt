@@ -1,5 +1,0 @@
-use Rattle.lsm_levels.proofs.Ingests.{ingest_lawful, ingest_keeps_open}
-use Rattle.lsm_levels.proofs.laws.ingest_stays_lawful.Goals as goal
-
-pub returns : goal.returns
-returns c = record { lawful = ingest_lawful; jobs = ingest_keeps_open }

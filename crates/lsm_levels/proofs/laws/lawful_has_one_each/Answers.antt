@@ -1,5 +1,0 @@
-use Rattle.lsm_levels.proofs.Installs.{one_each}
-use Rattle.lsm_levels.proofs.laws.lawful_has_one_each.Goals as goal
-
-pub returns : goal.returns
-returns c = one_each

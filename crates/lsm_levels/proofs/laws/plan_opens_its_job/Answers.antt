@@ -1,6 +1,0 @@
-use Rattle.lsm_codec.specs.Lists.{Has}
-use Rattle.lsm_levels.proofs.Plans.{plan_opens}
-use Rattle.lsm_levels.proofs.laws.plan_opens_its_job.Goals as goal
-
-pub returns : goal.returns
-returns c = λ v starts. plan_opens v (Has starts)

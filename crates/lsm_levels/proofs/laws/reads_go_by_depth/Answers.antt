@@ -1,5 +1,0 @@
-use Rattle.lsm_levels.proofs.Depths.{goes_by_depth}
-use Rattle.lsm_levels.proofs.laws.reads_go_by_depth.Goals as goal
-
-pub returns : goal.returns
-returns c = goes_by_depth

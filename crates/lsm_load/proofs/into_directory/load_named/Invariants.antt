@@ -1,6 +1,0 @@
-use Rattle.lsm_loading.specs.Marks.{marked_in}
-use Rattle.lsm_load.proofs.into_directory.load_named.Given as goal
-
--- how far the state was that was begun or opened
-abbrev pub ghosts-load_beside : goal.ghosts-load_beside
-ghosts-load_beside g a = record { found = marked_in a.state }

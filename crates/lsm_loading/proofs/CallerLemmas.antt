@@ -1,3 +1,0 @@
--- What proofs of the crates above cite beside the public contracts.
-pub use Rattle.lsm_loading.proofs.LoadLaws.{came_more, came_none}
-pub use Rattle.lsm_loading.proofs.MarkLaws.{even_compacting, even_first, even_out, even_seated}

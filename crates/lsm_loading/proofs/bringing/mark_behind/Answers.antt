@@ -1,6 +1,0 @@
-use Rattle.lsm_loading.specs.Marks.{marked_in}
-use Rattle.lsm_loading.proofs.MarkLaws.{even_out}
-use Rattle.lsm_loading.proofs.bringing.mark_behind.Goals as goal
-
-pub behind-requires-after_bounds : goal.behind-requires-after_bounds
-behind-requires-after_bounds g c κs within = even_out g.O.Origin.found (marked_in c.deref_mut.result.now.state) c.deref_mut.result.now.kept

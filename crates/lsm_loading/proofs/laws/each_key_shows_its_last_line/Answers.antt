@@ -1,5 +1,0 @@
-use Rattle.lsm_loading.proofs.AnswerLaws.{cut_answer}
-use Rattle.lsm_loading.proofs.laws.each_key_shows_its_last_line.Goals as goal
-
-pub returns : goal.returns
-returns c = cut_answer

@@ -1,2 +1,0 @@
--- What proofs above may cite: of entries from a user key on.
-pub use Rattle.lsm_merger.proofs.SeekLaws.{least, past_all}

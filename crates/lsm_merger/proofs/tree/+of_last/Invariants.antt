@@ -1,4 +1,0 @@
-use Rattle.lsm_merger.proofs.tree.+of_last.Given as goal
-
-abbrev pub decreases-of_last : goal.decreases-of_last
-decreases-of_last g l = l.count

@@ -1,0 +1,10 @@
+use Rattle.std.proofs.Common.{◌≡◌, ◌*◌, ◌^◌, ◌≤◌, take}
+use Rattle.lsm_table.specs.Registry.{bytes_of}
+use Rattle.lsm_picker.specs.Scores.{free_tables}
+use Rattle.lsm_picker.proofs.level_scores.free_bytes.Given as goal
+
+abbrev pub invariant-loop-table : goal.invariant-loop-table
+invariant-loop-table g l = record {
+  bytes_is : l.bytes ≡ bytes_of (free_tables l.reservations (take l.table-index l.tables));
+  small : l.bytes ≤ l.table-index * 2 ^ 30;
+}

@@ -1,0 +1,40 @@
+//! Which compaction comes next: the scores of levels, the closed plans of files, and the choice
+//! among them beside live jobs.
+//!
+//! Stands on `lsm_version` for versions, on `lsm_model` for plans, jobs and their laws, and on
+//! `lsm_table` for the records of tables. Its contract: a plan is closed, so that its job may stay
+//! open whatever comes, and the choice is the first candidate of the ranking that conflicts with no
+//! live job.
+#![tactic(auto)]
+
+// What a choice looks at: live jobs, ranges, and the tables that a range reaches.
+mod deep_ranges;
+mod linked_tables;
+mod plan;
+mod reservation;
+mod table_range;
+
+// Plans: closed, and clear of the live jobs.
+mod conflicts;
+mod move_rule;
+mod plan_maker;
+
+// Which plan: by the scores of levels, or by a range that is asked for.
+mod candidates;
+mod choice;
+mod level_scores;
+mod plan_fault;
+mod range_plan;
+
+// What callers learn of plans.
+pub mod laws;
+
+pub use choice::choose;
+pub use conflicts::conflict;
+pub use deep_ranges::ranges_below;
+pub use level_scores::scores;
+pub use move_rule::is_move;
+pub use plan::Plan;
+pub use plan_fault::PlanFault;
+pub use range_plan::plan_range;
+pub use reservation::Reservation;

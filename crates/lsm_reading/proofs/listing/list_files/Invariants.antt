@@ -1,7 +1,0 @@
-use Rattle.std.proofs.Common.{◌≡◌}
-use Rattle.lsm_version.specs.Versions.{level_in}
-use Rattle.lsm_reading.specs.Listing.{file_lines, level_texts}
-use Rattle.lsm_reading.proofs.listing.list_files.Given as goal
-
-abbrev pub invariant-loop-level : goal.invariant-loop-level
-invariant-loop-level g l = l.text.items ≡ level_texts (λ n. file_lines l.form n (level_in l.version.tables n)) l.level

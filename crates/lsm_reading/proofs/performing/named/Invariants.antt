@@ -1,6 +1,0 @@
-use Rattle.std.proofs.Common.{◌≡◌, All}
-use Rattle.std.specs.Vec.Iter.{into_iter_items}
-use Rattle.lsm_reading.proofs.performing.named.Given as goal
-
-abbrev pub invariant-loop-shelf : goal.invariant-loop-shelf
-invariant-loop-shelf g l = All (λ s. (g.S.Shelf.told s).place ≡ g.N.Naming.place) (into_iter_items l.shelf-iterator)

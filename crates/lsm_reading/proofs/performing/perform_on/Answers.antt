@@ -1,4 +1,0 @@
-use Rattle.lsm_reading.proofs.performing.perform_on.Goals as goal
-
-pub returns-in-Scan-clause-left : goal.returns-in-Scan-clause-left
-returns-in-Scan-clause-left g c = rw c.in-Scan.is c.print_scan.ensures.left

@@ -1,5 +1,0 @@
-use Rattle.lsm_reading.proofs.program.begin.Given as goal
-
--- the name stands for the records that were just made, and for the contents of the shelf
-abbrev pub ghosts-perform_as : goal.ghosts-perform_as
-ghosts-perform_as g a = record { registry = a.records; place = (g.S.Shelf.told a.shelf).place }

@@ -1,9 +1,0 @@
-use Rattle.lsm_history.specs.History.{IsLater}
-use Rattle.lsm_shelf.specs.Told.{Forked}
-use Rattle.lsm_serve.proofs.compacting.compact.Given as goal
-
-abbrev pub invariant-tries : goal.invariant-tries
-invariant-tries g l = record {
-  known : IsLater l.memory l.fn.memory;
-  told : Forked l.fn.shelf l.shelf;
-}
