@@ -1,7 +1,8 @@
 -- The refusals of a batch: their numbers and names (this project's rule).
 use Rattle.std.specs.Prelude.{ℕ, List, codes}
 use Rattle.lsm_batch.specs.declared.batch_fault.BatchFault.{BatchFault}
-use Rattle.lsm_batch.specs.declared.batch_fault.BatchFault.TheVariants.{EmptyBatch, KeyOrder, TooLarge}
+use Rattle.lsm_batch.specs.declared.batch_fault.BatchFault.TheVariants.{EmptyBatch, KeyOrder}
+use Rattle.lsm_batch.specs.declared.batch_fault.BatchFault.TheVariants.{TooLarge}
 
 abbrev pub number_of : BatchFault → ℕ
 number_of EmptyBatch = 37

@@ -1,6 +1,7 @@
--- Batches: their limits, their order and their entries (LevelDB's `db/write_batch.cc`; that keys ascend and the limits are this project's
--- rule).
-use Rattle.std.specs.Prelude.{◌≡◌, ℕ, suc, ◌+◌, ◌-◌, ◌<◌, ◌⊎◌, List, [], ◌∷◌, length, sum_by, Option, None, Some, slice_index_or}
+-- Batches: their limits, their order and their entries (LevelDB's `db/write_batch.cc`; that keys
+-- ascend and the limits are this project's rule).
+use Rattle.std.specs.Prelude.{◌≡◌, ℕ, suc, ◌+◌, ◌-◌, ◌<◌, ◌⊎◌, List, [], ◌∷◌, length, sum_by}
+use Rattle.std.specs.Prelude.{Option, None, Some, slice_index_or}
 use Rattle.std.specs.Ordering.{nat_cmp}
 use Rattle.std.specs.Cmp.Lexicographic.{slice_cmp}
 use Rattle.std.specs.declared.cmp.Ordering.TheVariants.{Less}
@@ -10,7 +11,8 @@ use Rattle.lsm_codec.specs.Keys.{UserKey}
 use Rattle.lsm_codec.specs.declared.kind.Kind.{Kind}
 use Rattle.lsm_codec.specs.declared.kind.Kind.TheVariants.{Deletion, Value}
 use Rattle.lsm_batch.specs.declared.batch_fault.BatchFault.{BatchFault}
-use Rattle.lsm_batch.specs.declared.batch_fault.BatchFault.TheVariants.{EmptyBatch, KeyOrder, TooLarge}
+use Rattle.lsm_batch.specs.declared.batch_fault.BatchFault.TheVariants.{EmptyBatch, KeyOrder}
+use Rattle.lsm_batch.specs.declared.batch_fault.BatchFault.TheVariants.{TooLarge}
 use Rattle.lsm_batch.specs.declared.write.Write.{Write}
 
 -- ---- limits
@@ -30,7 +32,8 @@ IsLarge w = (4096 < length w.key) ⊎ (1048576 < length (value_of w.value))
 
 -- over 65,536 entries, over 4 MiB of keys and values, or a key or a value over its limit
 abbrev pub IsTooLarge : List Write → Type 0
-IsTooLarge ws = (65536 < length ws) ⊎ ((4194304 < sum_by size_of ws) ⊎ ((w : Write) × Has ws w × IsLarge w))
+IsTooLarge ws = (65536 < length ws)
+    ⊎ ((4194304 < sum_by size_of ws) ⊎ ((w : Write) × Has ws w × IsLarge w))
 
 -- ---- order
 
@@ -40,14 +43,16 @@ IsLess a b = slice_cmp nat_cmp a b ≡ Less
 
 -- each of the first n keys is greater than the one before
 abbrev pub KeysRise : ℕ → List Write → Type 0
-KeysRise n ws = (i : ℕ) (d : Write) → suc i < n → IsLess (slice_index_or ws i d).key (slice_index_or ws (suc i) d).key
+KeysRise n ws = (i : ℕ) (d : Write) → suc i < n
+    → IsLess (slice_index_or ws i d).key (slice_index_or ws (suc i) d).key
 
 -- the key at this place is the first that is not greater than the one before
 pub record IsMisplaced (ws : List Write) (i : ℕ) : Type 0 where
   pub later : 0 < i
   pub inside : i < length ws
   pub before : KeysRise i ws
-  pub not_above : (d : Write) → IsLess (slice_index_or ws (i - 1) d).key (slice_index_or ws i d).key → ⊥
+  pub not_above : (d : Write) → IsLess (slice_index_or ws (i - 1) d).key (slice_index_or ws i d).key
+      → ⊥
 
 -- ---- batches that may come in
 
@@ -70,7 +75,13 @@ kind_of (Some value) = Value
 
 -- what is written at a sequence
 abbrev pub written_at : ℕ → Write → Entry
-written_at seq w = record { user = w.key; seq = seq; kind = kind_of w.value; value = value_of w.value }
+written_at seq w = record {
+  user = w.key;
+  seq = seq;
+  kind = kind_of w.value;
+  value = value_of
+      w.value;
+}
 
 -- the entries of a batch, under sequences one after another from this one
 abbrev pub entries_from : ℕ → List Write → List Entry

@@ -14,8 +14,10 @@ IsImage entries i = table.IsImage entries i.smallest i.largest i.bytes
 
 -- one of the entries would pass a limit of the blocks of a table
 abbrev pub PassesIn : TableOptions → List Entry → Type 0
-PassesIn options es = (front : List Entry) × (e : Entry) × (rest : List Entry) × (es ≡ front ++ e ∷ rest) × PassesLimit options front e
+PassesIn options es = (front : List Entry) × (e : Entry) × (rest : List Entry)
+    × (es ≡ front ++ e ∷ rest) × PassesLimit options front e
 
 -- so would one of them, or the index block of all
 abbrev pub PassesTable : TableOptions → List Entry → Type 0
-PassesTable options es = PassesIn options es ⊎ (2 ^ 32 ≤ length (index_block options.restart_interval (groups_by options es)))
+PassesTable options es = PassesIn options es
+    ⊎ (2 ^ 32 ≤ length (index_block options.restart_interval (groups_by options es)))

@@ -1,6 +1,7 @@
 -- What a block is: its entries one after another, then the restart offsets and their number
 -- (LevelDB's `table/block_builder.cc`; the keys are those of `db/dbformat.h`).
-use Rattle.std.specs.Prelude.{◌≡◌, ℕ, zero, suc, ◌+◌, ◌^◌, ◌<◌, ◌≤◌, List, [], ◌∷◌, ◌++◌, length, take, Contains}
+use Rattle.std.specs.Prelude.{◌≡◌, ℕ, zero, suc, ◌+◌, ◌^◌, ◌<◌, ◌≤◌, List, [], ◌∷◌, ◌++◌, length}
+use Rattle.std.specs.Prelude.{take, Contains}
 use Rattle.std.specs.List.{flat_map, AllByRecursion}
 use Rattle.std.specs.Int.{w32, to_le_bytes}
 use Rattle.std.specs.declared.cmp.Ordering.TheVariants.{Less}
@@ -42,8 +43,10 @@ start_at (suc shared) offset = []
 abbrev pub Spells : ℕ → List ℕ → List ℕ → List ℕ → List Entry → Type 0
 Spells offset before text starts [] = (text ≡ []) × (starts ≡ [])
 Spells offset before text starts (entry ∷ entries) =
-    (shared : ℕ) × (own : List ℕ) × (rest : List ℕ) × (others : List ℕ) × EntryText before entry shared own × (text ≡ own ++ rest)
-    × (starts ≡ start_at shared offset ++ others) × Spells (offset + length own) (key_text entry) rest others entries
+    (shared : ℕ) × (own : List ℕ) × (rest : List ℕ) × (others : List ℕ)
+    × EntryText before entry shared own × (text ≡ own ++ rest)
+    × (starts ≡ start_at shared offset ++ others)
+    × Spells (offset + length own) (key_text entry) rest others entries
 
 -- each entry before the next
 abbrev pub Ascends : List Entry → Type 0
@@ -54,7 +57,8 @@ Ascends (a ∷ b ∷ rest) = (entry_cmp a b ≡ Less) × Ascends (b ∷ rest)
 -- restart offsets that rise strictly from one on, each the start of an entry that shares nothing
 abbrev pub Rises : List ℕ → ℕ → List ℕ → Type 0
 Rises starts before [] = Unit {0}
-Rises starts before (offset ∷ offsets) = (before < offset) × Contains starts offset × Rises starts offset offsets
+Rises starts before (offset ∷ offsets) =
+    (before < offset) × Contains starts offset × Rises starts offset offsets
 
 -- The bytes are a block of the entries. The restarts are those after the first, whose offset is 0;
 -- each stands as a fixed32, and their number after them as a fixed32 too.
@@ -67,4 +71,5 @@ pub record IsBlock (bytes : List ℕ) (entries : List Entry) : Type 0 where
   pub rises : Rises starts 0 restarts
   pub fits : AllByRecursion (λ offset. offset < 2 ^ 32) restarts
   pub count_fits : length restarts + 1 < 2 ^ 32
-  pub bytes_are : bytes ≡ text ++ (flat_map (to_le_bytes w32) (0 ∷ restarts) ++ to_le_bytes w32 (length restarts + 1))
+  pub bytes_are : bytes ≡ text ++ (flat_map (to_le_bytes w32) (0 ∷ restarts)
+      ++ to_le_bytes w32 (length restarts + 1))

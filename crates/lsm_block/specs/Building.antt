@@ -1,6 +1,7 @@
 -- The bytes of a block that the writer makes of entries: what each shares with the key before it,
 -- and where the restarts are (LevelDB's `table/block_builder.cc`).
-use Rattle.std.specs.Prelude.{◌≡◌, ℕ, suc, ◌+◌, ◌%◌, ◌^◌, ◌<◌, ◌&&◌, Bool, true, false, nat_lt, ◌==◌, List, [], ◌∷◌, ◌++◌, length, drop, Option, Some, None}
+use Rattle.std.specs.Prelude.{◌≡◌, ℕ, suc, ◌+◌, ◌%◌, ◌^◌, ◌<◌, ◌&&◌, Bool, true, false, nat_lt}
+use Rattle.std.specs.Prelude.{◌==◌, List, [], ◌∷◌, ◌++◌, length, drop, Option, Some, None}
 use Rattle.std.specs.List.{flat_map, AllByRecursion}
 use Rattle.std.specs.Ordering.{is_lt}
 use Rattle.std.specs.Int.{w32, to_le_bytes}
@@ -35,11 +36,15 @@ shared_at interval index before key = shared_if (is_restart interval index) (com
 
 -- three numbers, the rest of the key and the value
 abbrev pub parts_text : ℕ → List ℕ → List ℕ → List ℕ
-parts_text shared unshared value = varint32 shared ++ (varint32 (length unshared) ++ (varint32 (length value) ++ (unshared ++ value)))
+parts_text shared unshared value =
+    varint32 shared ++ (varint32 (length unshared)
+    ++ (varint32 (length value) ++ (unshared ++ value)))
 
 -- how long that is
 abbrev pub own_len : ℕ → ℕ → ℕ → ℕ
-own_len shared unshared_len value_len = length (varint32 shared) + length (varint32 unshared_len) + length (varint32 value_len) + unshared_len + value_len
+own_len shared unshared_len value_len =
+    length (varint32 shared) + length (varint32 unshared_len) + length (varint32 value_len)
+    + unshared_len + value_len
 
 -- an entry that shares so many bytes of its key
 abbrev pub sharing_text : ℕ → Entry → List ℕ
@@ -49,7 +54,8 @@ sharing_text shared e = parts_text shared (drop shared (key_text e)) e.value
 unfoldable pub entries_text : ℕ → ℕ → List ℕ → List Entry → List ℕ
 entries_text interval index before [] = []
 entries_text interval index before (e ∷ es) =
-    sharing_text (shared_at interval index before (key_text e)) e ++ entries_text interval (suc index) (key_text e) es
+    sharing_text (shared_at interval index before (key_text e)) e
+    ++ entries_text interval (suc index) (key_text e) es
 
 abbrev pub offset_if : Bool → ℕ → List ℕ
 offset_if true offset = offset ∷ []
@@ -58,7 +64,8 @@ offset_if false offset = []
 -- how long a block is with an entry more, by the lengths of its parts
 abbrev pub grown_len : ℕ → ℕ → Bool → ℕ → ℕ → ℕ → ℕ
 grown_len text_len offsets_len restarts shared unshared_len value_len =
-    text_len + own_len shared unshared_len value_len + (offsets_len + length (flat_map (to_le_bytes w32) (offset_if restarts text_len))) + 8
+    text_len + own_len shared unshared_len value_len
+    + (offsets_len + length (flat_map (to_le_bytes w32) (offset_if restarts text_len))) + 8
 
 abbrev pub is_later_restart : ℕ → ℕ → Bool
 is_later_restart interval index = nat_lt 0 index && is_restart interval index
@@ -68,15 +75,18 @@ unfoldable pub later_restarts : ℕ → ℕ → ℕ → List ℕ → List Entry 
 later_restarts interval index offset before [] = []
 later_restarts interval index offset before (e ∷ es) =
     offset_if (is_later_restart interval index) offset
-    ++ later_restarts interval (suc index) (offset + length (sharing_text (shared_at interval index before (key_text e)) e)) (key_text e) es
+    ++ later_restarts interval (suc index) (offset
+    + length (sharing_text (shared_at interval index before (key_text e)) e)) (key_text e) es
 
 -- the restarts and their number, the first of them 0
 abbrev pub with_restarts : List ℕ → List ℕ → List ℕ
-with_restarts text later = text ++ (flat_map (to_le_bytes w32) (0 ∷ later) ++ to_le_bytes w32 (length later + 1))
+with_restarts text later = text
+    ++ (flat_map (to_le_bytes w32) (0 ∷ later) ++ to_le_bytes w32 (length later + 1))
 
 -- the block that the writer makes of the entries
 unfoldable pub block_bytes : ℕ → List Entry → List ℕ
-block_bytes interval es = with_restarts (entries_text interval 0 [] es) (later_restarts interval 0 0 [] es)
+block_bytes interval es = with_restarts (entries_text interval 0 [] es)
+    (later_restarts interval 0 0 [] es)
 
 -- what has a spelling in a block
 pub record FitsEntry (e : Entry) : Type 0 where
@@ -112,7 +122,8 @@ entries_in text = readable (length text) [] text
 
 -- What a builder keeps of its entries: their text, the bytes of the restarts after the first, and
 -- the last key.
-pub record Built (interval : ℕ) (entries : List Entry) (text offsets last : List ℕ) (count : ℕ) : Type 0 where
+pub record Built (interval : ℕ) (entries : List Entry) (text offsets last : List ℕ) (count : ℕ)
+    : Type 0 where
   pub some : 0 < interval
   pub fit : AllByRecursion FitsEntry entries
   pub ascend : Ascends entries

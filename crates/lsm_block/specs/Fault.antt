@@ -1,7 +1,8 @@
 -- The numbers and names of refusals in docs/FORMATS.md.
 use Rattle.std.specs.Prelude.{ℕ, Bool, true, false, List, codes}
 use Rattle.lsm_block.specs.declared.fault.BlockFault.{BlockFault}
-use Rattle.lsm_block.specs.declared.fault.BlockFault.TheVariants.{OutOfMemory, BadRestarts, BadEntry, OutOfOrder}
+use Rattle.lsm_block.specs.declared.fault.BlockFault.TheVariants.{OutOfMemory, BadRestarts}
+use Rattle.lsm_block.specs.declared.fault.BlockFault.TheVariants.{BadEntry, OutOfOrder}
 
 abbrev pub number_of : BlockFault → ℕ
 number_of OutOfMemory = 1

@@ -1,5 +1,6 @@
 -- A block that is held, and a position in it.
-use Rattle.std.specs.Prelude.{◌≡◌, ℕ, Bool, true, false, List, [], ◌∷◌, length, drop, Option, Some, None, Result, Ok, Err}
+use Rattle.std.specs.Prelude.{◌≡◌, ℕ, Bool, true, false, List, [], ◌∷◌, length, drop, Option, Some}
+use Rattle.std.specs.Prelude.{None, Result, Ok, Err}
 use Rattle.lsm_codec.specs.Keys.{InternalKey, IsKey, key_bytes, is_internal, key_at}
 use Rattle.lsm_codec.specs.Entries.{Entry, internal_key}
 use Rattle.lsm_block.specs.Block.{IsBlock, entry_of}
@@ -23,7 +24,8 @@ bytes_of (Some key) = key_bytes key
 
 -- the entries of a block from a position on
 abbrev pub rest_of : HeldBlock → Position → List Entry
-rest_of block place = readable (length block.text) (bytes_of place.last) (drop place.offset block.text)
+rest_of block place = readable (length block.text) (bytes_of place.last)
+    (drop place.offset block.text)
 
 abbrev pub first_of : List Entry → Option Entry
 first_of [] = None
@@ -67,8 +69,11 @@ last_after key (e ∷ es) = last_after (Some (internal_key e)) es
 -- What a step hands out: nothing where no entry is left, and the last key stays; and else the value
 -- of the next entry, whose key is then the last.
 abbrev pub Given : HeldBlock → Position → Position → Option (List ℕ) → Type 0
-Given block old new None = (rest_of block old ≡ []) × (rest_of block new ≡ []) × (new.last ≡ old.last)
-Given block old new (Some value) = (key : InternalKey) × (new.last ≡ Some key) × (rest_of block old ≡ entry_of key value ∷ rest_of block new)
+Given block old new None = (rest_of block old ≡ []) × (rest_of block new ≡ [])
+    × (new.last ≡ old.last)
+Given block old new (Some value) =
+    (key : InternalKey) × (new.last ≡ Some key)
+    × (rest_of block old ≡ entry_of key value ∷ rest_of block new)
 
 abbrev pub or_none : Result (List Entry) BlockFault → List Entry
 or_none (Ok es) = es

@@ -1,5 +1,7 @@
 -- Reading a block from left to right: its entries, or the first fault.
-use Rattle.std.specs.Prelude.{ℕ, zero, suc, ◌+◌, ◌-◌, ◌*◌, ◌&&◌, Bool, true, false, nat_lt, nat_le, ◌==◌, if◌then◌else◌, List, [], ◌∷◌, ◌++◌, length, map, take, drop, Option, Some, None, Result, Ok, Err}
+use Rattle.std.specs.Prelude.{ℕ, zero, suc, ◌+◌, ◌-◌, ◌*◌, ◌&&◌, Bool, true, false, nat_lt, nat_le}
+use Rattle.std.specs.Prelude.{◌==◌, if◌then◌else◌, List, [], ◌∷◌, ◌++◌, length, map, take, drop}
+use Rattle.std.specs.Prelude.{Option, Some, None, Result, Ok, Err}
 use Rattle.std.specs.List.{list_any}
 use Rattle.std.specs.Ordering.{is_lt}
 use Rattle.std.specs.Int.{w32, from_le_bytes}
@@ -53,8 +55,17 @@ shared_key before shared unshared rest = take shared before ++ take unshared res
 -- the entry whose three numbers are read
 unfoldable pub piece_of : List ℕ → ℕ → ℕ → ℕ → List ℕ → Option (Piece × List ℕ)
 piece_of before shared unshared len rest =
-    if nat_le shared (length before) && nat_le (unshared + len) (length rest) && is_internal (shared_key before shared unshared rest)
-    then Some (record { shared = shared; key = shared_key before shared unshared rest; value = take len (drop unshared rest) }, drop len (drop unshared rest))
+    if nat_le shared (length before) && nat_le (unshared + len) (length rest)
+    && is_internal (shared_key before shared unshared rest)
+    then Some (
+      record {
+        shared = shared;
+        key = shared_key before shared unshared rest;
+        value = take
+            len (drop unshared rest);
+      },
+      drop len (drop unshared rest),
+    )
     else None
 
 -- the entry at the front of a text, after the key before it, and what follows it
@@ -78,14 +89,19 @@ nothing stop = record { placed = []; stop = stop }
 abbrev pub scan_on : ℕ → (Piece × List ℕ → Scan) → Option (Piece × List ℕ) → Scan
 scan_on offset later None = nothing (Some offset)
 scan_on offset later (Some found) =
-    record { placed = record { offset = offset; piece = found.0 } ∷ (later found).placed; stop = (later found).stop }
+    record {
+      placed = record { offset = offset; piece = found.0 }
+          ∷ (later found).placed;
+      stop = (later found).stop;
+    }
 
 -- the pieces of the text, which ends where total bytes end
 unfoldable pub scan : ℕ → ℕ → List ℕ → List ℕ → Scan
 scan zero total before text = nothing None
 scan (suc count) total before [] = nothing None
 scan (suc count) total before (b ∷ bs) =
-    scan_on (total - length (b ∷ bs)) (λ found. scan count total found.0.key found.1) (entry_at before (b ∷ bs))
+    scan_on (total - length (b ∷ bs)) (λ found.
+    scan count total found.0.key found.1) (entry_at before (b ∷ bs))
 
 -- the starts of the pieces that share nothing
 unfoldable pub starts_of : List PieceAt → List ℕ
@@ -107,13 +123,18 @@ words (suc count) bytes = from_le_bytes w32 (take 4 bytes) ∷ words count (drop
 abbrev pub parts_of : List ℕ → ℕ → Option (List ℕ × List ℕ)
 parts_of front count =
     if nat_le 1 count && nat_le (4 * count) (length front)
-    then Some (take (length front - 4 * count) front, words count (drop (length front - 4 * count) front))
+    then Some (
+      take (length front
+          - 4 * count) front,
+      words count (drop (length front - 4 * count) front),
+    )
     else None
 
 unfoldable pub parts_at : List ℕ → Option (List ℕ × List ℕ)
 parts_at bytes =
     if nat_le 4 (length bytes)
-    then parts_of (take (length bytes - 4) bytes) (from_le_bytes w32 (drop (length bytes - 4) bytes))
+    then parts_of (take (length bytes
+    - 4) bytes) (from_le_bytes w32 (drop (length bytes - 4) bytes))
     else None
 
 -- A restart offset at or past the first entry that cannot be read is not judged.
@@ -127,17 +148,20 @@ if_judged false test = true
 
 -- an offset after another
 abbrev pub may_follow : Option ℕ → List ℕ → ℕ → ℕ → Bool
-may_follow stop starts before offset = if_judged (is_judged stop offset) (nat_lt before offset && list_any (λ s. s == offset) starts)
+may_follow stop starts before offset =
+    if_judged (is_judged stop offset) (nat_lt before offset && list_any (λ s. s == offset) starts)
 
 -- offsets that rise from one on
 unfoldable pub rises : Option ℕ → List ℕ → ℕ → List ℕ → Bool
 rises stop starts before [] = true
-rises stop starts before (offset ∷ offsets) = may_follow stop starts before offset && rises stop starts offset offsets
+rises stop starts before (offset ∷ offsets) =
+    may_follow stop starts before offset && rises stop starts offset offsets
 
 -- restart offsets that begin at 0 and rise strictly, each the start of an entry that shares nothing
 abbrev pub restarts_fit : Option ℕ → List ℕ → List ℕ → Bool
 restarts_fit stop starts [] = false
-restarts_fit stop starts (offset ∷ offsets) = if_judged (is_judged stop offset) (offset == 0) && rises stop starts offset offsets
+restarts_fit stop starts (offset ∷ offsets) =
+    if_judged (is_judged stop offset) (offset == 0) && rises stop starts offset offsets
 
 -- ---- the order
 
@@ -148,7 +172,8 @@ if_not false offset later = Some offset
 -- where the first entry stands that does not come after the one before it
 unfoldable pub disorder : List ℕ → List PieceAt → Option ℕ
 disorder before [] = None
-disorder before (p ∷ ps) = if_not (comes_after before p.piece.key) p.offset (disorder p.piece.key ps)
+disorder before (p ∷ ps) = if_not (comes_after before p.piece.key) p.offset
+    (disorder p.piece.key ps)
 
 -- ---- a block
 
@@ -164,7 +189,8 @@ restart_fault false later = Some BadRestarts
 -- the first fault: of the restarts, then of the first entry that cannot be read, then of the order
 abbrev pub first_fault : Scan → List ℕ → Option BlockFault
 first_fault s restarts =
-    restart_fault (restarts_fit s.stop (starts_of s.placed) restarts) (entry_fault s.stop (disorder [] s.placed))
+    restart_fault (restarts_fit s.stop (starts_of s.placed) restarts)
+    (entry_fault s.stop (disorder [] s.placed))
 
 abbrev pub unless : Option BlockFault → List Entry → Result (List Entry) BlockFault
 unless None entries = Ok entries

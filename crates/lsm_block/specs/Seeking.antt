@@ -1,5 +1,6 @@
 -- Reading a block from a place on, and the first entry not below a key.
-use Rattle.std.specs.Prelude.{◌≡◌, ℕ, zero, suc, ◌*◌, ◌/◌, ◌^◌, ◌<◌, ◌⊎◌, Bool, true, false, List, [], ◌∷◌, length, take, drop, Option, Some, None}
+use Rattle.std.specs.Prelude.{◌≡◌, ℕ, zero, suc, ◌*◌, ◌/◌, ◌^◌, ◌<◌, ◌⊎◌, Bool, true, false, List}
+use Rattle.std.specs.Prelude.{[], ◌∷◌, length, take, drop, Option, Some, None}
 use Rattle.std.specs.List.{flat_map, AllByRecursion}
 use Rattle.std.specs.Ordering.{is_lt}
 use Rattle.std.specs.Int.{w32, to_le_bytes, from_le_bytes}
@@ -60,6 +61,9 @@ pub record StartsSearch (text offsets : List ℕ) (key : InternalKey) (offset : 
 -- What a step from an offset and the key before it to others reads: nothing where no entry is left,
 -- and else an entry of this value whose key is the next one's key before.
 abbrev pub Steps : List ℕ → ℕ → List ℕ → ℕ → List ℕ → Option (List ℕ) → Type 0
-Steps text offset before offset' before' None = (readable (length text) before (drop offset text) ≡ []) × (readable (length text) before' (drop offset' text) ≡ [])
+Steps text offset before offset' before' None =
+    (readable (length text) before (drop offset text) ≡ [])
+    × (readable (length text) before' (drop offset' text) ≡ [])
 Steps text offset before offset' before' (Some value) =
-    (is_internal before' ≡ true) × (readable (length text) before (drop offset text) ≡ entry_of (key_at before') value ∷ readable (length text) before' (drop offset' text))
+    (is_internal before' ≡ true) × (readable (length text) before (drop offset text)
+    ≡ entry_of (key_at before') value ∷ readable (length text) before' (drop offset' text))

@@ -1,6 +1,7 @@
 -- Where a cursor stands when an entry was given: behind its value, with which an entry's text ends
 -- (LevelDB's `table/block_builder.cc`).
-use Rattle.std.specs.Prelude.{◌≡◌, ℕ, ◌-◌, ◌≤◌, Bool, true, false, List, [], ◌∷◌, length, take, drop, Option, Some, None, IsSome}
+use Rattle.std.specs.Prelude.{◌≡◌, ℕ, ◌-◌, ◌≤◌, Bool, true, false, List, [], ◌∷◌, length, take}
+use Rattle.std.specs.Prelude.{drop, Option, Some, None, IsSome}
 use Rattle.lsm_codec.specs.Keys.{UserKey, InternalKey}
 use Rattle.lsm_codec.specs.Entries.{Entry, internal_key}
 use Rattle.lsm_block.specs.Block.{entry_of}
@@ -37,12 +38,14 @@ with_key (Some key) value rest = entry_of key value ∷ rest
 -- stands at no entry.
 abbrev pub from_here : HeldBlock → Position → Option ℕ → List Entry
 from_here block place None = []
-from_here block place (Some len) = with_key place.last (bytes_before block.text place.offset len) (rest_of block place)
+from_here block place (Some len) =
+    with_key place.last (bytes_before block.text place.offset len) (rest_of block place)
 
 -- Where a cursor stands at an entry, it has that entry's key, and its value is in the text.
 abbrev pub IsStanding : HeldBlock → Position → Option ℕ → Type 0
 IsStanding block place None = Unit {0}
-IsStanding block place (Some len) = IsSome place.last × (len ≤ place.offset) × (place.offset ≤ length block.text)
+IsStanding block place (Some len) =
+    IsSome place.last × (len ≤ place.offset) × (place.offset ≤ length block.text)
 
 abbrev pub but_first : List Entry → List Entry
 but_first [] = []
@@ -86,10 +89,12 @@ pub record SharesFront (count : ℕ) (a b : UserKey) : Type 0 where
 -- it: it moved, or it stays.
 abbrev pub IsMovedBy : Option ℕ → List Entry → List Entry → Type 0
 IsMovedBy None old new = IsMoved false old new
-IsMovedBy (Some shared) old new = IsMoved true old new × SharesFront shared (user_of_first old) (user_of_first new)
+IsMovedBy (Some shared) old new =
+    IsMoved true old new × SharesFront shared (user_of_first old) (user_of_first new)
 
 -- A step to the next entry of a block, whose value has this length: the cursor then stands at it;
 -- or it stays.
 abbrev pub StepsTo : HeldBlock → Position → Position → Option ℕ → Type 0
 StepsTo block old new None = (rest_of block old ≡ []) × (new ≡ old)
-StepsTo block old new (Some len) = (from_here block new (Some len) ≡ rest_of block old) × IsStanding block new (Some len)
+StepsTo block old new (Some len) =
+    (from_here block new (Some len) ≡ rest_of block old) × IsStanding block new (Some len)

@@ -1,10 +1,12 @@
 -- One walk over the entries of a block and its restart offsets side by side.
-use Rattle.std.specs.Prelude.{ℕ, zero, suc, ◌&&◌, Bool, true, false, nat_lt, nat_le, ◌==◌, if◌then◌else◌, List, [], ◌∷◌, ◌++◌, take, Option, Some, None}
+use Rattle.std.specs.Prelude.{ℕ, zero, suc, ◌&&◌, Bool, true, false, nat_lt, nat_le, ◌==◌}
+use Rattle.std.specs.Prelude.{if◌then◌else◌, List, [], ◌∷◌, ◌++◌, take, Option, Some, None}
 use Rattle.std.specs.List.{list_all}
 use Rattle.lsm_block.specs.declared.entry.RawEntry.{RawEntry}
 use Rattle.lsm_block.specs.declared.fault.BlockFault.{BlockFault}
 use Rattle.lsm_block.specs.declared.fault.BlockFault.TheVariants.{BadEntry}
-use Rattle.lsm_block.specs.Reading.{Piece, Scan, starts_of, rises, disorder, entry_fault, restart_fault}
+use Rattle.lsm_block.specs.Reading.{Piece, Scan, starts_of, rises, disorder, entry_fault}
+use Rattle.lsm_block.specs.Reading.{restart_fault}
 
 -- what is seen of an entry that was read: how much of its key is shared, its key, its value, and
 -- what follows it
@@ -32,7 +34,8 @@ unfoldable pub passed : ℕ → List ℕ → ℕ → ℕ → Option (ℕ × List
 passed before [] start shared = Some (before, [])
 passed before (offset ∷ offsets) start shared =
     if nat_lt start offset then Some (before, offset ∷ offsets)
-    else (if (offset == start) && (shared == 0) && nat_lt before offset then Some (offset, offsets) else None)
+    else (if (offset == start) && (shared == 0) && nat_lt before offset then Some (offset, offsets)
+    else None)
 
 abbrev pub if_none : Option ℕ → Option ℕ → Option ℕ
 if_none None later = later
@@ -42,11 +45,13 @@ if_none (Some offset) later = Some offset
 -- offset that was passed and those that are left, the key before, and what is read from here on.
 abbrev pub fault_from : Option ℕ → ℕ → List ℕ → List ℕ → Scan → Option BlockFault
 fault_from out before offsets key later =
-    restart_fault (rises later.stop (starts_of later.placed) before offsets) (entry_fault later.stop (if_none out (disorder key later.placed)))
+    restart_fault (rises later.stop (starts_of later.placed) before offsets)
+    (entry_fault later.stop (if_none out (disorder key later.placed)))
 
 -- the fault of a block whose reading stops here
 abbrev pub fault_at_stop : ℕ → List ℕ → Option BlockFault
-fault_at_stop start offsets = restart_fault (list_all (λ offset. nat_le start offset) offsets) (Some (BadEntry start))
+fault_at_stop start offsets = restart_fault (list_all (λ offset.
+    nat_le start offset) offsets) (Some (BadEntry start))
 
 abbrev pub is_nothing : List ℕ → Bool
 is_nothing [] = true

@@ -10,12 +10,15 @@ abbrev pub last_after : ℕ → List (List Write) → ℕ
 last_after last [] = last
 last_after last (b ∷ bs) = last_after (last + length b) bs
 
--- all that has come in after them, the entries of the last batch in front, where this was all before
+-- all that has come in after them, the entries of the last batch in front, where this was all
+-- before
 abbrev pub all_after : ℕ → List (List Write) → List Entry → List Entry
 all_after last [] history = history
-all_after last (b ∷ bs) history = all_after (last + length b) bs (entries_from (suc last) b ++ history)
+all_after last (b ∷ bs) history =
+    all_after (last + length b) bs (entries_from (suc last) b ++ history)
 
--- what a read gives of a key of which this is written last, if anything is, where it gave this before
+-- what a read gives of a key of which this is written last, if anything is, where it gave this
+-- before
 abbrev pub over : Option Write → Option (List ℕ) → Option (List ℕ)
 over None old = old
 over (Some w) old = w.value

@@ -26,13 +26,17 @@ pub record IsFirstFault (fault : WorkerFault) (ends : List WorkerEnd) : Type 0 w
   pub faultless : All IsFaultless front
   pub its : first.fault ≡ Some fault
 
--- Why all is not done, where the lines came to this and workers ended so: the lines' own fault; or all lines are in, and this worker ended early, or something is due.
+-- Why all is not done, where the lines came to this and workers ended so: the lines' own fault; or
+-- all lines are in, and this worker ended early, or something is due.
 abbrev pub IsOfEnd : {T : Type 0} → Result T LoadFault → List WorkerEnd → LoadFault → Type 0
 IsOfEnd (Err fault) ends e = e ≡ fault
 IsOfEnd (Ok x) ends (Worker fault) = IsFirstFault fault ends
 IsOfEnd (Ok x) ends Due = ⊤
 IsOfEnd (Ok x) ends e = ⊥
 
--- The state goes on from the mark, since another batch came in; or it is just as far, and that is why.
-abbrev pub IsLate : {T : Type 0} → (mark now : Marked) → Result T LoadFault → List WorkerEnd → LoadFault → Type 0
-IsLate mark now loaded ends e = ((e ≡ Other) × IsLater now.history mark.history) ⊎ ((now ≡ mark) × IsOfEnd loaded ends e)
+-- The state goes on from the mark, since another batch came in; or it is just as far, and that is
+-- why.
+abbrev pub IsLate : {T : Type 0} → (mark now : Marked) → Result T LoadFault → List WorkerEnd
+    → LoadFault → Type 0
+IsLate mark now loaded ends e =
+    ((e ≡ Other) × IsLater now.history mark.history) ⊎ ((now ≡ mark) × IsOfEnd loaded ends e)

@@ -22,11 +22,15 @@ use Rattle.lsm_bulk_load.specs.Coming.{CameIn, ComesNext}
 use Rattle.lsm_bulk_load.specs.Ending.{IsFirstFault}
 use Rattle.lsm_bulk_load.specs.Marks.{IsEven, Marked, marked_in}
 use Rattle.lsm_bulk_load.specs.declared.load_fault.LoadFault.{LoadFault}
-use Rattle.lsm_bulk_load.specs.declared.load_fault.LoadFault.TheVariants.{OutOfMemory, Shelf, Line, Ingest, Other, Worker, Due}
+use Rattle.lsm_bulk_load.specs.declared.load_fault.LoadFault.TheVariants.{OutOfMemory, Shelf, Line}
+use Rattle.lsm_bulk_load.specs.declared.load_fault.LoadFault.TheVariants.{Ingest, Other, Worker}
+use Rattle.lsm_bulk_load.specs.declared.load_fault.LoadFault.TheVariants.{Due}
 use Rattle.lsm_bulk_load.specs.declared.progress.Progress.{Progress}
 
--- The first lines that were to come, so many, are in: their writes were cut into batches, so many, which came in since the store was found.
-pub record Loads (old : Pending) (left : Option (List ℕ)) (held : List Write) (found now : Marked) (p : Progress) : Type 0 where
+-- The first lines that were to come, so many, are in: their writes were cut into batches, so many,
+-- which came in since the store was found.
+pub record Loads (old : Pending) (left : Option (List ℕ)) (held : List Write) (found now : Marked)
+    (p : Progress) : Type 0 where
   pub ws : List Write
   pub batches : List (List Write)
   pub cut : IsCut ws batches
@@ -54,7 +58,8 @@ pub record BatchCame (ws : List Write) (was now : Marked) (p q : Progress) : Typ
   pub count : q.batches ≡ p.batches + 1
 
 -- The writes of the next lines were gathered, and came in.
-pub record TakesBatch (old new : Pending) (was now : Marked) (p q : Progress) (end : BatchEnd) : Type 0 where
+pub record TakesBatch (old new : Pending) (was now : Marked) (p q : Progress) (end : BatchEnd)
+    : Type 0 where
   pub ws : List Write
   pub form : new.form ≡ old.form
   pub few : length ws < 2 ^ 64
@@ -63,41 +68,55 @@ pub record TakesBatch (old new : Pending) (was now : Marked) (p q : Progress) (e
 
 -- ---- refusals
 
--- Why the batch is not in, and what is in then: the store refused it, of which the fact held, and nothing came in; or it came in, and so did another one between this and the one before.
-abbrev pub StaysOut : (Asked → ShelfFault → Type 0) → Marked → List Write → (was now : Marked) → LoadFault → Type 0
+-- Why the batch is not in, and what is in then: the store refused it, of which the fact held, and
+-- nothing came in; or it came in, and so did another one between this and the one before.
+abbrev pub StaysOut : (Asked → ShelfFault → Type 0) → Marked → List Write → (was now : Marked)
+    → LoadFault → Type 0
 StaysOut Refused found batch was now (Ingest fault) =
-    (now ≡ was) × ((t : Told) × (u : Told) × IsKeptOut Refused (λ h. IsEven found (marked_in h)) batch fault t u)
+    (now ≡ was) × ((t : Told) × (u : Told)
+    × IsKeptOut Refused (λ h. IsEven found (marked_in h)) batch fault t u)
 StaysOut Refused found batch was now Other = IsLater now.history was.history
 StaysOut Refused found batch was now fault = ⊥
 
--- Why the next of these lines are not in, and what is in then: there was no memory for their batch; or it was gathered, and stayed out.
-abbrev pub IsNotTaken : (Asked → ShelfFault → Type 0) → Marked → Pending → (was now : Marked) → LoadFault → Type 0
+-- Why the next of these lines are not in, and what is in then: there was no memory for their batch;
+-- or it was gathered, and stayed out.
+abbrev pub IsNotTaken : (Asked → ShelfFault → Type 0) → Marked → Pending → (was now : Marked)
+    → LoadFault → Type 0
 IsNotTaken Refused found old was now OutOfMemory = now ≡ was
-IsNotTaken Refused found old was now fault = (new : Pending) × (r : Gathered) × IsGathered old new r × StaysOut Refused found r.batch was now fault
+IsNotTaken Refused found old was now fault =
+    (new : Pending) × (r : Gathered) × IsGathered old new r
+    × StaysOut Refused found r.batch was now fault
 
 -- just the first lines that were to come are in, so many
 abbrev pub SomeAreIn : Pending → (found now : Marked) → Progress → Type 0
-SomeAreIn old found now p = (left : Option (List ℕ)) × (held : List Write) × Loads old left held found now p
+SomeAreIn old found now p = (left : Option (List ℕ)) × (held : List Write)
+    × Loads old left held found now p
 
 -- these are in, and others came in too
 abbrev pub SomeAreInToo : Pending → (found now : Marked) → Progress → Type 0
-SomeAreInToo old found now p = (then : Marked) × SomeAreIn old found then p × IsLater now.history then.history
+SomeAreInToo old found now p =
+    (then : Marked) × SomeAreIn old found then p × IsLater now.history then.history
 
 -- The line behind those that are in is no write that a batch may have.
 abbrev pub StopsBehind : Pending → (found now : Marked) → Progress → WriteLineFault → Type 0
 StopsBehind old found now p lines.OutOfMemory = SomeAreIn old found now p
-StopsBehind old found now p fault = (left : Option (List ℕ)) × Loads old left [] found now p × Stops old.form left fault
+StopsBehind old found now p fault =
+    (left : Option (List ℕ)) × Loads old left [] found now p × Stops old.form left fault
 
 -- The store refused the batch of the lines behind those that are in.
-abbrev pub KeepsNextOut : (Asked → ShelfFault → Type 0) → Marked → Pending → (found now : Marked) → Progress → StateFault → Type 0
+abbrev pub KeepsNextOut : (Asked → ShelfFault → Type 0) → Marked → Pending → (found now : Marked)
+    → Progress → StateFault → Type 0
 KeepsNextOut Refused origin old found now p fault =
     (left : Option (List ℕ)) × (held : List Write) × Loads old left held found now p
-    × IsNotTaken Refused origin (record { form = old.form; held = held; left = left }) now now (Ingest fault)
+    × IsNotTaken Refused origin (record { form = old.form; held = held; left = left }) now now
+    (Ingest fault)
 
 -- Which lines are in a store, up to this mark, and why not all are.
-abbrev pub IsStopped : (Asked → ShelfFault → Type 0) → Marked → Pending → (found now : Marked) → Progress → LoadFault → Type 0
+abbrev pub IsStopped : (Asked → ShelfFault → Type 0) → Marked → Pending → (found now : Marked)
+    → Progress → LoadFault → Type 0
 IsStopped Refused origin old found now p (Line fault) = StopsBehind old found now p fault
-IsStopped Refused origin old found now p (Ingest fault) = KeepsNextOut Refused origin old found now p fault
+IsStopped Refused origin old found now p (Ingest fault) =
+    KeepsNextOut Refused origin old found now p fault
 IsStopped Refused origin old found now p OutOfMemory = SomeAreIn old found now p
 IsStopped Refused origin old found now p Other = SomeAreInToo old found now p
 IsStopped Refused origin old found now p (Shelf fault) = ⊥
@@ -106,14 +125,23 @@ IsStopped Refused origin old found now p Due = ⊥
 
 -- Workers ended, the first one in their order that has a fault with this one.
 abbrev pub EndedBy : Type 0 → WorkerFault → Type 0
-EndedBy Honest fault = (ends : List WorkerEnd) × All (IsWorkersEnd Honest) ends × IsFirstFault fault ends
+EndedBy Honest fault = (ends : List WorkerEnd) × All (IsWorkersEnd Honest) ends
+    × IsFirstFault fault ends
 
--- Which lines are in the state behind a load, and why all is not done: nothing began; all lines are in, and a worker had ended early, or something is due; or not all are.
-abbrev pub IsUnloaded : (Asked → ShelfFault → Type 0) → Type 0 → Marked → Pending → (found now : Marked) → Progress → LoadFault → Type 0
-IsUnloaded Refused Honest origin old found now p (Shelf fault) = (now ≡ found) × (p ≡ record { lines = 0; batches = 0 })
-IsUnloaded Refused Honest origin old found now p (Worker fault) = IsLoaded old found now p × EndedBy Honest fault
+-- Which lines are in the state behind a load, and why all is not done: nothing began; all lines are
+-- in, and a worker had ended early, or something is due; or not all are.
+abbrev pub IsUnloaded : (Asked → ShelfFault → Type 0) → Type 0 → Marked → Pending
+    → (found now : Marked) → Progress → LoadFault → Type 0
+IsUnloaded Refused Honest origin old found now p (Shelf fault) =
+    (now ≡ found) × (p ≡ record { lines = 0; batches = 0 })
+IsUnloaded Refused Honest origin old found now p (Worker fault) =
+    IsLoaded old found now p × EndedBy Honest fault
 IsUnloaded Refused Honest origin old found now p Due = IsLoaded old found now p
-IsUnloaded Refused Honest origin old found now p (Line fault) = IsStopped Refused origin old found now p (Line fault)
-IsUnloaded Refused Honest origin old found now p (Ingest fault) = IsStopped Refused origin old found now p (Ingest fault)
-IsUnloaded Refused Honest origin old found now p OutOfMemory = IsStopped Refused origin old found now p OutOfMemory
-IsUnloaded Refused Honest origin old found now p Other = IsStopped Refused origin old found now p Other
+IsUnloaded Refused Honest origin old found now p (Line fault) =
+    IsStopped Refused origin old found now p (Line fault)
+IsUnloaded Refused Honest origin old found now p (Ingest fault) =
+    IsStopped Refused origin old found now p (Ingest fault)
+IsUnloaded Refused Honest origin old found now p OutOfMemory =
+    IsStopped Refused origin old found now p OutOfMemory
+IsUnloaded Refused Honest origin old found now p Other =
+    IsStopped Refused origin old found now p Other

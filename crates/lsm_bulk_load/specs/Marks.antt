@@ -17,8 +17,10 @@ marked_in h = record { history = h.history; last = h.slots.version.last }
 abbrev pub IsEven : Marked → Marked → Type 0
 IsEven found now = length now.history + found.last ≡ length found.history + now.last
 
--- Both of these came before: the batch's sequences go on from the first one, and end with the last one here.
-pub record IsBehind (found before : Marked) (came : Ingested) (after : List Entry) (now : Marked) : Type 0 where
+-- Both of these came before: the batch's sequences go on from the first one, and end with the last
+-- one here.
+pub record IsBehind (found before : Marked) (came : Ingested) (after : List Entry) (now : Marked)
+    : Type 0 where
   pub first : came.first ≡ before.last + 1
   pub last : now.last ≡ came.last
   pub later : IsLater now.history before.history

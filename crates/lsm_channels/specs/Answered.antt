@@ -18,4 +18,5 @@ abbrev pub refusal_frame : StateFault → List ℕ
 refusal_frame fault = answer_frame (IsRefused (state.number_of fault) (state.name_of fault))
 
 abbrev pub worker_refusal_frame : WorkerFault → List ℕ
-worker_refusal_frame fault = answer_frame (IsRefused (worker.number_of fault) (worker.name_of fault))
+worker_refusal_frame fault = answer_frame
+    (IsRefused (worker.number_of fault) (worker.name_of fault))

@@ -1,8 +1,10 @@
--- What a request is answered with, a relation for each kind (docs/PROTOCOL.md, this project's rule).
+-- What a request is answered with, a relation for each kind (docs/PROTOCOL.md, this project's
+-- rule).
 use Rattle.std.specs.Prelude.{◌≡◌, ◌⊎◌, ℕ, List, Result, Ok, Err, IfErr, IfOk, OnOk}
 use Rattle.lsm_codec.specs.Entries.{Entry}
 use Rattle.lsm_frames.specs.Answers.{Done, Wrote, Pinned, Nothing, Removed, Told}
-use Rattle.lsm_frames.specs.Requests.{Asked, Stretch, Written, Writes, Reads, Scans, Snapshots, Releases, Compacts, Collects, Statistics}
+use Rattle.lsm_frames.specs.Requests.{Asked, Stretch, Written, Writes, Reads, Scans, Snapshots}
+use Rattle.lsm_frames.specs.Requests.{Releases, Compacts, Collects, Statistics}
 use Rattle.lsm_frames.specs.declared.when.When.{When}
 use Rattle.lsm_history.specs.History.{IsLater}
 use Rattle.lsm_manifest.specs.FileOrder.{TableFile}
@@ -35,51 +37,67 @@ SaysWork (Err e) frame = frame ≡ worker_refusal_frame e
 
 -- ---- by the kind of the request
 
--- The store took the batch of the last writes, or refused; the answer says which sequences it has, or the refusal.
-abbrev pub AnswersWrite : (shelf.Asked → ShelfFault → Type 0) → List Written → (before after : Served) → List ℕ → Type 0
+-- The store took the batch of the last writes, or refused; the answer says which sequences it has,
+-- or the refusal.
+abbrev pub AnswersWrite : (shelf.Asked → ShelfFault → Type 0) → List Written
+    → (before after : Served) → List ℕ → Type 0
 AnswersWrite Refused ws before after frame =
-    (done : Result Ingested StateFault) × IfOk done (λ r. IsWritten ws r after.known before.shelf after.shelf)
-    × IfErr done (λ e. IsWriteFault Refused ws e before.shelf after.shelf) × Says (λ r. Wrote r.first r.last) done frame
+    (done : Result Ingested StateFault)
+    × IfOk done (λ r. IsWritten ws r after.known before.shelf after.shelf)
+    × IfErr done (λ e. IsWriteFault Refused ws e before.shelf after.shelf)
+    × Says (λ r. Wrote r.first r.last) done frame
 
 -- The answer has the values of the keys, or the refusal of a read.
 abbrev pub AnswersRead : Type 0 → When → List (List ℕ) → (before after : Served) → List ℕ → Type 0
 AnswersRead Honest when keys before after frame =
     IsRead Honest when keys before.taken before.reader after.reader before.known after.known frame
-    ⊎ ((e : StateFault) × IsReadFault Honest when keys before.taken before.reader after.reader before.known after.known e × (frame ≡ refusal_frame e))
+    ⊎ ((e : StateFault) × IsReadFault Honest when keys before.taken before.reader after.reader
+    before.known after.known e × (frame ≡ refusal_frame e))
 
 -- The answer has the first pairs of the range, or the refusal of a scan.
 abbrev pub AnswersScan : Type 0 → Stretch → (before after : Served) → List ℕ → Type 0
 AnswersScan Honest s before after frame =
     IsScanned Honest s before.taken before.reader after.reader before.known after.known frame
-    ⊎ ((e : StateFault) × IsScanFault Honest s before.taken before.reader after.reader before.known after.known e × (frame ≡ refusal_frame e))
+    ⊎ ((e : StateFault) × IsScanFault Honest s before.taken before.reader after.reader before.known
+    after.known e × (frame ≡ refusal_frame e))
 
--- The answer has the number and the sequence of a snapshot that was taken, which the channel knows from then on; or the refusal.
+-- The answer has the number and the sequence of a snapshot that was taken, which the channel knows
+-- from then on; or the refusal.
 abbrev pub AnswersSnapshot : (before after : Served) → List ℕ → Type 0
 AnswersSnapshot before after frame =
-    (done : Result (ℕ × ℕ) StateFault) × IfOk done (λ r. IsTaken r.0 r.1 before.known after.known before.taken after.taken)
-    × IfErr done (λ e. IsUntaken e before.known after.known before.taken after.taken) × Says (λ r. Pinned r.0 r.1) done frame
+    (done : Result (ℕ × ℕ) StateFault)
+    × IfOk done (λ r. IsTaken r.0 r.1 before.known after.known before.taken after.taken)
+    × IfErr done (λ e. IsUntaken e before.known after.known before.taken after.taken)
+    × Says (λ r. Pinned r.0 r.1) done frame
 
 -- The snapshot was given up; or it is not live, and the answer says so.
 abbrev pub AnswersRelease : ℕ → (before after : Served) → List ℕ → Type 0
 AnswersRelease number before after frame =
-    (done : Result (Unit {0}) StateFault) × OnOk done (IsReleased number before.known after.known × (after.taken ≡ without_snapshot number before.taken))
-    × IfErr done (λ e. IsUnreleased number e before.known after.known × (after.taken ≡ before.taken)) × Says (λ r. Nothing) done frame
+    (done : Result (Unit {0}) StateFault)
+    × OnOk done (IsReleased number before.known after.known
+    × (after.taken ≡ without_snapshot number before.taken))
+    × IfErr done (λ e. IsUnreleased number e before.known after.known
+    × (after.taken ≡ before.taken)) × Says (λ r. Nothing) done frame
 
 -- Nothing was left to compact; or the answer says the fault of the worker that looked last.
 abbrev pub AnswersCompact : Type 0 → (before after : Served) → List ℕ → Type 0
 AnswersCompact Honest before after frame =
-    (done : Result (Unit {0}) WorkerFault) × OnOk done (IsCompacted Honest before.known after.known) × IfErr done (IsCompactFault Honest) × SaysWork done frame
+    (done : Result (Unit {0}) WorkerFault) × OnOk done (IsCompacted Honest before.known after.known)
+    × IfErr done (IsCompactFault Honest) × SaysWork done frame
 
 -- The answer has how many tables were removed, or the refusal.
 abbrev pub AnswersCollect : (before after : Served) → List ℕ → Type 0
 AnswersCollect before after frame =
-    (done : Result ℕ StateFault) × IfOk done (λ n. IsCollected n before.known after.known before.shelf after.shelf)
-    × IfErr done (λ e. IsCollectFault e before.known after.known before.shelf after.shelf) × Says (λ n. Removed n) done frame
+    (done : Result ℕ StateFault) × IfOk done (λ n.
+    IsCollected n before.known after.known before.shelf after.shelf)
+    × IfErr done (λ e. IsCollectFault e before.known after.known before.shelf after.shelf)
+    × Says (λ n. Removed n) done frame
 
 -- The answer has the last sequence and the sizes of the levels; or memory ran out.
 abbrev pub AnswersStatistics : (knew knows : List Entry) → List ℕ → Type 0
 AnswersStatistics knew knows frame =
-    ((last : ℕ) × (fs : List (ℕ × TableFile)) × IsListed last fs knew knows × (frame ≡ done_frame (Told last (sizes_of fs)))) ⊎ (frame ≡ refusal_frame OutOfMemory)
+    ((last : ℕ) × (fs : List (ℕ × TableFile)) × IsListed last fs knew knows
+    × (frame ≡ done_frame (Told last (sizes_of fs)))) ⊎ (frame ≡ refusal_frame OutOfMemory)
 
 -- ---- all of them
 
@@ -87,18 +105,32 @@ AnswersStatistics knew knows frame =
 abbrev pub LeavesThese : (before after : Served) → Type 0
 LeavesThese before after = (after.reader ≡ before.reader) × (after.shelf ≡ before.shelf)
 
--- The frame answers the request. What else it leaves of the session: a reader learns no earlier history, and a request that does not read leaves it;
--- a request that asks the shelf for nothing leaves that; and one that neither takes a snapshot nor gives one up leaves what is known of them.
-abbrev pub IsAnswered : (Honest : Type 0) → (shelf.Asked → ShelfFault → Type 0) → Asked → (before after : Served) → List ℕ → Type 0
+-- The frame answers the request. What else it leaves of the session: a reader learns no earlier
+-- history, and a request that does not read leaves it; a request that asks the shelf for nothing
+-- leaves that; and one that neither takes a snapshot nor gives one up leaves what is known of them.
+abbrev pub IsAnswered : (Honest : Type 0) → (shelf.Asked → ShelfFault → Type 0) → Asked
+    → (before after : Served) → List ℕ → Type 0
 IsAnswered Honest Refused (Writes ws) before after frame =
-    (after.reader ≡ before.reader) × (after.taken ≡ before.taken) × AnswersWrite Refused ws before after frame
+    (after.reader ≡ before.reader) × (after.taken ≡ before.taken)
+    × AnswersWrite Refused ws before after frame
 IsAnswered Honest Refused (Reads when keys) before after frame =
-    (after.shelf ≡ before.shelf) × (after.taken ≡ before.taken) × IsLater after.reader.history before.reader.history × AnswersRead Honest when keys before after frame
+    (after.shelf ≡ before.shelf) × (after.taken ≡ before.taken)
+    × IsLater after.reader.history before.reader.history
+    × AnswersRead Honest when keys before after frame
 IsAnswered Honest Refused (Scans s) before after frame =
-    (after.shelf ≡ before.shelf) × (after.taken ≡ before.taken) × IsLater after.reader.history before.reader.history × AnswersScan Honest s before after frame
-IsAnswered Honest Refused Snapshots before after frame = LeavesThese before after × AnswersSnapshot before after frame
-IsAnswered Honest Refused (Releases number) before after frame = LeavesThese before after × AnswersRelease number before after frame
+    (after.shelf ≡ before.shelf) × (after.taken ≡ before.taken)
+    × IsLater after.reader.history before.reader.history
+    × AnswersScan Honest s before after frame
+IsAnswered Honest Refused Snapshots before after frame =
+    LeavesThese before after × AnswersSnapshot before after frame
+IsAnswered Honest Refused (Releases number) before after frame =
+    LeavesThese before after × AnswersRelease number before after frame
 IsAnswered Honest Refused Compacts before after frame =
-    (after.reader ≡ before.reader) × (after.taken ≡ before.taken) × tellings.Forked before.shelf after.shelf × AnswersCompact Honest before after frame
-IsAnswered Honest Refused Collects before after frame = (after.reader ≡ before.reader) × (after.taken ≡ before.taken) × AnswersCollect before after frame
-IsAnswered Honest Refused Statistics before after frame = LeavesThese before after × (after.taken ≡ before.taken) × AnswersStatistics before.known after.known frame
+    (after.reader ≡ before.reader) × (after.taken ≡ before.taken)
+    × tellings.Forked before.shelf after.shelf × AnswersCompact Honest before after frame
+IsAnswered Honest Refused Collects before after frame =
+    (after.reader ≡ before.reader) × (after.taken ≡ before.taken)
+    × AnswersCollect before after frame
+IsAnswered Honest Refused Statistics before after frame =
+    LeavesThese before after × (after.taken ≡ before.taken)
+    × AnswersStatistics before.known after.known frame

@@ -7,7 +7,8 @@ use Rattle.lsm_state.specs.Held.{Held}
 use Rattle.lsm_state.specs.declared.state_fault.StateFault.{StateFault}
 use Rattle.lsm_channels.specs.Served.{IsToldBy}
 
--- The state goes on, and looked at its slots. So many tables were removed: those that the shelf listed and that the state then did not keep.
+-- The state goes on, and looked at its slots. So many tables were removed: those that the shelf
+-- listed and that the state then did not keep.
 pub record CollectsAt (was is : Held) (count : ℕ) (before after : Told) : Type 0 where
   pub goes_on : was.halted ≡ false
   pub looked : HasLookedAround was is
@@ -22,7 +23,9 @@ pub record RefusesAt (was is : Held) (e : StateFault) (before after : Told) : Ty
 
 -- at one taking of the lock, of a state that has all that the channel knew
 abbrev pub IsCollected : ℕ → (knew knows : List Entry) → Told → Told → Type 0
-IsCollected count knew knows before after = (was : Held) × (is : Held) × IsToldBy was knew knows × CollectsAt was is count before after
+IsCollected count knew knows before after =
+    (was : Held) × (is : Held) × IsToldBy was knew knows × CollectsAt was is count before after
 
 abbrev pub IsCollectFault : StateFault → (knew knows : List Entry) → Told → Told → Type 0
-IsCollectFault e knew knows before after = (was : Held) × (is : Held) × IsToldBy was knew knows × RefusesAt was is e before after
+IsCollectFault e knew knows before after =
+    (was : Held) × (is : Held) × IsToldBy was knew knows × RefusesAt was is e before after

@@ -13,11 +13,13 @@ use Rattle.lsm_store.specs.declared.worker_fault.WorkerFault.TheVariants.{NoThre
 abbrev pub IsSettled : Held → Type 0
 IsSettled h = HasNoChoice h.slots.version (reserved_jobs h.live)
 
--- So it was, over an honest shelf, at a taking of the lock, of a state that has all that the channel knew.
+-- So it was, over an honest shelf, at a taking of the lock, of a state that has all that the
+-- channel knew.
 abbrev pub IsCompacted : Type 0 → (knew knows : List Entry) → Type 0
 IsCompacted Honest knew knows = (h : Held) × IsToldBy h knew knows × (Honest → IsSettled h)
 
--- The worker that looked had no thread, or no shelf; or it ended by such a refusal as a worker meets.
+-- The worker that looked had no thread, or no shelf; or it ended by such a refusal as a worker
+-- meets.
 abbrev pub IsCompactFault : Type 0 → WorkerFault → Type 0
 IsCompactFault honest NoThread = ⊤
 IsCompactFault honest (State fault) = IsOfTurn honest (State fault)

@@ -18,7 +18,11 @@ capped n = min n (2 ^ 64 - 1)
 
 -- how many there are, and how many bytes they have
 abbrev pub size_at : List (ℕ × TableFile) → ℕ → LevelSize
-size_at fs level = record { files = length (files_at level fs); bytes = capped (sum_by (λ f. f.1.size) (files_at level fs)) }
+size_at fs level = record {
+  files = length (files_at level fs);
+  bytes = capped (sum_by (λ f.
+      f.1.size) (files_at level fs));
+}
 
 -- of each level
 abbrev pub sizes_of : List (ℕ × TableFile) → List LevelSize

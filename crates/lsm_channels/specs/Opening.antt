@@ -8,13 +8,15 @@ use Rattle.lsm_cmd_write.specs.Preparing.{IsPrepared, IsUnprepared}
 use Rattle.lsm_cmd_write.specs.declared.ingesting.start.Start.{Start}
 use Rattle.lsm_cmd_write.specs.declared.ingesting.start.Start.TheVariants.{Open, Begin}
 use Rattle.lsm_channels.specs.declared.opening_fault.OpeningFault.{OpeningFault}
-use Rattle.lsm_channels.specs.declared.opening_fault.OpeningFault.TheVariants.{NoDatabase, IsThere, Folder}
+use Rattle.lsm_channels.specs.declared.opening_fault.OpeningFault.TheVariants.{NoDatabase, IsThere}
+use Rattle.lsm_channels.specs.declared.opening_fault.OpeningFault.TheVariants.{Folder}
 
 -- a database is begun where there is no file of one, and logs are looked at
 abbrev pub looking : IngestOptions
 looking = record { form = Hex; begins = false; beside_log = false }
 
--- A database that is there is opened unless that is to be refused; one is begun where one is to be made.
+-- A database that is there is opened unless that is to be refused; one is begun where one is to be
+-- made.
 abbrev pub IsAllowed : Start → (make refuse : Bool) → Type 0
 IsAllowed Open make refuse = refuse ≡ false
 IsAllowed (Begin number) make refuse = make ≡ true
@@ -27,14 +29,16 @@ IsBarred start make refuse e = ⊥
 
 -- The folder was locked and looked at, and this holds of what there is.
 abbrev pub IsFound : (Start → Type 0) → List Call → Type 0
-IsFound Holds before = (start : Start) × (files : List FolderFile) × (after : List Call) × IsPrepared looking start files before after × Holds start
+IsFound Holds before = (start : Start) × (files : List FolderFile) × (after : List Call)
+    × IsPrepared looking start files before after × Holds start
 
 -- A folder was served to its end: what there is was to be opened, or begun.
 abbrev pub IsServed : (make refuse : Bool) → List Call → Type 0
 IsServed make refuse before = IsFound (λ start. IsAllowed start make refuse) before
 
--- Why a folder is not served: it was not locked, or the looking stopped; what there is was not to be opened, or begun; or it was, and the store
--- refused, or a thread could not be made.
+-- Why a folder is not served: it was not locked, or the looking stopped; what there is was not to
+-- be opened, or begun; or it was, and the store refused, or a thread could not be made.
 abbrev pub IsUnserved : (make refuse : Bool) → List Call → OpeningFault → Type 0
-IsUnserved make refuse before (Folder e) = ((after : List Call) × IsUnprepared looking e before after) ⊎ IsServed make refuse before
+IsUnserved make refuse before (Folder e) =
+    ((after : List Call) × IsUnprepared looking e before after) ⊎ IsServed make refuse before
 IsUnserved make refuse before e = IsFound (λ start. IsBarred start make refuse e) before

@@ -19,31 +19,40 @@ use Rattle.lsm_channels.specs.Served.{IsToldBy}
 abbrev pub values_at : List Entry → ℕ → List (List ℕ) → List (Option (List ℕ))
 values_at history seq keys = map (λ k. answer history k seq) keys
 
--- The answer has the value of each key, in all that had come in when the reader learnt it, at one sequence.
-pub record IsRead (Honest : Type 0) (when : When) (keys : List (List ℕ)) (taken : List (ℕ × ℕ)) (before after : Learnt) (knew knows : List Entry) (frame : List ℕ) : Type 0 where
+-- The answer has the value of each key, in all that had come in when the reader learnt it, at one
+-- sequence.
+pub record IsRead (Honest : Type 0) (when : When) (keys : List (List ℕ)) (taken : List (ℕ
+    × ℕ)) (before after : Learnt) (knew knows : List Entry) (frame : List ℕ) : Type 0 where
   pub seq : ℕ
   pub sees : Sees when taken before after knew knows seq
   pub values : Honest → frame ≡ done_frame (Found (values_at knows seq keys))
 
 -- ---- refusals
 
--- Why there is no view: in a state that has all that the channel knew the snapshot is not live, or the version is not pinned.
+-- Why there is no view: in a state that has all that the channel knew the snapshot is not live, or
+-- the version is not pinned.
 abbrev pub IsUnseen : When → List (ℕ × ℕ) → (knew knows : List Entry) → StateFault → Type 0
-IsUnseen when taken knew knows e = (h : Held) × IsToldBy h knew knows × (IsNotLive h taken when e ⊎ IsUnpinned h e)
+IsUnseen when taken knew knows e =
+    (h : Held) × IsToldBy h knew knows × (IsNotLive h taken when e ⊎ IsUnpinned h e)
 
 -- Why an answer does not grow: it would be too long; or memory ran out.
 abbrev pub IsAnswerFault : StateFault → Type 0
 IsAnswerFault e = (e ≡ TooLarge) ⊎ (e ≡ OutOfMemory)
 
--- Why what is seen is not answered: that; or a table could not be read, over an honest shelf only since the shelf refused or memory ran out.
+-- Why what is seen is not answered: that; or a table could not be read, over an honest shelf only
+-- since the shelf refused or memory ran out.
 abbrev pub IsUnread : Type 0 → StateFault → Type 0
-IsUnread Honest e = IsAnswerFault e ⊎ ((fault : ReadFault) × (e ≡ Read fault) × (Honest → IsMemoryOrShelf fault))
+IsUnread Honest e = IsAnswerFault e
+    ⊎ ((fault : ReadFault) × (e ≡ Read fault) × (Honest → IsMemoryOrShelf fault))
 
 -- the answer would pass the length of one
 abbrev pub IsTooLong : Done → Type 0
 IsTooLong done = MOST_ANSWER < length (answer_text (IsDone done))
 
--- Why a read is refused: nothing is seen; or what is seen is not answered, as `TooLarge` over an honest shelf only where the answer would be too long.
-abbrev pub IsReadFault : Type 0 → When → List (List ℕ) → List (ℕ × ℕ) → (before after : Learnt) → (knew knows : List Entry) → StateFault → Type 0
+-- Why a read is refused: nothing is seen; or what is seen is not answered, as `TooLarge` over an
+-- honest shelf only where the answer would be too long.
+abbrev pub IsReadFault : Type 0 → When → List (List ℕ) → List (ℕ × ℕ) → (before after : Learnt)
+    → (knew knows : List Entry) → StateFault → Type 0
 IsReadFault Honest when keys taken before after knew knows e = IsUnseen when taken knew knows e
-    ⊎ ((seq : ℕ) × Sees when taken before after knew knows seq × IsUnread Honest e × (Honest → e ≡ TooLarge → IsTooLong (Found (values_at knows seq keys))))
+    ⊎ ((seq : ℕ) × Sees when taken before after knew knows seq × IsUnread Honest e
+    × (Honest → e ≡ TooLarge → IsTooLong (Found (values_at knows seq keys))))

@@ -1,5 +1,6 @@
 -- What a scan answers (this project's rule).
-use Rattle.std.specs.Prelude.{◌≡◌, ◌≢◌, ◌⊎◌, ℕ, ◌≤◌, Bool, true, false, not, List, [], ◌∷◌, ◌++◌, length, map, Option, None, Some, MatchBool}
+use Rattle.std.specs.Prelude.{◌≡◌, ◌≢◌, ◌⊎◌, ℕ, ◌≤◌, Bool, true, false, not, List, [], ◌∷◌, ◌++◌}
+use Rattle.std.specs.Prelude.{length, map, Option, None, Some, MatchBool}
 use Rattle.std.specs.List.{filter, flat_map}
 use Rattle.lsm_codec.specs.Entries.{Entry, answer}
 use Rattle.lsm_codec.specs.Keys.{UserKey, UserLe, user_le}
@@ -16,10 +17,14 @@ use Rattle.lsm_channels.specs.Seen.{Sees}
 
 -- ---- pairs of a range
 
--- Each user key from this one on that has an answer at the sequence, with it, and no other, ascending.
-pub record IsScanFrom (from : UserKey) (seq : ℕ) (es : List Entry) (pairs : List Pair) : Type 0 where
-  pub right : (k : UserKey) (v : List ℕ) → Has pairs (k, v) → UserLe from k × (answer es k seq ≡ Some v)
-  pub whole : (k : UserKey) (v : List ℕ) → UserLe from k → answer es k seq ≡ Some v → Has pairs (k, v)
+-- Each user key from this one on that has an answer at the sequence, with it, and no other,
+-- ascending.
+pub record IsScanFrom (from : UserKey) (seq : ℕ) (es : List Entry) (pairs : List Pair)
+    : Type 0 where
+  pub right : (k : UserKey) (v : List ℕ) → Has pairs (k, v)
+      → UserLe from k × (answer es k seq ≡ Some v)
+  pub whole : (k : UserKey) (v : List ℕ) → UserLe from k → answer es k seq ≡ Some v
+      → Has pairs (k, v)
   pub ascending : UsersAscend pairs
 
 -- the key stands before the bound, if there is one
@@ -39,18 +44,23 @@ pair_of p = record { key = p.0; value = p.1 }
 
 -- so many pairs were asked for and are there; or they have the bytes of a page
 abbrev pub IsFull : ℕ → List frames.Pair → Type 0
-IsFull limit pairs = ((limit ≢ 0) × (limit ≤ length pairs)) ⊎ (65536 ≤ length (flat_map frames.pair_text pairs))
+IsFull limit pairs = ((limit ≢ 0) × (limit ≤ length pairs))
+    ⊎ (65536 ≤ length (flat_map frames.pair_text pairs))
 
--- The first of the pairs that are to be shown. Without its last pair the page is not full. None is left; or some are, and the page is full.
-pub record IsPage (limit : ℕ) (all : List Pair) (ended : Bool) (pairs : List frames.Pair) : Type 0 where
+-- The first of the pairs that are to be shown. Without its last pair the page is not full. None is
+-- left; or some are, and the page is full.
+pub record IsPage (limit : ℕ) (all : List Pair) (ended : Bool) (pairs : List frames.Pair)
+    : Type 0 where
   pub front : List Pair
   pub rest : List Pair
   pub parts : all ≡ front ++ rest
   pub shown : pairs ≡ map pair_of front
-  pub most : (before : List frames.Pair) (p : frames.Pair) → pairs ≡ before ++ p ∷ [] → IsFull limit before → ⊥
+  pub most : (before : List frames.Pair) (p : frames.Pair) → pairs ≡ before ++ p ∷ []
+      → IsFull limit before → ⊥
   pub left : MatchBool ended (rest ≡ []) ((rest ≢ []) × IsFull limit pairs)
 
--- The answer has the first pairs of the range, in all that had come in when the reader learnt it, at one sequence.
+-- The answer has the first pairs of the range, in all that had come in when the reader learnt it,
+-- at one sequence.
 pub record IsShown (s : Stretch) (history : List Entry) (seq : ℕ) (frame : List ℕ) : Type 0 where
   pub all : List Pair
   pub scan : IsScanFrom s.from seq history all
@@ -59,7 +69,8 @@ pub record IsShown (s : Stretch) (history : List Entry) (seq : ℕ) (frame : Lis
   pub page : IsPage s.limit (below s.to all) ended pairs
   pub said : frame ≡ done_frame (frames.Shown ended pairs)
 
-pub record IsScanned (Honest : Type 0) (s : Stretch) (taken : List (ℕ × ℕ)) (before after : Learnt) (knew knows : List Entry) (frame : List ℕ) : Type 0 where
+pub record IsScanned (Honest : Type 0) (s : Stretch) (taken : List (ℕ
+    × ℕ)) (before after : Learnt) (knew knows : List Entry) (frame : List ℕ) : Type 0 where
   pub seq : ℕ
   pub sees : Sees s.when taken before after knew knows seq
   pub shown : Honest → IsShown s knows seq frame
@@ -77,9 +88,13 @@ pub record IsLongPage (limit : ℕ) (all : List Pair) : Type 0 where
 
 -- the range has such a pair, in all that had come in
 abbrev pub IsUnshown : Stretch → List Entry → ℕ → Type 0
-IsUnshown s history seq = (all : List Pair) × IsScanFrom s.from seq history all × IsLongPage s.limit (below s.to all)
+IsUnshown s history seq = (all : List Pair) × IsScanFrom s.from seq history all
+    × IsLongPage s.limit (below s.to all)
 
--- Why a scan is refused: nothing is seen; or what is seen is not shown, as `TooLarge` over an honest shelf only where no answer has room for a pair.
-abbrev pub IsScanFault : Type 0 → Stretch → List (ℕ × ℕ) → (before after : Learnt) → (knew knows : List Entry) → StateFault → Type 0
+-- Why a scan is refused: nothing is seen; or what is seen is not shown, as `TooLarge` over an
+-- honest shelf only where no answer has room for a pair.
+abbrev pub IsScanFault : Type 0 → Stretch → List (ℕ × ℕ) → (before after : Learnt)
+    → (knew knows : List Entry) → StateFault → Type 0
 IsScanFault Honest s taken before after knew knows e = IsUnseen s.when taken knew knows e
-    ⊎ ((seq : ℕ) × Sees s.when taken before after knew knows seq × IsUnread Honest e × (Honest → e ≡ TooLarge → IsUnshown s knows seq))
+    ⊎ ((seq : ℕ) × Sees s.when taken before after knew knows seq × IsUnread Honest e
+    × (Honest → e ≡ TooLarge → IsUnshown s knows seq))

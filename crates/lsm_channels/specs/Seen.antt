@@ -1,5 +1,6 @@
 -- What a request sees of the database (this project's rule).
-use Rattle.std.specs.Prelude.{◌≡◌, ⊤, ◌⊎◌, ℕ, ◌==◌, Bool, false, not, ◌&&◌, List, Option, None, Some}
+use Rattle.std.specs.Prelude.{◌≡◌, ⊤, ◌⊎◌, ℕ, ◌==◌, Bool, false, not, ◌&&◌, List, Option, None}
+use Rattle.std.specs.Prelude.{Some}
 use Rattle.std.specs.List.{list_any}
 use Rattle.lsm_codec.specs.Entries.{Entry}
 use Rattle.lsm_codec.specs.Lists.{Has}
@@ -25,7 +26,8 @@ snapshot_in (Snapshot number) = Some number
 abbrev pub is_other : (number sequence : ℕ) → ℕ × ℕ → Bool
 is_other number sequence p = (p.0 == number) && not (p.1 == sequence)
 
--- None that the channel took, and did not give up, has the number and another sequence: this is the one that it was told.
+-- None that the channel took, and did not give up, has the number and another sequence: this is the
+-- one that it was told.
 abbrev pub IsGiven : List (ℕ × ℕ) → (number sequence : ℕ) → Type 0
 IsGiven taken number sequence = list_any (is_other number sequence) taken ≡ false
 
@@ -34,13 +36,16 @@ abbrev pub IsAsGiven : List (ℕ × ℕ) → When → ℕ → Type 0
 IsAsGiven taken Now sequence = ⊤
 IsAsGiven taken (Snapshot number) sequence = IsGiven taken number sequence
 
--- No snapshot of this number is live; or it has another sequence than the one that the channel was told.
+-- No snapshot of this number is live; or it has another sequence than the one that the channel was
+-- told.
 abbrev pub IsNotLive : Held → List (ℕ × ℕ) → When → StateFault → Type 0
 IsNotLive h taken Now e = ⊥
 IsNotLive h taken (Snapshot number) e = (e ≡ UnknownSnapshot number)
-    × ((HasId h.snapshots.taken number → ⊥) ⊎ ((seq : ℕ) × Has h.snapshots.taken (number, seq) × (IsGiven taken number seq → ⊥)))
+    × ((HasId h.snapshots.taken number → ⊥)
+    ⊎ ((seq : ℕ) × Has h.snapshots.taken (number, seq) × (IsGiven taken number seq → ⊥)))
 
--- The reader has learnt the version of this state, all that had come in, and which snapshots were live. It goes on from what it knew.
+-- The reader has learnt the version of this state, all that had come in, and which snapshots were
+-- live. It goes on from what it knew.
 pub record Learns (h : Held) (before after : Learnt) : Type 0 where
   pub id : after.id ≡ current_id h.slots
   pub version : after.version ≡ h.slots.version
@@ -48,9 +53,10 @@ pub record Learns (h : Held) (before after : Learnt) : Type 0 where
   pub snapshots : after.snapshots ≡ snapshot_sequences h
   pub later : IsLater after.history before.history
 
--- The reader has learnt a state that has all that the channel knew, and this is the sequence of the read there: the last one, or the snapshot's,
--- which is the one that the channel was told.
-pub record Sees (when : When) (taken : List (ℕ × ℕ)) (before after : Learnt) (knew knows : List Entry) (seq : ℕ) : Type 0 where
+-- The reader has learnt a state that has all that the channel knew, and this is the sequence of the
+-- read there: the last one, or the snapshot's, which is the one that the channel was told.
+pub record Sees (when : When) (taken : List (ℕ
+    × ℕ)) (before after : Learnt) (knew knows : List Entry) (seq : ℕ) : Type 0 where
   pub state : Held
   pub learnt : Learns state before after
   pub told : IsToldBy state knew knows

@@ -10,7 +10,8 @@ pub record Served : Type 0 where
   -- what its reader has learnt, and what its shelf was told
   pub reader : Learnt
   pub shelf : Told
-  -- all that it knows to have come in, the latest first: what its last write left, or what it saw of the database after that
+  -- all that it knows to have come in, the latest first: what its last write left, or what it saw
+  -- of the database after that
   pub known : List Entry
   -- its snapshots, those that it took and did not give up: numbers and sequences
   pub taken : List (ℕ × ℕ)

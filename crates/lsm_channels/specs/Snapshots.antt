@@ -6,19 +6,29 @@ use Rattle.lsm_model.specs.Plain.{without_snapshot}
 use Rattle.lsm_slots.specs.Snapshots.{HasId}
 use Rattle.lsm_state.specs.Held.{Held}
 use Rattle.lsm_state.specs.declared.state_fault.StateFault.{StateFault}
-use Rattle.lsm_state.specs.declared.state_fault.StateFault.TheVariants.{NumbersSpent, OutOfMemory, UnknownSnapshot}
+use Rattle.lsm_state.specs.declared.state_fault.StateFault.TheVariants.{NumbersSpent, OutOfMemory}
+use Rattle.lsm_state.specs.declared.state_fault.StateFault.TheVariants.{UnknownSnapshot}
 use Rattle.lsm_channels.specs.Served.{IsToldBy}
 
 -- The next number is that of a snapshot of the last sequence.
 pub record TakesAt (was is : Held) (number sequence : ℕ) : Type 0 where
   pub number_is : number ≡ was.snapshots.next
   pub sequence_is : sequence ≡ was.slots.version.last
-  pub left : is ≡ record was { snapshots = record { taken = was.snapshots.taken ++ (number, sequence) ∷ []; next = suc number } }
+  pub left : is ≡ record was {
+    snapshots = record {
+      taken = was.snapshots.taken
+          ++ (number, sequence) ∷ [];
+      next = suc number;
+    };
+  }
 
 -- The snapshot of this number was live, and is no more.
 pub record ReleasesAt (was is : Held) (number : ℕ) : Type 0 where
   pub live : HasId was.snapshots.taken number
-  pub left : is ≡ record was { snapshots = record was.snapshots { taken = without_snapshot number was.snapshots.taken } }
+  pub left : is ≡ record was {
+    snapshots = record was.snapshots
+        { taken = without_snapshot number was.snapshots.taken };
+  }
 
 -- the numbers are spent, or memory ran out
 abbrev pub IsTakeFault : Held → StateFault → Type 0
@@ -38,18 +48,26 @@ Forgets h taken left = (left ≡ taken) ⊎ (left ≡ filter (is_among h.snapsho
 
 -- The one that was taken is known too.
 abbrev pub Notes : Held → (number sequence : ℕ) → (taken left : List (ℕ × ℕ)) → Type 0
-Notes h number sequence taken left = (mid : List (ℕ × ℕ)) × Forgets h taken mid × (left ≡ mid ++ (number, sequence) ∷ [])
+Notes h number sequence taken left =
+    (mid : List (ℕ × ℕ)) × Forgets h taken mid × (left ≡ mid ++ (number, sequence) ∷ [])
 
 -- ---- at one taking of the lock, of a state that has all that the channel knew
 
-abbrev pub IsTaken : (number sequence : ℕ) → (knew knows : List Entry) → (taken left : List (ℕ × ℕ)) → Type 0
-IsTaken number sequence knew knows taken left = (was : Held) × (is : Held) × IsToldBy was knew knows × TakesAt was is number sequence × Notes was number sequence taken left
+abbrev pub IsTaken : (number sequence : ℕ) → (knew knows : List Entry) → (taken left : List (ℕ × ℕ))
+    → Type 0
+IsTaken number sequence knew knows taken left =
+    (was : Held) × (is : Held) × IsToldBy was knew knows × TakesAt was is number sequence
+    × Notes was number sequence taken left
 
 abbrev pub IsUntaken : StateFault → (knew knows : List Entry) → (taken left : List (ℕ × ℕ)) → Type 0
-IsUntaken e knew knows taken left = (was : Held) × IsToldBy was knew knows × IsTakeFault was e × Forgets was taken left
+IsUntaken e knew knows taken left =
+    (was : Held) × IsToldBy was knew knows × IsTakeFault was e × Forgets was taken left
 
 abbrev pub IsReleased : ℕ → (knew knows : List Entry) → Type 0
-IsReleased number knew knows = (was : Held) × (is : Held) × IsToldBy was knew knows × ReleasesAt was is number
+IsReleased number knew knows =
+    (was : Held) × (is : Held) × IsToldBy was knew knows × ReleasesAt was is number
 
 abbrev pub IsUnreleased : ℕ → StateFault → (knew knows : List Entry) → Type 0
-IsUnreleased number e knew knows = (was : Held) × IsToldBy was knew knows × (e ≡ UnknownSnapshot number) × (HasId was.snapshots.taken number → ⊥)
+IsUnreleased number e knew knows =
+    (was : Held) × IsToldBy was knew knows × (e ≡ UnknownSnapshot number)
+    × (HasId was.snapshots.taken number → ⊥)

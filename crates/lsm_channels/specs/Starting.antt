@@ -35,23 +35,34 @@ pub record IsReopened (Honest : Type 0) (o : Options) (h : Held) (was is : Told)
   pub state : h ≡ opened_state o publisher pinners h.slots.version h.journal h.next false
   pub begun : IsBegun Honest o.manifest_limit h.journal h.slots.version h.next was is
 
--- The database that was there was opened, beside no log that LevelDB would read; or one was begun beside no log but empty ones.
+-- The database that was there was opened, beside no log that LevelDB would read; or one was begun
+-- beside no log but empty ones.
 abbrev pub IsStarted : Type 0 → Options → Start → List FolderFile → Held → Told → Told → Type 0
-IsStarted Honest o Open logs h was is = (mid : Told) × IsFlushed logs was mid × IsReopened Honest o h mid is
+IsStarted Honest o Open logs h was is =
+    (mid : Told) × IsFlushed logs was mid × IsReopened Honest o h mid is
 IsStarted Honest o (Begin number) logs h was is = NoneUnread 0 0 logs × IsNew o number h was is
 
 -- ---- refusals
 
 -- Why the database that is there was not opened.
-abbrev pub IsNotReopened : (ℕ → List ℕ → Type 0) → (Asked → ShelfFault → Type 0) → Type 0 → Options → WriterFault → Told → Told → Type 0
-IsNotReopened Stored Refused Honest o e was is = (fault : OpenFault) × (e ≡ of_open fault) × IsOpenRefusal Stored Refused Honest o.manifest_limit fault was is × IsReadOnce fault was is
+abbrev pub IsNotReopened : (ℕ → List ℕ → Type 0) → (Asked → ShelfFault → Type 0) → Type 0 → Options
+    → WriterFault → Told → Told → Type 0
+IsNotReopened Stored Refused Honest o e was is =
+    (fault : OpenFault) × (e ≡ of_open fault)
+    × IsOpenRefusal Stored Refused Honest o.manifest_limit fault was is × IsReadOnce fault was is
 
 -- Why it was not, or a log beside it is one that LevelDB would read.
-abbrev pub IsNotOpened : (ℕ → List ℕ → Type 0) → (Asked → ShelfFault → Type 0) → Type 0 → Options → List FolderFile → WriterFault → Told → Told → Type 0
+abbrev pub IsNotOpened : (ℕ → List ℕ → Type 0) → (Asked → ShelfFault → Type 0) → Type 0 → Options
+    → List FolderFile → WriterFault → Told → Told → Type 0
 IsNotOpened Stored Refused Honest o logs e was is =
-    IsUnflushed Refused logs e was is ⊎ ((mid : Told) × IsFlushed logs was mid × IsNotReopened Stored Refused Honest o e mid is)
+    IsUnflushed Refused logs e was is
+    ⊎ ((mid : Told) × IsFlushed logs was mid × IsNotReopened Stored Refused Honest o e mid is)
 
--- Why there is no such state. `Stored` says which images the shelf gave for which numbers, `Refused` which calls it may refuse with which faults.
-abbrev pub IsUnstarted : (ℕ → List ℕ → Type 0) → (Asked → ShelfFault → Type 0) → Type 0 → Options → Start → List FolderFile → WriterFault → Told → Told → Type 0
-IsUnstarted Stored Refused Honest o Open logs e was is = IsNotOpened Stored Refused Honest o logs e was is
-IsUnstarted Stored Refused Honest o (Begin number) logs e was is = IsUnbegun number logs Refused e was is
+-- Why there is no such state. `Stored` says which images the shelf gave for which numbers,
+-- `Refused` which calls it may refuse with which faults.
+abbrev pub IsUnstarted : (ℕ → List ℕ → Type 0) → (Asked → ShelfFault → Type 0) → Type 0 → Options
+    → Start → List FolderFile → WriterFault → Told → Told → Type 0
+IsUnstarted Stored Refused Honest o Open logs e was is =
+    IsNotOpened Stored Refused Honest o logs e was is
+IsUnstarted Stored Refused Honest o (Begin number) logs e was is =
+    IsUnbegun number logs Refused e was is

@@ -1,4 +1,5 @@
--- What a run of `bench` leaves of a folder (this project's rule). What it measures, and what it prints, is in no clause.
+-- What a run of `bench` leaves of a folder (this project's rule). What it measures, and what it
+-- prints, is in no clause.
 use Rattle.std.specs.Prelude.{◌≡◌, ℕ, List, false}
 use Rattle.atomic_table.specs.Seated.{TableId}
 use Rattle.lsm_folder.specs.Calls.{AreHonest}
@@ -18,16 +19,19 @@ use Rattle.lsm_cmd_write.specs.Starting.{IsNew}
 use Rattle.lsm_cmd_write.specs.declared.ingesting.start.Start.TheVariants.{Begin}
 use Rattle.lsm_cmd_bench.specs.Filled.{RunsAll}
 
--- A database was begun on the shelf, whose manifest has this number; into it came what the benchmarks bring in, one after another, which is in the lawful
--- state that was left; after the beginning the shelf was asked for forks alone.
-pub record IsBenchedOn (Honest : Type 0) (number : ℕ) (options : BenchOptions) (was is : Told) : Type 0 where
+-- A database was begun on the shelf, whose manifest has this number; into it came what the
+-- benchmarks bring in, one after another, which is in the lawful state that was left; after the
+-- beginning the shelf was asked for forks alone.
+pub record IsBenchedOn (Honest : Type 0) (number : ℕ) (options : BenchOptions) (was is : Told)
+    : Type 0 where
   pub found : Held
   pub mid : Told
   pub new : IsNew number found was mid
   pub left : Held
   pub board : TableId
   pub lawful : IsLawfulState Honest board left
-  pub came : RunsAll options.num options.value_size options.benchmarks.items (marked_in found) (marked_in left)
+  pub came : RunsAll options.num options.value_size options.benchmarks.items (marked_in found)
+      (marked_in left)
   pub forked : Forked mid is
 
 -- neither is a database begun where CURRENT was lost, nor beside a log that LevelDB would read
@@ -35,7 +39,8 @@ abbrev pub plainly : IngestOptions
 plainly = record { form = Hex; begins = false; beside_log = false }
 
 module _ {C M : Type 0} (folders : Ghosts C M) where
-  -- The lock of the folder at the path was held, and no database was there, nor a log but empty ones. On a shelf of it one was begun, and the benchmarks ran.
+  -- The lock of the folder at the path was held, and no database was there, nor a log but empty
+  -- ones. On a shelf of it one was begun, and the benchmarks ran.
   pub record BenchesAt (path : List ℕ) (options : BenchOptions) : Type 0 where
     pub number : ℕ
     pub logs : List FolderFile
@@ -43,4 +48,5 @@ module _ {C M : Type 0} (folders : Ghosts C M) where
     pub begun : FileShelf C M
     pub on : IsShelfAt folders path (IsPrepared plainly (Begin number) logs) begun
     pub ended : FileShelf C M
-    pub done : IsBenchedOn (AreHonest folders.calls) number options (told_by folders begun) (told_by folders ended)
+    pub done : IsBenchedOn (AreHonest folders.calls) number options (told_by folders begun)
+        (told_by folders ended)

@@ -8,7 +8,8 @@ use Rattle.lsm_text.specs.declared.benchmark.Benchmark.{Benchmark}
 use Rattle.lsm_text.specs.declared.benchmark.Benchmark.TheVariants as benchmark
 use Rattle.lsm_cmd_bench.specs.Pairs.{ArePairs}
 
--- So many pairs were cut into batches, of each of which the last write of each key came in, in their order, and nothing else did.
+-- So many pairs were cut into batches, of each of which the last write of each key came in, in
+-- their order, and nothing else did.
 pub record Fills (keys size : ℕ) (ascends : Bool) (pairs : ℕ) (was now : Marked) : Type 0 where
   pub ws : List Write
   pub are : ArePairs keys size ascends 0 ws
@@ -17,7 +18,8 @@ pub record Fills (keys size : ℕ) (ascends : Bool) (pairs : ℕ) (was now : Mar
   pub cut : IsCut ws batches
   pub came : CameIn was now batches
 
--- What a benchmark brings in, with so many keys and values of so many bytes: pairs by ascending keys; as many by drawn keys; a tenth as many; or none.
+-- What a benchmark brings in, with so many keys and values of so many bytes: pairs by ascending
+-- keys; as many by drawn keys; a tenth as many; or none.
 abbrev pub Runs : (keys size : ℕ) → Benchmark → Marked → Marked → Type 0
 Runs keys size benchmark.FillBatch was now = Fills keys size true keys was now
 Runs keys size benchmark.FillRandom was now = Fills keys size false keys was now
@@ -30,4 +32,5 @@ Runs keys size benchmark.Compact was now = now ≡ was
 -- one benchmark after another
 abbrev pub RunsAll : (keys size : ℕ) → List Benchmark → Marked → Marked → Type 0
 RunsAll keys size [] was now = now ≡ was
-RunsAll keys size (b ∷ bs) was now = (mid : Marked) × Runs keys size b was mid × RunsAll keys size bs mid now
+RunsAll keys size (b ∷ bs) was now =
+    (mid : Marked) × Runs keys size b was mid × RunsAll keys size bs mid now

@@ -1,5 +1,7 @@
--- The pairs that benchmarks bring in (this project's rule; the keys are those of LevelDB's `benchmarks/db_bench.cc`).
-use Rattle.std.specs.Prelude.{◌≡◌, ℕ, zero, suc, ◌+◌, ◌/◌, ◌%◌, ◌<◌, ◌≤◌, ⊤, Bool, IsTrue, List, [], ◌∷◌, ◌++◌, length, Some}
+-- The pairs that benchmarks bring in (this project's rule; the keys are those of LevelDB's
+-- `benchmarks/db_bench.cc`).
+use Rattle.std.specs.Prelude.{◌≡◌, ℕ, zero, suc, ◌+◌, ◌/◌, ◌%◌, ◌<◌, ◌≤◌, ⊤, Bool, IsTrue, List, []}
+use Rattle.std.specs.Prelude.{◌∷◌, ◌++◌, length, Some}
 use Rattle.lsm_batch.specs.declared.write.Write.{Write}
 
 -- the last decimal digits of a number, so many
@@ -28,4 +30,5 @@ pub record IsPairAt (keys size : ℕ) (ascends : Bool) (place : ℕ) (w : Write)
 -- pairs one after another, the first of which has this place
 abbrev pub ArePairs : (keys size : ℕ) → Bool → ℕ → List Write → Type 0
 ArePairs keys size ascends place [] = ⊤
-ArePairs keys size ascends place (w ∷ ws) = IsPairAt keys size ascends place w × ArePairs keys size ascends (suc place) ws
+ArePairs keys size ascends place (w ∷ ws) =
+    IsPairAt keys size ascends place w × ArePairs keys size ascends (suc place) ws

@@ -8,7 +8,8 @@ use Rattle.lsm_text.specs.FaultText.{refusal_text}
 use Rattle.lsm_script.specs.RefusalText.{merge_text, state_text}
 use Rattle.lsm_cmd_write.specs.WriterFault as writer
 use Rattle.lsm_cmd_compact.specs.declared.compact_fault.CompactFault.{CompactFault}
-use Rattle.lsm_cmd_compact.specs.declared.compact_fault.CompactFault.TheVariants.{Writer, Worker, OtherManifest}
+use Rattle.lsm_cmd_compact.specs.declared.compact_fault.CompactFault.TheVariants.{Writer, Worker}
+use Rattle.lsm_cmd_compact.specs.declared.compact_fault.CompactFault.TheVariants.{OtherManifest}
 
 abbrev pub worker_text : WorkerFault → List ℕ
 worker_text NoThread = refusal_text 1 (codes "OutOfMemory") None

@@ -1,5 +1,6 @@
--- What a `compact` comes to, for the words of its command line: this project's rule. It is about a folder that was opened at the path of
--- these words, and about shelves on its place; that such a shelf is the run's own is to be read.
+-- What a `compact` comes to, for the words of its command line: this project's rule. It is about a
+-- folder that was opened at the path of these words, and about shelves on its place; that such a
+-- shelf is the run's own is to be read.
 use Rattle.std.specs.Prelude.{◌⊎◌, ℕ, List, Option}
 use Rattle.std.specs.Io.KnownBytes.{Keeps}
 use Rattle.lsm_folder.specs.Calls.{AreHonest}
@@ -20,18 +21,22 @@ module _ {C M : Type 0} (folders : Ghosts C M) where
     pub begun : FileShelf C M
     pub on : IsShelfAt folders line.path.now (IsHeld Exclusive) begun
     pub ended : FileShelf C M
-    pub done : IsCompacted MayRefuse (AreHonest folders.calls) line.options.workers (told_by folders begun) (told_by folders ended) old new
+    pub done : IsCompacted MayRefuse (AreHonest folders.calls) line.options.workers
+        (told_by folders begun) (told_by folders ended) old new
 
 module _ {C M : Type 0} (folders : Ghosts C M) (marks : mark.Ghosts M) where
   -- The lock of the folder at the path was held. On a shelf of it this fault was met.
-  pub record IsUncompactedAt (line : CompactLine) (fault : CompactFault) (old new : Option (List ℕ)) : Type 0 where
+  pub record IsUncompactedAt (line : CompactLine) (fault : CompactFault) (old new : Option (List ℕ))
+      : Type 0 where
     pub begun : FileShelf C M
     pub on : IsShelfAt folders line.path.now (IsHeld Exclusive) begun
     pub ended : FileShelf C M
     pub refused :
-        IsNotCompacted (stored_at folders marks (told_by folders begun).place) MayRefuse (AreHonest folders.calls) line.options.workers fault
+        IsNotCompacted (stored_at folders marks (told_by folders begun).place) MayRefuse
+        (AreHonest folders.calls) line.options.workers fault
         (told_by folders begun) (told_by folders ended) old new
 
   -- nothing was written; or that
   abbrev pub IsUncompacted : CompactLine → (old new : Option (List ℕ)) → Type 0
-  IsUncompacted line old new = Keeps old new ⊎ ((fault : CompactFault) × IsUncompactedAt line fault old new)
+  IsUncompacted line old new = Keeps old new
+      ⊎ ((fault : CompactFault) × IsUncompactedAt line fault old new)

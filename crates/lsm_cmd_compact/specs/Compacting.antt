@@ -1,5 +1,6 @@
 -- What a `compact` leaves, and why it is refused (this project's rule).
-use Rattle.std.specs.Prelude.{◌≡◌, ◌≢◌, ℕ, ◌-◌, ◌⊎◌, false, List, [], ◌∷◌, ◌++◌, length, codes, decimal, replicate, All, Option, None, Some, Err}
+use Rattle.std.specs.Prelude.{◌≡◌, ◌≢◌, ℕ, ◌-◌, ◌⊎◌, false, List, [], ◌∷◌, ◌++◌, length, codes}
+use Rattle.std.specs.Prelude.{decimal, replicate, All, Option, None, Some, Err}
 use Rattle.std.specs.Io.KnownBytes.{Appends, Keeps}
 use Rattle.atomic_table.specs.Seated.{TableId}
 use Rattle.lsm_codec.specs.Entries.{answer}
@@ -8,7 +9,8 @@ use Rattle.lsm_folder.specs.Calls.{Call}
 use Rattle.lsm_folder.specs.declared.lock_kind.LockKind.TheVariants.{Exclusive}
 use Rattle.lsm_shelf.specs.Asked.{Asked, ReadManifest}
 use Rattle.lsm_shelf.specs.declared.shelf_fault.ShelfFault.{ShelfFault}
-use Rattle.lsm_shelf.specs.Told.{Place, Told, Becomes, CountedBy, Forked, NotNamed, NotTaken, finding, fresh}
+use Rattle.lsm_shelf.specs.Told.{Place, Told, Becomes, CountedBy, Forked, NotNamed, NotTaken}
+use Rattle.lsm_shelf.specs.Told.{finding, fresh}
 use Rattle.lsm_model.specs.Files.{all_entries}
 use Rattle.lsm_version.specs.Versions.{files}
 use Rattle.lsm_slots.specs.Slots.{current_id}
@@ -29,7 +31,8 @@ use Rattle.lsm_cmd_write.specs.Starting.{IsReopened, usual}
 use Rattle.lsm_cmd_write.specs.WriterFault.{of_open, of_shelf}
 use Rattle.lsm_cmd_write.specs.declared.faults.writer_fault.WriterFault.TheVariants.{OutOfMemory, Write as WriteFault, Directory, State}
 use Rattle.lsm_cmd_compact.specs.declared.compact_fault.CompactFault.{CompactFault}
-use Rattle.lsm_cmd_compact.specs.declared.compact_fault.CompactFault.TheVariants.{Writer, Worker, OtherManifest}
+use Rattle.lsm_cmd_compact.specs.declared.compact_fault.CompactFault.TheVariants.{Writer, Worker}
+use Rattle.lsm_cmd_compact.specs.declared.compact_fault.CompactFault.TheVariants.{OtherManifest}
 
 -- `installed M`
 abbrev pub installed_text : ℕ → List ℕ
@@ -45,7 +48,8 @@ abbrev pub AreFaultless : List (WorkerEnd × Option Told) → Type 0
 AreFaultless returned = All (λ r. IsFaultless r.0) returned
 
 -- the fault of the first worker that has one
-pub record IsFirstFault (fault : WorkerFault) (returned : List (WorkerEnd × Option Told)) : Type 0 where
+pub record IsFirstFault (fault : WorkerFault) (returned : List (WorkerEnd × Option Told))
+    : Type 0 where
   pub front : List (WorkerEnd × Option Told)
   pub first : WorkerEnd × Option Told
   pub back : List (WorkerEnd × Option Told)
@@ -53,14 +57,18 @@ pub record IsFirstFault (fault : WorkerFault) (returned : List (WorkerEnd × Opt
   pub faultless : AreFaultless front
   pub its : first.0.fault ≡ Some fault
 
--- So many workers ended, each as workers do. Each had a fork of the shelf, and this was told just what its worker did: jobs that it finished,
--- each with its outputs, and the installs of their results, in states of which the fact held.
-pub record AreEnds (Refused : Asked → ShelfFault → Type 0) (Honest : Type 0) (keeps : Held → Type 0) (place : Place) (workers : ℕ) (returned : List (WorkerEnd × Option Told)) : Type 0 where
+-- So many workers ended, each as workers do. Each had a fork of the shelf, and this was told just
+-- what its worker did: jobs that it finished, each with its outputs, and the installs of their
+-- results, in states of which the fact held.
+pub record AreEnds (Refused : Asked → ShelfFault → Type 0) (Honest : Type 0) (keeps : Held
+    → Type 0) (place : Place) (workers : ℕ) (returned
+    : List (WorkerEnd × Option Told)) : Type 0 where
   pub count : length returned ≡ workers
   pub each : All (λ r. IsWorkersEnd Honest r.0) returned
   pub shelves : AreReturned Honest Refused keeps (replicate workers (fresh place)) returned
 
--- how many versions were made current between two states of a database: where workers alone changed it, so many results were installed
+-- how many versions were made current between two states of a database: where workers alone changed
+-- it, so many results were installed
 abbrev pub installed_between : Held → Held → ℕ
 installed_between found left = current_id left.slots - current_id found.slots
 
@@ -70,27 +78,32 @@ installed_between found left = current_id left.slots - current_id found.slots
 abbrev pub newest : Held → UserKey → Option (List ℕ)
 newest h k = answer (all_entries (files h.slots.version)) k h.slots.version.last
 
--- What a compaction leaves of the state that was opened: workers alone changed it; all that had come in, the last sequence, the snapshots
--- and the pins are as they were found; and over an honest shelf each user key shows what it showed.
+-- What a compaction leaves of the state that was opened: workers alone changed it; all that had
+-- come in, the last sequence, the snapshots and the pins are as they were found; and over an honest
+-- shelf each user key shows what it showed.
 pub record LeavesAll (Honest : Type 0) (found left : Held) : Type 0 where
   pub by_workers : IsLeftByWorkers Honest found left
   pub shows : Honest → (k : UserKey) → newest left k ≡ newest found k
 
 -- ---- what the shelf was told
 
--- The directory was opened as this state, which has this board; after that the shelf was asked for forks alone.
-pub record IsOpened (Honest : Type 0) (board : TableId) (found : Held) (was is : Told) : Type 0 where
+-- The directory was opened as this state, which has this board; after that the shelf was asked for
+-- forks alone.
+pub record IsOpened (Honest : Type 0) (board : TableId) (found : Held) (was is : Told)
+    : Type 0 where
   pub mid : Told
   pub opened : IsReopened Honest found was mid
   pub on : found.slots.board.board ≡ board
   pub forked : Forked mid is
 
--- The manifest was read, and is the one that this state holds: so what it comes to is this state's version.
+-- The manifest was read, and is the one that this state holds: so what it comes to is this state's
+-- version.
 pub record IsNamed (left : Held) (was is : Told) : Type 0 where
   pub told : Becomes (finding left.journal.number left.journal.bytes was) is
   pub counts : SameCounts was is
 
--- The tables that are listed and that this state does not keep were removed. It is a lawful one, which has this board, and may write.
+-- The tables that are listed and that this state does not keep were removed. It is a lawful one,
+-- which has this board, and may write.
 pub record IsSwept (Honest : Type 0) (board : TableId) (left : Held) (was is : Told) : Type 0 where
   pub lawful : IsLawfulState Honest board left
   pub on : left.slots.board.board ≡ board
@@ -99,9 +112,11 @@ pub record IsSwept (Honest : Type 0) (board : TableId) (left : Held) (was is : T
   pub collected : AreCollected left removed was is
   pub counts : SameCounts was is
 
--- The directory was opened, and no worker ended with a fault. The state left has the board of the one opened, of which all is left, and so
--- many results were installed between both. The manifest that was read then is the one that it holds, and what nothing names was removed.
-pub record Compacts (Refused : Asked → ShelfFault → Type 0) (Honest : Type 0) (workers installed : ℕ) (was is : Told) : Type 0 where
+-- The directory was opened, and no worker ended with a fault. The state left has the board of the
+-- one opened, of which all is left, and so many results were installed between both. The manifest
+-- that was read then is the one that it holds, and what nothing names was removed.
+pub record Compacts (Refused : Asked → ShelfFault
+    → Type 0) (Honest : Type 0) (workers installed : ℕ) (was is : Told) : Type 0 where
   pub board : TableId
   pub found : Held
   pub left : Held
@@ -117,24 +132,29 @@ pub record Compacts (Refused : Asked → ShelfFault → Type 0) (Honest : Type 0
   pub swept : IsSwept Honest board left read is
 
 -- That was done, and how many results were installed was written.
-abbrev pub IsCompacted : (Asked → ShelfFault → Type 0) → Type 0 → ℕ → Told → Told → Option (List ℕ) → Option (List ℕ) → Type 0
+abbrev pub IsCompacted : (Asked → ShelfFault → Type 0) → Type 0 → ℕ → Told → Told → Option (List ℕ)
+    → Option (List ℕ) → Type 0
 IsCompacted Refused Honest workers was is old new =
-    (installed : ℕ) × Compacts Refused Honest workers installed was is × Appends old new (installed_text installed)
+    (installed : ℕ) × Compacts Refused Honest workers installed was is
+    × Appends old new (installed_text installed)
 
 -- ---- refusals
 
 -- The lock was asked for, and not held: another has it, or the folder refused.
 abbrev pub NoLock : List Call → CompactFault → Type 0
-NoLock calls e = (fault : DirectoryFault) × (after : List Call) × (e ≡ Writer (Directory fault)) × IsUnheld Exclusive fault calls after
+NoLock calls e = (fault : DirectoryFault) × (after : List Call) × (e ≡ Writer (Directory fault))
+    × IsUnheld Exclusive fault calls after
 
 -- Memory ran out before the shelf was asked for anything.
 abbrev pub IsOutOfMemory : CompactFault → Told → Told → Type 0
 IsOutOfMemory e was is = (e ≡ Writer OutOfMemory) × (is ≡ was)
 
 -- The directory was not opened.
-abbrev pub IsUnopened : (ℕ → List ℕ → Type 0) → (Asked → ShelfFault → Type 0) → Type 0 → CompactFault → Told → Told → Type 0
+abbrev pub IsUnopened : (ℕ → List ℕ → Type 0) → (Asked → ShelfFault → Type 0) → Type 0
+    → CompactFault → Told → Told → Type 0
 IsUnopened Stored Refused Honest e was is = (fault : OpenFault) × (e ≡ Writer (of_open fault))
-    × IsOpenRefusal Stored Refused Honest usual.manifest_limit fault was is × IsReadOnce fault was is
+    × IsOpenRefusal Stored Refused Honest usual.manifest_limit fault was is
+    × IsReadOnce fault was is
 
 -- Memory ran out before a worker began, or a shelf failed to fork.
 abbrev pub IsOfManning : CompactFault → Type 0
@@ -142,26 +162,33 @@ IsOfManning e = (fault : ShelfFault) × (e ≡ Writer (of_shelf fault)) × NotNa
 
 -- The directory was opened, and no worker began.
 abbrev pub IsUnmanned : Type 0 → CompactFault → Told → Told → Type 0
-IsUnmanned Honest e was is = IsOfManning e × ((board : TableId) × ((found : Held) × IsOpened Honest board found was is))
+IsUnmanned Honest e was is = IsOfManning e
+    × ((board : TableId) × ((found : Held) × IsOpened Honest board found was is))
 
 -- No worker began.
-abbrev pub NoneBegan : (ℕ → List ℕ → Type 0) → (Asked → ShelfFault → Type 0) → Type 0 → CompactFault → Told → Told → Type 0
-NoneBegan Stored Refused Honest e was is = IsUnopened Stored Refused Honest e was is ⊎ IsUnmanned Honest e was is
+abbrev pub NoneBegan : (ℕ → List ℕ → Type 0) → (Asked → ShelfFault → Type 0) → Type 0 → CompactFault
+    → Told → Told → Type 0
+NoneBegan Stored Refused Honest e was is =
+    IsUnopened Stored Refused Honest e was is ⊎ IsUnmanned Honest e was is
 
 -- Workers ended, the first one in their order that has a fault with this one.
-abbrev pub IsWorkersFault : (Asked → ShelfFault → Type 0) → Type 0 → (Held → Type 0) → Place → ℕ → CompactFault → Type 0
+abbrev pub IsWorkersFault : (Asked → ShelfFault → Type 0) → Type 0 → (Held → Type 0) → Place → ℕ
+    → CompactFault → Type 0
 IsWorkersFault Refused Honest keeps place workers e = (fault : WorkerFault) × (e ≡ Worker fault)
-    × ((returned : List (WorkerEnd × Option Told)) × AreEnds Refused Honest keeps place workers returned × IsFirstFault fault returned)
+    × ((returned : List (WorkerEnd × Option Told))
+    × AreEnds Refused Honest keeps place workers returned × IsFirstFault fault returned)
 
 -- The directory was opened, a worker ended with a fault, and nothing was removed.
-pub record IsUnfinished (Refused : Asked → ShelfFault → Type 0) (Honest : Type 0) (workers : ℕ) (e : CompactFault) (was is : Told) : Type 0 where
+pub record IsUnfinished (Refused : Asked → ShelfFault
+    → Type 0) (Honest : Type 0) (workers : ℕ) (e : CompactFault) (was is : Told) : Type 0 where
   pub board : TableId
   pub found : Held
   pub opened : IsOpened Honest board found was is
   pub stopped : IsWorkersFault Refused Honest (IsLeftByWorkers Honest found) was.place workers e
 
 -- The shelf refused to read the manifest, which it counted once, but for want of memory.
-pub record IsUnread (Refused : Asked → ShelfFault → Type 0) (fault : ShelfFault) (was is : Told) : Type 0 where
+pub record IsUnread (Refused : Asked → ShelfFault → Type 0) (fault : ShelfFault) (was is : Told)
+    : Type 0 where
   pub cause : NotTaken fault
   pub asked : Refused ReadManifest fault
   pub told : Becomes was is
@@ -178,11 +205,15 @@ pub record IsOther (left : Held) (was is : Told) : Type 0 where
 -- The manifest that this state holds was not found, and nothing was removed.
 abbrev pub IsUnnamed : (Asked → ShelfFault → Type 0) → Held → CompactFault → Told → Told → Type 0
 IsUnnamed Refused left e was is =
-    ((fault : ShelfFault) × (e ≡ Writer (of_shelf fault)) × IsUnread Refused fault was is) ⊎ ((e ≡ OtherManifest) × IsOther left was is)
+    ((fault : ShelfFault) × (e ≡ Writer (of_shelf fault)) × IsUnread Refused fault was is)
+    ⊎ ((e ≡ OtherManifest) × IsOther left was is)
 
--- This lawful state with this board refused to collect; its refusal says what was removed until then. Where it was the shelf, other than for
--- want of memory, it refused to list its tables, or to remove one that is not kept.
-pub record Refuses (Refused : Asked → ShelfFault → Type 0) (Honest : Type 0) (board : TableId) (left : Held) (fault : StateFault) (was is : Told) : Type 0 where
+-- This lawful state with this board refused to collect; its refusal says what was removed until
+-- then. Where it was the shelf, other than for want of memory, it refused to list its tables, or to
+-- remove one that is not kept.
+pub record Refuses (Refused : Asked → ShelfFault
+    → Type 0) (Honest : Type 0) (board : TableId) (left : Held) (fault : StateFault) (was is
+    : Told) : Type 0 where
   pub before : Held
   pub lawful : IsLawfulState Honest board left
   pub on : left.slots.board.board ≡ board
@@ -191,14 +222,19 @@ pub record Refuses (Refused : Asked → ShelfFault → Type 0) (Honest : Type 0)
   pub counts : IsCountedOnce fault was is
   pub asked : OnShelf (CollectRefused Refused left) fault
 
--- Why this state does not sweep: its manifest was not found; or it was, and the collect was refused.
-abbrev pub StopsSweeping : (Asked → ShelfFault → Type 0) → Type 0 → TableId → Held → CompactFault → Told → Told → Type 0
+-- Why this state does not sweep: its manifest was not found; or it was, and the collect was
+-- refused.
+abbrev pub StopsSweeping : (Asked → ShelfFault → Type 0) → Type 0 → TableId → Held → CompactFault
+    → Told → Told → Type 0
 StopsSweeping Refused Honest board left e was is =
     IsUnnamed Refused left e was is
-    ⊎ ((fault : StateFault) × (read : Told) × (e ≡ Writer (State fault)) × IsNamed left was read × Refuses Refused Honest board left fault read is)
+    ⊎ ((fault : StateFault) × (read : Told) × (e ≡ Writer (State fault)) × IsNamed left was read
+    × Refuses Refused Honest board left fault read is)
 
--- No worker ended with a fault, and nothing or not all was removed, by a state with the board of the one opened, of which all is left.
-pub record IsUnswept (Refused : Asked → ShelfFault → Type 0) (Honest : Type 0) (workers : ℕ) (e : CompactFault) (was is : Told) : Type 0 where
+-- No worker ended with a fault, and nothing or not all was removed, by a state with the board of
+-- the one opened, of which all is left.
+pub record IsUnswept (Refused : Asked → ShelfFault
+    → Type 0) (Honest : Type 0) (workers : ℕ) (e : CompactFault) (was is : Told) : Type 0 where
   pub board : TableId
   pub found : Held
   pub left : Held
@@ -211,11 +247,14 @@ pub record IsUnswept (Refused : Asked → ShelfFault → Type 0) (Honest : Type 
   pub stops : StopsSweeping Refused Honest board left e mid is
 
 -- All was done, and the reply was not written.
-abbrev pub IsUntold : (Asked → ShelfFault → Type 0) → Type 0 → ℕ → CompactFault → Told → Told → Type 0
-IsUntold Refused Honest workers e was is = (e ≡ Writer WriteFault) × ((installed : ℕ) × Compacts Refused Honest workers installed was is)
+abbrev pub IsUntold : (Asked → ShelfFault → Type 0) → Type 0 → ℕ → CompactFault → Told → Told
+    → Type 0
+IsUntold Refused Honest workers e was is =
+    (e ≡ Writer WriteFault) × ((installed : ℕ) × Compacts Refused Honest workers installed was is)
 
 -- What a fault says.
-abbrev pub IsCompactFault : (ℕ → List ℕ → Type 0) → (Asked → ShelfFault → Type 0) → Type 0 → ℕ → CompactFault → Told → Told → Type 0
+abbrev pub IsCompactFault : (ℕ → List ℕ → Type 0) → (Asked → ShelfFault → Type 0) → Type 0 → ℕ
+    → CompactFault → Told → Told → Type 0
 IsCompactFault Stored Refused Honest workers e was is =
     IsOutOfMemory e was is
     ⊎ (NoneBegan Stored Refused Honest e was is
@@ -223,7 +262,10 @@ IsCompactFault Stored Refused Honest workers e was is =
     ⊎ (IsUnswept Refused Honest workers e was is
     ⊎ IsUntold Refused Honest workers e was is)))
 
--- What a refusal is: what the fault says; and, unless a write failed, nothing was written on standard output.
-pub record IsNotCompacted (Stored : ℕ → List ℕ → Type 0) (Refused : Asked → ShelfFault → Type 0) (Honest : Type 0) (workers : ℕ) (fault : CompactFault) (was is : Told) (old new : Option (List ℕ)) : Type 0 where
+-- What a refusal is: what the fault says; and, unless a write failed, nothing was written on
+-- standard output.
+pub record IsNotCompacted (Stored : ℕ → List ℕ → Type 0) (Refused : Asked → ShelfFault
+    → Type 0) (Honest : Type 0) (workers : ℕ) (fault : CompactFault) (was is : Told) (old new
+    : Option (List ℕ)) : Type 0 where
   pub says : IsCompactFault Stored Refused Honest workers fault was is
   pub left : fault ≢ Writer WriteFault → Keeps old new

@@ -1,7 +1,9 @@
--- The picture of a shape, as SVG: this project's rule. Under the words of each level that has files stand its files as bars, in the
--- level's order: those of level 0 one below another, those of another level in one row. A bar goes along the axis of keys from the file's
--- least to its greatest user key, and its title tells the file. Lengths are in hundredths of a point.
-use Rattle.std.specs.Prelude.{ℕ, zero, suc, ◌+◌, ◌-◌, ◌*◌, ◌/◌, ◌%◌, ◌==◌, max, Bool, List, [], ◌∷◌, ◌++◌, length, codes, decimal, Option, cond}
+-- The picture of a shape, as SVG: this project's rule. Under the words of each level that has files
+-- stand its files as bars, in the level's order: those of level 0 one below another, those of
+-- another level in one row. A bar goes along the axis of keys from the file's least to its greatest
+-- user key, and its title tells the file. Lengths are in hundredths of a point.
+use Rattle.std.specs.Prelude.{ℕ, zero, suc, ◌+◌, ◌-◌, ◌*◌, ◌/◌, ◌%◌, ◌==◌, max, Bool, List, [], ◌∷◌}
+use Rattle.std.specs.Prelude.{◌++◌, length, codes, decimal, Option, cond}
 use Rattle.std.specs.List.{flat_map}
 use Rattle.lsm_codec.specs.Keys.{user_part}
 use Rattle.lsm_manifest.specs.declared.file_meta.FileMeta.{FileMeta}
@@ -19,7 +21,8 @@ use Rattle.lsm_cmd_levels.specs.declared.drawing.TheConstants.{OPENING, STYLE}
 
 -- a byte as XML spells it
 abbrev pub escaped_byte : ℕ → List ℕ
-escaped_byte b = cond (b == 38) (codes "&amp;") (cond (b == 60) (codes "&lt;") (cond (b == 62) (codes "&gt;") (b ∷ [])))
+escaped_byte b = cond (b == 38) (codes "&amp;") (cond (b
+    == 60) (codes "&lt;") (cond (b == 62) (codes "&gt;") (b ∷ [])))
 
 unfoldable pub escaped : List ℕ → List ℕ
 escaped text = flat_map escaped_byte text
@@ -50,7 +53,8 @@ abbrev pub left_of : Shape → FileMeta → ℕ
 left_of s f = across s (begin_of s (user_part f.smallest))
 
 abbrev pub width_of : Shape → (taken : Bool) → FileMeta → ℕ
-width_of s taken f = max (cond taken 200 40) (across s (end_of s (user_part f.largest)) - left_of s f)
+width_of s taken f = max (cond taken 200 40) (across s (end_of s (user_part f.largest))
+    - left_of s f)
 
 -- how far it stands out of its row
 abbrev pub rise : (taken : Bool) → ℕ
@@ -63,23 +67,28 @@ row_of s level index = top_of s level + (2000 + cond (level == 0) (index * 2000)
 -- a file that is taken has another colour, and every second file a lighter one
 abbrev pub class_words : (taken : Bool) → (index : ℕ) → List ℕ
 class_words taken index =
-    cond taken (codes "<rect class=\"due") (codes "<rect class=\"kept") ++ cond (index % 2 == 0) (codes "\"") (codes " odd\"")
+    cond taken (codes "<rect class=\"due") (codes "<rect class=\"kept")
+    ++ cond (index % 2 == 0) (codes "\"") (codes " odd\"")
 
 unfoldable pub place_words : Shape → (level index : ℕ) → (taken : Bool) → FileMeta → List ℕ
 place_words s level index taken f =
-    attribute (codes " x=\"") (left_of s f) ++ (attribute (codes " y=\"") (row_of s level index - rise taken)
-    ++ (attribute (codes " width=\"") (width_of s taken f) ++ attribute (codes " height=\"") (1600 + 2 * rise taken)))
+    attribute (codes " x=\"") (left_of s f)
+    ++ (attribute (codes " y=\"") (row_of s level index - rise taken)
+    ++ (attribute (codes " width=\"") (width_of s taken f)
+    ++ attribute (codes " height=\"") (1600 + 2 * rise taken)))
 
 -- `file N bytes B SMALLEST to LARGEST`
 unfoldable pub title_words : Form → FileMeta → List ℕ
 title_words form f =
     labelled (codes "file ") f.number ++ (labelled (codes " bytes ") f.size
-    ++ (32 ∷ (escaped (key_word_in form f.smallest) ++ (codes " to " ++ escaped (key_word_in form f.largest)))))
+    ++ (32 ∷ (escaped (key_word_in form f.smallest)
+    ++ (codes " to " ++ escaped (key_word_in form f.largest)))))
 
 -- the bar of a file, which is taken or not
 unfoldable pub bar_as : Form → Shape → (level index : ℕ) → (taken : Bool) → FileMeta → List ℕ
 bar_as form s level index taken f =
-    class_words taken index ++ (place_words s level index taken f ++ (codes "><title>" ++ (title_words form f ++ codes "</title></rect>\n")))
+    class_words taken index ++ (place_words s level index taken f
+    ++ (codes "><title>" ++ (title_words form f ++ codes "</title></rect>\n")))
 
 abbrev pub bar : Form → Shape → Option Due → (level index : ℕ) → FileMeta → List ℕ
 bar form s due level index f = bar_as form s level index (is_taken due level f) f
@@ -89,7 +98,8 @@ bar form s due level index f = bar_as form s level index (is_taken due level f) 
 -- the bars of files, of which the first has this index
 unfoldable pub bars_from : Form → Shape → Option Due → (level index : ℕ) → List FileMeta → List ℕ
 bars_from form s due level index [] = []
-bars_from form s due level index (f ∷ fs) = bar form s due level index f ++ bars_from form s due level (suc index) fs
+bars_from form s due level index (f ∷ fs) =
+    bar form s due level index f ++ bars_from form s due level (suc index) fs
 
 -- words in a line of their own
 unfoldable pub text_line : ℕ → List ℕ → List ℕ
@@ -97,12 +107,14 @@ text_line place words = attribute (codes "<text y=\"") place ++ (62 ∷ (words +
 
 unfoldable pub level_picture : Form → Shape → Option Due → ℕ → List FileMeta → List ℕ
 level_picture form s due level fs =
-    cond (length fs == 0) [] (text_line (top_of s level + 1300) (level_words level fs) ++ bars_from form s due level 0 fs)
+    cond (length fs == 0) [] (text_line (top_of s level + 1300) (level_words level fs)
+    ++ bars_from form s due level 0 fs)
 
 -- ---- the whole
 
 unfoldable pub size_words : ℕ → List ℕ
-size_words height = attribute (codes " height=\"") (height / 100) ++ attribute (codes " viewBox=\"-2000 0 104000 ") height
+size_words height = attribute (codes " height=\"") (height / 100)
+    ++ attribute (codes " viewBox=\"-2000 0 104000 ") height
 
 unfoldable pub head_words : ℕ → List ℕ
 head_words height = OPENING.now ++ (size_words height ++ (codes ">\n" ++ STYLE.now))
@@ -113,4 +125,5 @@ foot_words s rest due =
 
 unfoldable pub picture_text : Form → Shape → ℕ → Option Due → List ℕ
 picture_text form s rest due =
-    head_words (top_of s 7 + 2400) ++ (level_texts (λ n. level_picture form s due n (files_at s n)) 7 ++ foot_words s rest due)
+    head_words (top_of s 7 + 2400)
+    ++ (level_texts (λ n. level_picture form s due n (files_at s n)) 7 ++ foot_words s rest due)

@@ -1,6 +1,7 @@
--- Which compaction is due next, by a shape alone: this project's order of candidates, where no job is live. `lsm_picker` decides it over
--- tables that were judged.
-use Rattle.std.specs.Prelude.{◌≡◌, ◌⊎◌, ℕ, suc, ◌<◌, ◌≤◌, Bool, true, false, ◌&&◌, ◌||◌, ◌==◌, List, [], ◌∷◌, ◌++◌, Option, Some, None, get_or, cond}
+-- Which compaction is due next, by a shape alone: this project's order of candidates, where no job
+-- is live. `lsm_picker` decides it over tables that were judged.
+use Rattle.std.specs.Prelude.{◌≡◌, ◌⊎◌, ℕ, suc, ◌<◌, ◌≤◌, Bool, true, false, ◌&&◌, ◌||◌, ◌==◌, List}
+use Rattle.std.specs.Prelude.{[], ◌∷◌, ◌++◌, Option, Some, None, get_or, cond}
 use Rattle.std.specs.Ordering.{is_gt, nat_cmp, ordering_then}
 use Rattle.std.specs.Cmp.Lexicographic.{slice_cmp}
 use Rattle.std.specs.declared.cmp.Ordering.{Ordering}
@@ -33,7 +34,8 @@ IsFirstDue s (Some level) = IsDue s level × ((other : ℕ) → IsDue s other �
 
 -- internal keys: user keys ascending, of one user key the newest first
 abbrev pub bytes_cmp : List ℕ → List ℕ → Ordering
-bytes_cmp a b = ordering_then (slice_cmp nat_cmp (user_part a) (user_part b)) (nat_cmp (packed_part b) (packed_part a))
+bytes_cmp a b = ordering_then (slice_cmp nat_cmp (user_part a) (user_part b))
+    (nat_cmp (packed_part b) (packed_part a))
 
 -- the file's largest key is beyond the compaction pointer of its level, or there is none
 abbrev pub is_beyond : Option (List ℕ) → FileMeta → Bool
@@ -44,24 +46,29 @@ is_beyond (Some key) f = is_gt (bytes_cmp f.largest key)
 abbrev pub NoneBeyond : Option (List ℕ) → List FileMeta → Type 0
 NoneBeyond pointer fs = (f : FileMeta) → Has fs f → is_beyond pointer f ≡ false
 
--- the first file of the level that is beyond its pointer; where there is no such one, the first file
+-- the first file of the level that is beyond its pointer; where there is no such one, the first
+-- file
 abbrev pub IsStart : Option (List ℕ) → List FileMeta → FileMeta → Type 0
 IsStart pointer fs f =
-    ((front : List FileMeta) × (back : List FileMeta) × (fs ≡ front ++ f ∷ back) × NoneBeyond pointer front × (is_beyond pointer f ≡ true))
+    ((front : List FileMeta) × (back : List FileMeta) × (fs ≡ front ++ f ∷ back)
+    × NoneBeyond pointer front × (is_beyond pointer f ≡ true))
     ⊎ (NoneBeyond pointer fs × ((back : List FileMeta) × (fs ≡ f ∷ back)))
 
 -- ---- what it takes
 
--- The files of its level that the first one reaches, and those of the next level that their range reaches.
+-- The files of its level that the first one reaches, and those of the next level that their range
+-- reaches.
 abbrev pub IsDueNext : Shape → Option Due → Type 0
 IsDueNext s None = IsFirstDue s None
 IsDueNext s (Some d) =
     IsFirstDue s (Some d.level)
-    × ((f : FileMeta) × IsStart (get_or s.pointers d.level None) (files_at s d.level) f × IsReach (files_at s d.level) (span_of f) (span_in d.upper))
+    × ((f : FileMeta) × IsStart (get_or s.pointers d.level None) (files_at s d.level) f
+    × IsReach (files_at s d.level) (span_of f) (span_in d.upper))
     × IsReach (files_at s (suc d.level)) (span_in d.upper) (span_in d.lower)
 
 -- a file of this level is taken
 abbrev pub is_taken : Option Due → ℕ → FileMeta → Bool
 is_taken None level f = false
 is_taken (Some d) level f =
-    (level == d.level && meets (span_in d.upper) (span_of f)) || (level == suc d.level && meets (span_in d.lower) (span_of f))
+    (level == d.level && meets (span_in d.upper) (span_of f))
+    || (level == suc d.level && meets (span_in d.lower) (span_of f))

@@ -1,5 +1,6 @@
--- What a run of `levels` comes to, for the words of its command line: this project's rule. It is about a folder that was opened at the path
--- of these words, and about a shelf on its place; that such a shelf is the run's own is to be read.
+-- What a run of `levels` comes to, for the words of its command line: this project's rule. It is
+-- about a folder that was opened at the path of these words, and about a shelf on its place; that
+-- such a shelf is the run's own is to be read.
 use Rattle.std.specs.Prelude.{◌≡◌, ◌⊎◌, ℕ, List, Option, ⊤}
 use Rattle.std.specs.Io.KnownBytes.{Appends, Keeps}
 use Rattle.lsm_folder.specs.declared.folder_calls.FolderCalls.{Ghosts}
@@ -35,17 +36,22 @@ text_of form Levels s rest due = levels_text s rest due
 text_of form Files s rest due = files_text form s rest due
 text_of form Svg s rest due = picture_text form s rest due
 
--- The text shows the shape, with the compaction that is due next in it, and so many bytes at the manifest's end that hold no whole record.
+-- The text shows the shape, with the compaction that is due next in it, and so many bytes at the
+-- manifest's end that hold no whole record.
 abbrev pub IsShown : Form → LevelsOutput → Shape → ℕ → List ℕ → Type 0
-IsShown form output s rest text = (due : Option Due) × IsDueNext s due × (text ≡ text_of form output s rest due)
+IsShown form output s rest text =
+    (due : Option Due) × IsDueNext s due × (text ≡ text_of form output s rest due)
 
 abbrev pub Shows : Form → LevelsOutput → Shape → ℕ → Option (List ℕ) → Option (List ℕ) → Type 0
-Shows form output s rest old new = (text : List ℕ) × IsShown form output s rest text × Appends old new text
+Shows form output s rest old new =
+    (text : List ℕ) × IsShown form output s rest text × Appends old new text
 
 -- Memory was refused, and nothing was written; or a write failed, and a beginning of the text was.
-abbrev pub IsUnshown : Form → LevelsOutput → Shape → ℕ → DirectoryFault → Option (List ℕ) → Option (List ℕ) → Type 0
+abbrev pub IsUnshown : Form → LevelsOutput → Shape → ℕ → DirectoryFault → Option (List ℕ)
+    → Option (List ℕ) → Type 0
 IsUnshown form output s rest why.OutOfMemory old new = Keeps old new
-IsUnshown form output s rest why.Write old new = (text : List ℕ) × IsShown form output s rest text × Begins old new text
+IsUnshown form output s rest why.Write old new =
+    (text : List ℕ) × IsShown form output s rest text × Begins old new text
 IsUnshown form output s rest (why.Manifest fault) old new = ⊥
 IsUnshown form output s rest (why.Shelf fault) old new = ⊥
 IsUnshown form output s rest (why.Tables fault) old new = ⊥
@@ -56,8 +62,8 @@ IsUnshown form output s rest why.Absent old new = ⊥
 
 -- ---- a shelf
 
--- The manifest that the directory names was read, and nothing else was asked of the shelf. It is edits that come to the shape, and so many
--- bytes at its end hold no whole record.
+-- The manifest that the directory names was read, and nothing else was asked of the shelf. It is
+-- edits that come to the shape, and so many bytes at its end hold no whole record.
 pub record Names (was is : Told) (s : Shape) (rest : ℕ) : Type 0 where
   pub held : HeldManifest
   pub recovered : IsRecovered held s rest
@@ -76,43 +82,55 @@ IsNotNamed Refused why.Locked was is = ⊥
 IsNotNamed Refused why.Absent was is = ⊥
 
 -- That shape was shown; and where there is no log to note, standard error is as it was.
-pub record IsLaidOut (form : Form) (output : LevelsOutput) (others : List FolderFile) (was is : Told) (old new said_old said_new : Option (List ℕ)) : Type 0 where
+pub record IsLaidOut (form : Form) (output : LevelsOutput) (others : List FolderFile)
+    (was is : Told) (old new said_old said_new : Option (List ℕ)) : Type 0 where
   pub shape : Shape
   pub rest : ℕ
   pub named : Names was is shape rest
   pub shown : Shows form output shape rest old new
   pub quiet : NoneUnread shape.log shape.prev_log others → Keeps said_old said_new
 
--- What a fault says: the manifest could not be read, and nothing was written; or it was read, and its shape could not be shown.
-abbrev pub IsLayoutFault : (Asked → ShelfFault → Type 0) → Form → LevelsOutput → DirectoryFault → Told → Told → Option (List ℕ) → Option (List ℕ) → Type 0
+-- What a fault says: the manifest could not be read, and nothing was written; or it was read, and
+-- its shape could not be shown.
+abbrev pub IsLayoutFault : (Asked → ShelfFault → Type 0) → Form → LevelsOutput → DirectoryFault
+    → Told → Told → Option (List ℕ) → Option (List ℕ) → Type 0
 IsLayoutFault Refused form output fault was is old new =
     (IsNotNamed Refused fault was is × Keeps old new)
     ⊎ ((s : Shape) × (rest : ℕ) × Names was is s rest × IsUnshown form output s rest fault old new)
 
 -- Between these moments the shelf was asked for its manifest at most.
 abbrev pub ReadsManifest : Told → Told → Type 0
-ReadsManifest was is = Becomes was is ⊎ ((number : ℕ) × (bytes : List ℕ) × Becomes (finding number bytes was) is)
+ReadsManifest was is = Becomes was is
+    ⊎ ((number : ℕ) × (bytes : List ℕ) × Becomes (finding number bytes was) is)
 
 -- ---- a folder
 
 module _ {C M : Type 0} (folders : Ghosts C M) where
-  -- The lock of the folder at the path was held, and these files were found beside its tables. On a shelf of it the command was done.
-  pub record LaysOutAt (line : LevelsLine) (old new said_old said_new : Option (List ℕ)) : Type 0 where
+  -- The lock of the folder at the path was held, and these files were found beside its tables. On a
+  -- shelf of it the command was done.
+  pub record LaysOutAt (line : LevelsLine) (old new said_old said_new : Option (List ℕ))
+      : Type 0 where
     pub others : List FolderFile
     pub begun : FileShelf C M
     pub on : IsShelfAt folders line.path.now (TellsBeside others) begun
     pub ended : FileShelf C M
-    pub done : IsLaidOut line.form line.output others (told_by folders begun) (told_by folders ended) old new said_old said_new
+    pub done : IsLaidOut line.form line.output others (told_by folders begun)
+        (told_by folders ended) old new said_old said_new
 
   -- That was so, and on the shelf this fault was met.
-  pub record FailsAt (line : LevelsLine) (fault : DirectoryFault) (old new : Option (List ℕ)) : Type 0 where
+  pub record FailsAt (line : LevelsLine) (fault : DirectoryFault) (old new : Option (List ℕ))
+      : Type 0 where
     pub others : List FolderFile
     pub begun : FileShelf C M
     pub on : IsShelfAt folders line.path.now (TellsBeside others) begun
     pub ended : FileShelf C M
-    pub says : IsLayoutFault MayRefuse line.form line.output fault (told_by folders begun) (told_by folders ended) old new
+    pub says : IsLayoutFault MayRefuse line.form line.output fault (told_by folders begun)
+        (told_by folders ended) old new
     pub reads : ReadsManifest (told_by folders begun) (told_by folders ended)
 
-  -- memory ran out, or the folder was not opened, locked or looked at, and nothing was written; or what is above
+  -- memory ran out, or the folder was not opened, locked or looked at, and nothing was written; or
+  -- what is above
   abbrev pub FailsToLayOut : LevelsLine → DirectoryFault → (old new : Option (List ℕ)) → Type 0
-  FailsToLayOut line fault old new = ((IsFolderFault fault ⊎ (fault ≡ why.OutOfMemory)) × Keeps old new) ⊎ FailsAt line fault old new
+  FailsToLayOut line fault old new =
+      ((IsFolderFault fault ⊎ (fault ≡ why.OutOfMemory)) × Keeps old new)
+      ⊎ FailsAt line fault old new

@@ -1,5 +1,6 @@
 -- What is printed of a shape: this project's rule. Keys stand in a form: hex, or text.
-use Rattle.std.specs.Prelude.{ℕ, zero, suc, ◌/◌, ◌%◌, List, [], ◌∷◌, ◌++◌, length, codes, decimal, Option, Some, None, cond, nat_le}
+use Rattle.std.specs.Prelude.{ℕ, zero, suc, ◌/◌, ◌%◌, List, [], ◌∷◌, ◌++◌, length, codes, decimal}
+use Rattle.std.specs.Prelude.{Option, Some, None, cond, nat_le}
 use Rattle.std.specs.List.{flat_map}
 use Rattle.lsm_manifest.specs.declared.file_meta.FileMeta.{FileMeta}
 use Rattle.lsm_manifest.specs.declared.shape.Shape.{Shape}
@@ -24,12 +25,15 @@ two_decimals n = decimal (n / 100) ++ (46 ∷ (decimal (n % 100 / 10) ++ decimal
 
 -- ` score S`; level 6 has none
 abbrev pub score_words : ℕ → List FileMeta → List ℕ
-score_words level fs = cond (nat_le level 5) (codes " score " ++ two_decimals (hundredths (weight level fs))) []
+score_words level fs = cond (nat_le level 5) (codes " score "
+    ++ two_decimals (hundredths (weight level fs))) []
 
 -- `level L files F bytes B score S`
 unfoldable pub level_words : ℕ → List FileMeta → List ℕ
 level_words level fs =
-    labelled (codes "level ") level ++ (labelled (codes " files ") (length fs) ++ (labelled (codes " bytes ") (bytes_of fs) ++ score_words level fs))
+    labelled (codes "level ") level
+    ++ (labelled (codes " files ") (length fs)
+    ++ (labelled (codes " bytes ") (bytes_of fs) ++ score_words level fs))
 
 -- ---- files
 
@@ -40,7 +44,9 @@ number_word n = decimal n ++ (32 ∷ [])
 -- `LEVEL NUMBER SIZE SMALLEST LARGEST`, the last two as `KEY@SEQ+` or `KEY@SEQ-`
 unfoldable pub file_line : Form → ℕ → FileMeta → List ℕ
 file_line form level f =
-    number_word level ++ (number_word f.number ++ (number_word f.size ++ (key_word_in form f.smallest ++ (32 ∷ (key_word_in form f.largest ++ (10 ∷ []))))))
+    number_word level ++ (number_word f.number
+    ++ (number_word f.size ++ (key_word_in form f.smallest
+    ++ (32 ∷ (key_word_in form f.largest ++ (10 ∷ []))))))
 
 -- the line of a level
 unfoldable pub level_line : ℕ → List FileMeta → List ℕ
@@ -88,4 +94,5 @@ unfoldable pub levels_text : Shape → ℕ → Option Due → List ℕ
 levels_text s rest due = level_texts (λ n. level_line n (files_at s n)) 7 ++ end_lines s rest due
 
 unfoldable pub files_text : Form → Shape → ℕ → Option Due → List ℕ
-files_text form s rest due = level_texts (λ n. level_lines form n (files_at s n)) 7 ++ end_lines s rest due
+files_text form s rest due = level_texts (λ n. level_lines form n (files_at s n)) 7
+    ++ end_lines s rest due

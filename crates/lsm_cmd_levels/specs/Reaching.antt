@@ -1,5 +1,6 @@
--- Which files a range of user keys reaches in a level, where each meets the range or one that it reached (LevelDB's
--- `Version::GetOverlappingInputs`; that it is so in every level is this project's rule).
+-- Which files a range of user keys reaches in a level, where each meets the range or one that it
+-- reached (LevelDB's `Version::GetOverlappingInputs`; that it is so in every level is this
+-- project's rule).
 use Rattle.std.specs.Prelude.{◌≡◌, Bool, true, ◌&&◌, List}
 use Rattle.lsm_codec.specs.Keys.{UserKey, UserLe, user_le, user_part}
 use Rattle.lsm_codec.specs.Lists.{Has}
@@ -55,7 +56,8 @@ pub record IsHull (a b r : Span) : Type 0 where
   pub second : IsWithin b r
   pub least : (q : Span) → IsWithin a q → IsWithin b q → IsWithin r q
 
--- The range has the first one in it, and each of these files that meets that. It lies within each range that is closed in all files.
+-- The range has the first one in it, and each of these files that meets that. It lies within each
+-- range that is closed in all files.
 pub record IsGrown (all fs : List FileMeta) (from r : Span) : Type 0 where
   pub holds : IsWithin from r
   pub met : (f : FileMeta) → Has fs f → meets from (span_of f) ≡ true → IsWithin (span_of f) r

@@ -1,5 +1,5 @@
--- How much a level has and may have, by a shape alone (LevelDB's `doc/impl.md`, "Compactions", and `VersionSet::Finalize` of
--- `db/version_set.cc`).
+-- How much a level has and may have, by a shape alone (LevelDB's `doc/impl.md`, "Compactions", and
+-- `VersionSet::Finalize` of `db/version_set.cc`).
 use Rattle.std.specs.Prelude.{ℕ, zero, suc, ◌+◌, ◌-◌, ◌*◌, ◌/◌, ◌^◌, List, [], length, get_or}
 use Rattle.std.specs.List.{sum_by}
 use Rattle.lsm_manifest.specs.declared.file_meta.FileMeta.{FileMeta}
@@ -13,8 +13,8 @@ files_at s level = get_or s.levels level []
 abbrev pub bytes_of : List FileMeta → ℕ
 bytes_of fs = sum_by (λ (f : FileMeta). f.size) fs
 
--- A score of 1 is four files at level 0, 10,485,760 bytes at level 1, and ten times as much at each further level. A weight is a score in
--- parts, of which so many are 1.
+-- A score of 1 is four files at level 0, 10,485,760 bytes at level 1, and ten times as much at each
+-- further level. A weight is a score in parts, of which so many are 1.
 abbrev pub whole : ℕ
 whole = 104857600000
 

@@ -1,5 +1,6 @@
 -- What a `load` leaves of a database, and why it ends early (this project's rule).
-use Rattle.std.specs.Prelude.{◌≡◌, ◌≢◌, ◌⊎◌, ℕ, ◌+◌, ◌-◌, ◌<◌, ◌^◌, List, [], ◌∷◌, ◌++◌, codes, decimal, Option}
+use Rattle.std.specs.Prelude.{◌≡◌, ◌≢◌, ◌⊎◌, ℕ, ◌+◌, ◌-◌, ◌<◌, ◌^◌, List, [], ◌∷◌, ◌++◌, codes}
+use Rattle.std.specs.Prelude.{decimal, Option}
 use Rattle.std.specs.Io.KnownBytes.{Appends, Keeps}
 use Rattle.atomic_table.specs.Seated.{TableId}
 use Rattle.lsm_shelf.specs.Asked.{Asked}
@@ -14,7 +15,8 @@ use Rattle.lsm_lines.specs.Gathering.{Pending}
 use Rattle.lsm_lines.specs.Passing.{PassesLines}
 use Rattle.lsm_cmd_compact.specs.Compacting.{IsSwept, Refuses}
 use Rattle.lsm_cmd_write.specs.Starting.{IsStartRefusal, IsStarted}
-use Rattle.lsm_cmd_write.specs.declared.faults.writer_fault.WriterFault.TheVariants.{OutOfMemory, Read}
+use Rattle.lsm_cmd_write.specs.declared.faults.writer_fault.WriterFault.TheVariants.{OutOfMemory}
+use Rattle.lsm_cmd_write.specs.declared.faults.writer_fault.WriterFault.TheVariants.{Read}
 use Rattle.lsm_cmd_write.specs.declared.ingesting.start.Start.{Start}
 use Rattle.lsm_bulk_load.specs.Ending.{IsIdle}
 use Rattle.lsm_bulk_load.specs.Loading.{IsLoaded, IsUnloaded}
@@ -26,11 +28,14 @@ use Rattle.lsm_cmd_load.specs.declared.stopped.Stopped.TheVariants.{Before, Line
 
 -- `loaded L lines in B batches`
 abbrev pub loaded_text : Progress → List ℕ
-loaded_text p = codes "loaded " ++ (decimal p.lines ++ (codes " lines in " ++ (decimal p.batches ++ (codes " batches" ++ (10 ∷ [])))))
+loaded_text p = codes "loaded "
+    ++ (decimal p.lines ++ (codes " lines in "
+    ++ (decimal p.batches ++ (codes " batches" ++ (10 ∷ [])))))
 
--- The directory was begun or opened, and all lines that were to come came into it, so many; over an honest shelf nothing was due behind them;
--- after the opening the shelf was asked for forks alone.
-pub record LoadsAll (Honest : Type 0) (start : Start) (logs : List FolderFile) (pending : Pending) (p : Progress) (left : Held) (was is : Told) : Type 0 where
+-- The directory was begun or opened, and all lines that were to come came into it, so many; over an
+-- honest shelf nothing was due behind them; after the opening the shelf was asked for forks alone.
+pub record LoadsAll (Honest : Type 0) (start : Start) (logs : List FolderFile) (pending : Pending)
+    (p : Progress) (left : Held) (was is : Told) : Type 0 where
   pub found : Held
   pub mid : Told
   pub started : IsStarted Honest start logs found was mid
@@ -39,7 +44,8 @@ pub record LoadsAll (Honest : Type 0) (start : Start) (logs : List FolderFile) (
   pub forked : Forked mid is
 
 -- ... and what the state behind them does not keep was removed.
-pub record LoadsWhole (Honest : Type 0) (start : Start) (logs : List FolderFile) (pending : Pending) (p : Progress) (was is : Told) : Type 0 where
+pub record LoadsWhole (Honest : Type 0) (start : Start) (logs : List FolderFile) (pending : Pending)
+    (p : Progress) (was is : Told) : Type 0 where
   pub left : Held
   pub mid : Told
   pub loads : LoadsAll Honest start logs pending p left was mid
@@ -47,24 +53,32 @@ pub record LoadsWhole (Honest : Type 0) (start : Start) (logs : List FolderFile)
   pub swept : IsSwept Honest board left mid is
 
 -- That was done, and how much it was is written.
-abbrev pub IsLoadDone : Type 0 → Start → List FolderFile → Pending → Told → Told → Option (List ℕ) → Option (List ℕ) → Type 0
-IsLoadDone Honest start logs pending was is old new = (p : Progress) × LoadsWhole Honest start logs pending p was is × Appends old new (loaded_text p)
+abbrev pub IsLoadDone : Type 0 → Start → List FolderFile → Pending → Told → Told → Option (List ℕ)
+    → Option (List ℕ) → Type 0
+IsLoadDone Honest start logs pending was is old new =
+    (p : Progress) × LoadsWhole Honest start logs pending p was is × Appends old new (loaded_text p)
 
 -- ---- refusals
 
--- The directory was begun or opened; just so much came into it, which is in the lawful state that was left, and this fault kept the others out, or what was due from being compacted.
-pub record StopsLoading (Refused : Asked → ShelfFault → Type 0) (Honest : Type 0) (start : Start) (logs : List FolderFile) (pending : Pending) (p : Progress) (fault : LoadFault) (was is : Told) : Type 0 where
+-- The directory was begun or opened; just so much came into it, which is in the lawful state that
+-- was left, and this fault kept the others out, or what was due from being compacted.
+pub record StopsLoading (Refused : Asked → ShelfFault
+    → Type 0) (Honest : Type 0) (start : Start) (logs : List FolderFile) (pending : Pending) (p
+    : Progress) (fault : LoadFault) (was is : Told) : Type 0 where
   pub found : Held
   pub mid : Told
   pub started : IsStarted Honest start logs found was mid
   pub left : Held
   pub board : TableId
   pub lawful : IsLawfulState Honest board left
-  pub unloaded : IsUnloaded Refused Honest (marked_in found) pending (marked_in found) (marked_in left) p fault
+  pub unloaded : IsUnloaded Refused Honest (marked_in found) pending (marked_in found)
+      (marked_in left) p fault
   pub forked : Forked mid is
 
 -- All lines came in, and the collect behind them was refused.
-pub record IsUnswept (Refused : Asked → ShelfFault → Type 0) (Honest : Type 0) (start : Start) (logs : List FolderFile) (pending : Pending) (fault : StateFault) (was is : Told) : Type 0 where
+pub record IsUnswept (Refused : Asked → ShelfFault
+    → Type 0) (Honest : Type 0) (start : Start) (logs : List FolderFile) (pending : Pending) (fault
+    : StateFault) (was is : Told) : Type 0 where
   pub p : Progress
   pub left : Held
   pub mid : Told
@@ -77,32 +91,48 @@ abbrev pub IsFirstOut : ℕ → Progress → ℕ → Type 0
 IsFirstOut from p line = from + p.lines < 2 ^ 128 → line ≡ from + p.lines
 
 -- What a fault says, where the first line that was to come had this number.
-abbrev pub IsLoadFault : (ℕ → List ℕ → Type 0) → (Asked → ShelfFault → Type 0) → Type 0 → Start → List FolderFile → ℕ → Pending → Stopped → Told → Told → Type 0
-IsLoadFault Stored Refused Honest start logs from pending (Before e) was is = ((e ≡ OutOfMemory) × (is ≡ was)) ⊎ IsStartRefusal Stored Refused Honest start logs e was is
+abbrev pub IsLoadFault : (ℕ → List ℕ → Type 0) → (Asked → ShelfFault → Type 0) → Type 0 → Start
+    → List FolderFile → ℕ → Pending → Stopped → Told → Told → Type 0
+IsLoadFault Stored Refused Honest start logs from pending (Before e) was is =
+    ((e ≡ OutOfMemory) × (is ≡ was)) ⊎ IsStartRefusal Stored Refused Honest start logs e was is
 IsLoadFault Stored Refused Honest start logs from pending (Lines fault line) was is =
-    (p : Progress) × IsFirstOut from p line × StopsLoading Refused Honest start logs pending p fault was is
-IsLoadFault Stored Refused Honest start logs from pending (Sweep fault) was is = IsUnswept Refused Honest start logs pending fault was is
-IsLoadFault Stored Refused Honest start logs from pending Write was is = (p : Progress) × LoadsWhole Honest start logs pending p was is
+    (p : Progress) × IsFirstOut from p line
+    × StopsLoading Refused Honest start logs pending p fault was is
+IsLoadFault Stored Refused Honest start logs from pending (Sweep fault) was is =
+    IsUnswept Refused Honest start logs pending fault was is
+IsLoadFault Stored Refused Honest start logs from pending Write was is =
+    (p : Progress) × LoadsWhole Honest start logs pending p was is
 
 -- ---- of an input
 
--- What is to come of it, in this form, behind the lines before the one of this number, counted from 1.
+-- What is to come of it, in this form, behind the lines before the one of this number, counted from
+-- 1.
 abbrev pub IsToCome : ℕ → Form → Option (List ℕ) → Pending → Type 0
 IsToCome from form input pending =
-    (rest : Option (List ℕ)) × PassesLines (from - 1) input rest × (pending ≡ record { form = form; held = []; left = rest })
+    (rest : Option (List ℕ)) × PassesLines (from - 1) input rest
+    × (pending ≡ record { form = form; held = []; left = rest })
 
 -- That came in, and how much it was is written.
-abbrev pub IsInputLoaded : Type 0 → Start → List FolderFile → LoadOptions → Option (List ℕ) → Told → Told → Option (List ℕ) → Option (List ℕ) → Type 0
+abbrev pub IsInputLoaded : Type 0 → Start → List FolderFile → LoadOptions → Option (List ℕ) → Told
+    → Told → Option (List ℕ) → Option (List ℕ) → Type 0
 IsInputLoaded Honest start logs options input was is old new =
-    (pending : Pending) × IsToCome options.from_line options.ingest.form input pending × IsLoadDone Honest start logs pending was is old new
+    (pending : Pending) × IsToCome options.from_line options.ingest.form input pending
+    × IsLoadDone Honest start logs pending was is old new
 
--- Memory ran out, or the input could not be read, before the shelf was asked for anything; or a fault was met behind these lines.
-abbrev pub IsInputFault : (ℕ → List ℕ → Type 0) → (Asked → ShelfFault → Type 0) → Type 0 → Start → List FolderFile → LoadOptions → Option (List ℕ) → Stopped → Told → Told → Type 0
+-- Memory ran out, or the input could not be read, before the shelf was asked for anything; or a
+-- fault was met behind these lines.
+abbrev pub IsInputFault : (ℕ → List ℕ → Type 0) → (Asked → ShelfFault → Type 0) → Type 0 → Start
+    → List FolderFile → LoadOptions → Option (List ℕ) → Stopped → Told → Told → Type 0
 IsInputFault Stored Refused Honest start logs options input e was is =
     (((e ≡ Before OutOfMemory) ⊎ (e ≡ Before Read)) × (is ≡ was))
-    ⊎ ((pending : Pending) × IsToCome options.from_line options.ingest.form input pending × IsLoadFault Stored Refused Honest start logs options.from_line pending e was is)
+    ⊎ ((pending : Pending) × IsToCome options.from_line options.ingest.form input pending
+    × IsLoadFault Stored Refused Honest start logs options.from_line pending e was is)
 
--- what a refusal is: what the fault says; and, unless a write failed, nothing was written on standard output
-abbrev pub IsInputUnloaded : (ℕ → List ℕ → Type 0) → (Asked → ShelfFault → Type 0) → Type 0 → Start → List FolderFile → LoadOptions → Option (List ℕ) → Stopped → Told → Told → Option (List ℕ) → Option (List ℕ) → Type 0
+-- what a refusal is: what the fault says; and, unless a write failed, nothing was written on
+-- standard output
+abbrev pub IsInputUnloaded : (ℕ → List ℕ → Type 0) → (Asked → ShelfFault → Type 0) → Type 0 → Start
+    → List FolderFile → LoadOptions → Option (List ℕ) → Stopped → Told → Told → Option (List ℕ)
+    → Option (List ℕ) → Type 0
 IsInputUnloaded Stored Refused Honest start logs options input e was is old new =
-    IsInputFault Stored Refused Honest start logs options input e was is × (e ≢ Write → Keeps old new)
+    IsInputFault Stored Refused Honest start logs options input e was is
+    × (e ≢ Write → Keeps old new)

@@ -1,5 +1,6 @@
--- What a `load` comes to, for the words of its command line: this project's rule. It is about a folder that was opened at the path of these
--- words, and about shelves on its place; that such a shelf is the run's own is to be read.
+-- What a `load` comes to, for the words of its command line: this project's rule. It is about a
+-- folder that was opened at the path of these words, and about shelves on its place; that such a
+-- shelf is the run's own is to be read.
 use Rattle.std.specs.Prelude.{◌⊎◌, ℕ, List, Option}
 use Rattle.std.specs.Io.KnownBytes.{Keeps}
 use Rattle.lsm_folder.specs.Calls.{AreHonest}
@@ -16,27 +17,35 @@ use Rattle.lsm_cmd_load.specs.Loaded.{IsInputLoaded, IsInputUnloaded}
 use Rattle.lsm_cmd_load.specs.declared.stopped.Stopped.{Stopped}
 
 module _ {C M : Type 0} (folders : Ghosts C M) where
-  -- The lock of the folder at the path was held, and it was looked at. On a shelf of it the lines came in, and how many is written.
-  pub record LoadsAt (path : List ℕ) (options : LoadOptions) (input : Option (List ℕ)) (old new : Option (List ℕ)) : Type 0 where
+  -- The lock of the folder at the path was held, and it was looked at. On a shelf of it the lines
+  -- came in, and how many is written.
+  pub record LoadsAt (path : List ℕ) (options : LoadOptions) (input : Option (List ℕ))
+      (old new : Option (List ℕ)) : Type 0 where
     pub start : Start
     pub logs : List FolderFile
     pub begun : FileShelf C M
     pub on : IsShelfAt folders path (IsPrepared options.ingest start logs) begun
     pub ended : FileShelf C M
-    pub done : IsInputLoaded (AreHonest folders.calls) start logs options input (told_by folders begun) (told_by folders ended) old new
+    pub done : IsInputLoaded (AreHonest folders.calls) start logs options input
+        (told_by folders begun) (told_by folders ended) old new
 
 module _ {C M : Type 0} (folders : Ghosts C M) (marks : mark.Ghosts M) where
-  -- The lock of the folder at the path was held, and it was looked at. On a shelf of it this fault ended a load early.
-  pub record StopsAt (path : List ℕ) (options : LoadOptions) (input : Option (List ℕ)) (fault : Stopped) (old new : Option (List ℕ)) : Type 0 where
+  -- The lock of the folder at the path was held, and it was looked at. On a shelf of it this fault
+  -- ended a load early.
+  pub record StopsAt (path : List ℕ) (options : LoadOptions) (input : Option (List ℕ))
+      (fault : Stopped) (old new : Option (List ℕ)) : Type 0 where
     pub start : Start
     pub logs : List FolderFile
     pub begun : FileShelf C M
     pub on : IsShelfAt folders path (IsPrepared options.ingest start logs) begun
     pub ended : FileShelf C M
     pub refused :
-        IsInputUnloaded (stored_at folders marks (told_by folders begun).place) MayRefuse (AreHonest folders.calls) start logs options input fault
+        IsInputUnloaded (stored_at folders marks (told_by folders begun).place) MayRefuse
+        (AreHonest folders.calls) start logs options input fault
         (told_by folders begun) (told_by folders ended) old new
 
   -- nothing was written; or a fault was met so
-  abbrev pub FailsToLoad : List ℕ → LoadOptions → (input : Option (List ℕ)) → (old new : Option (List ℕ)) → Type 0
-  FailsToLoad path options input old new = Keeps old new ⊎ ((fault : Stopped) × StopsAt path options input fault old new)
+  abbrev pub FailsToLoad : List ℕ → LoadOptions → (input : Option (List ℕ))
+      → (old new : Option (List ℕ)) → Type 0
+  FailsToLoad path options input old new =
+      Keeps old new ⊎ ((fault : Stopped) × StopsAt path options input fault old new)

@@ -1,5 +1,7 @@
--- What is printed of a load that ended early: this project's rule. The line is the first one that is not in.
-use Rattle.std.specs.Prelude.{ℕ, ◌-◌, ◌==◌, cond, List, [], ◌∷◌, ◌++◌, codes, decimal, Option, None, Some}
+-- What is printed of a load that ended early: this project's rule. The line is the first one that
+-- is not in.
+use Rattle.std.specs.Prelude.{ℕ, ◌-◌, ◌==◌, cond, List, [], ◌∷◌, ◌++◌, codes, decimal, Option, None}
+use Rattle.std.specs.Prelude.{Some}
 use Rattle.lsm_lines.specs.declared.write_line_fault.WriteLineFault.{WriteLineFault}
 use Rattle.lsm_lines.specs.declared.write_line_fault.WriteLineFault.TheVariants as lines
 use Rattle.lsm_cmd_write.specs.WriterFault as writer
@@ -44,4 +46,5 @@ last_in Write = None
 
 -- which lines are in: `lines 1 to N are in`, or `no line is in`
 abbrev pub came_text : ℕ → List ℕ
-came_text last = cond (last == 0) (codes "no line is in" ++ (10 ∷ [])) (codes "lines 1 to " ++ (decimal last ++ (codes " are in" ++ (10 ∷ []))))
+came_text last = cond (last == 0) (codes "no line is in" ++ (10 ∷ [])) (codes "lines 1 to "
+    ++ (decimal last ++ (codes " are in" ++ (10 ∷ []))))

@@ -1,5 +1,6 @@
--- What a command that only reads comes to, for the words of its command line: this project's rule. It is about a folder that was opened at
--- the path of these words, and about shelves on its place; that such a shelf is the run's own is to be read.
+-- What a command that only reads comes to, for the words of its command line: this project's rule.
+-- It is about a folder that was opened at the path of these words, and about shelves on its place;
+-- that such a shelf is the run's own is to be read.
 use Rattle.std.specs.Prelude.{◌≡◌, ◌⊎◌, ℕ, List, Option}
 use Rattle.std.specs.Io.KnownBytes.{Keeps}
 use Rattle.lsm_folder.specs.Calls.{AreHonest}
@@ -18,36 +19,45 @@ use Rattle.lsm_directory.specs.declared.faults.directory_fault.DirectoryFault.Th
 use Rattle.lsm_directory.specs.declared.folder.folder_file.FolderFile.{FolderFile}
 
 module _ {C M : Type 0} (folders : Ghosts C M) where
-  -- The lock of the folder at the path was held, and these files were found beside its tables. On a shelf of it, which was only read, the
-  -- command was done.
-  pub record LooksAt (line : DirectoryLine) (old new said_old said_new : Option (List ℕ)) : Type 0 where
+  -- The lock of the folder at the path was held, and these files were found beside its tables. On a
+  -- shelf of it, which was only read, the command was done.
+  pub record LooksAt (line : DirectoryLine) (old new said_old said_new : Option (List ℕ))
+      : Type 0 where
     pub others : List FolderFile
     pub begun : FileShelf C M
     pub on : IsShelfAt folders line.path.now (TellsBeside others) begun
     pub ended : FileShelf C M
     pub done :
-        IsLookedInto line.form line.command others line.progress (AreHonest folders.calls) (told_by folders begun) (told_by folders ended)
+        IsLookedInto line.form line.command others line.progress (AreHonest folders.calls)
+        (told_by folders begun) (told_by folders ended)
         old new said_old said_new
     pub reads : OnlyReads (told_by folders begun) (told_by folders ended)
 
 module _ {C M : Type 0} (folders : Ghosts C M) (marks : mark.Ghosts M) where
   -- So it was, of a version whose tables the folder gave.
-  pub record LooksAtGiven (line : DirectoryLine) (old new said_old said_new : Option (List ℕ)) : Type 0 where
+  pub record LooksAtGiven (line : DirectoryLine) (old new said_old said_new : Option (List ℕ))
+      : Type 0 where
     pub looks : LooksAt folders line old new said_old said_new
-    pub given : AreGiven (stored_at folders marks (told_by folders looks.begun).place) looks.done.version
+    pub given : AreGiven (stored_at folders marks (told_by folders looks.begun).place)
+        looks.done.version
 
-  -- The lock of the folder at the path was held, and these files were found beside its tables. On a shelf of it, which was only read, this
-  -- fault was met: what that says of the folder, and what it leaves.
-  pub record FailsAt (line : DirectoryLine) (fault : DirectoryFault) (old new : Option (List ℕ)) : Type 0 where
+  -- The lock of the folder at the path was held, and these files were found beside its tables. On a
+  -- shelf of it, which was only read, this fault was met: what that says of the folder, and what it
+  -- leaves.
+  pub record FailsAt (line : DirectoryLine) (fault : DirectoryFault) (old new : Option (List ℕ))
+      : Type 0 where
     pub others : List FolderFile
     pub begun : FileShelf C M
     pub on : IsShelfAt folders line.path.now (TellsBeside others) begun
     pub ended : FileShelf C M
     pub refused :
-        IsNotLookedInto line.form line.command fault (stored_at folders marks (told_by folders begun).place) MayRefuse
+        IsNotLookedInto line.form line.command fault
+        (stored_at folders marks (told_by folders begun).place) MayRefuse
         (AreHonest folders.calls) (told_by folders begun) (told_by folders ended) old new
     pub reads : OnlyReads (told_by folders begun) (told_by folders ended)
 
-  -- memory ran out, or the folder was not opened, locked or looked at, and nothing was written; or what follows
+  -- memory ran out, or the folder was not opened, locked or looked at, and nothing was written; or
+  -- what follows
   abbrev pub FailsToLook : DirectoryLine → DirectoryFault → (old new : Option (List ℕ)) → Type 0
-  FailsToLook line fault old new = ((IsFolderFault fault ⊎ (fault ≡ OutOfMemory)) × Keeps old new) ⊎ FailsAt line fault old new
+  FailsToLook line fault old new =
+      ((IsFolderFault fault ⊎ (fault ≡ OutOfMemory)) × Keeps old new) ⊎ FailsAt line fault old new

@@ -5,14 +5,16 @@ use Rattle.lsm_table.specs.ReadFault.{IsMemoryOrShelf, ReadCounted}
 use Rattle.lsm_directory.specs.declared.faults.directory_fault.DirectoryFault.{DirectoryFault}
 use Rattle.lsm_directory.specs.declared.faults.directory_fault.DirectoryFault.TheVariants.{OutOfMemory, Write, Shelf, Manifest, Tables, Read, NumbersSpent, Locked, Absent}
 
--- Memory ran out, or a write failed; or, over an honest shelf, the shelf refused: a refusal of it comes with a count that rose.
+-- Memory ran out, or a write failed; or, over an honest shelf, the shelf refused: a refusal of it
+-- comes with a count that rose.
 abbrev pub IsAnswerFault : Type 0 → DirectoryFault → Told → Told → Type 0
 IsAnswerFault Honest OutOfMemory was is = ⊤
 IsAnswerFault Honest Write was is = ⊤
 IsAnswerFault Honest (Shelf fault) was is = ⊥
 IsAnswerFault Honest (Manifest fault) was is = ⊥
 IsAnswerFault Honest (Tables fault) was is = ⊥
-IsAnswerFault Honest (Read fault) was is = (Honest → IsMemoryOrShelf fault) × ReadCounted fault was is
+IsAnswerFault Honest (Read fault) was is =
+    (Honest → IsMemoryOrShelf fault) × ReadCounted fault was is
 IsAnswerFault Honest NumbersSpent was is = ⊥
 IsAnswerFault Honest Locked was is = ⊥
 IsAnswerFault Honest Absent was is = ⊥

@@ -1,5 +1,6 @@
 -- What a scan prints: this project's rule. Keys and values stand in a form: hex, or text.
-use Rattle.std.specs.Prelude.{◌≡◌, ◌⊎◌, ℕ, ◌+◌, ◌≤◌, Bool, false, nat_le, List, [], ◌∷◌, ◌++◌, length, take, decimal, Option, None, Some, ⊤}
+use Rattle.std.specs.Prelude.{◌≡◌, ◌⊎◌, ℕ, ◌+◌, ◌≤◌, Bool, false, nat_le, List, [], ◌∷◌, ◌++◌}
+use Rattle.std.specs.Prelude.{length, take, decimal, Option, None, Some, ⊤}
 use Rattle.std.specs.List.{flat_map, filter}
 use Rattle.std.specs.Io.KnownBytes.{Appends, Keeps}
 use Rattle.lsm_codec.specs.Keys.{UserKey}
@@ -59,22 +60,30 @@ count_line Count n = decimal n ++ (10 ∷ [])
 
 module _ (form : Form) where
   abbrev pub scan_text : ScanOptions → List Pair → List ℕ
-  scan_text options pairs = lines_of form options.output (asked_for options pairs) ++ count_line options.output (length (asked_for options pairs))
+  scan_text options pairs = lines_of form options.output (asked_for options pairs)
+      ++ count_line options.output (length (asked_for options pairs))
 
   -- The lines of the first of the pairs that are asked for, and no other, were written.
   abbrev pub BeginsPrinting : ScanOptions → List Pair → Option (List ℕ) → Option (List ℕ) → Type 0
   BeginsPrinting options pairs old new =
-      (front : List Pair) × (back : List Pair) × (asked_for options pairs ≡ front ++ back) × Appends old new (lines_of form options.output front)
+      (front : List Pair) × (back : List Pair) × (asked_for options pairs ≡ front ++ back)
+      × Appends old new (lines_of form options.output front)
 
-  -- Of the user keys that have an answer at the last sequence, ascending, what is asked for was written.
+  -- Of the user keys that have an answer at the last sequence, ascending, what is asked for was
+  -- written.
   abbrev pub PrintsScan : ScanOptions → Levels → Option (List ℕ) → Option (List ℕ) → Type 0
-  PrintsScan options v old new = (pairs : List Pair) × IsScan v.last (all_entries (files v)) pairs × Appends old new (scan_text options pairs)
+  PrintsScan options v old new =
+      (pairs : List Pair) × IsScan v.last (all_entries (files v)) pairs
+      × Appends old new (scan_text options pairs)
 
   -- Lines were written for the first of them.
   abbrev pub BeginsScan : ScanOptions → Levels → Option (List ℕ) → Option (List ℕ) → Type 0
-  BeginsScan options v old new = (pairs : List Pair) × IsScan v.last (all_entries (files v)) pairs × BeginsPrinting options pairs old new
+  BeginsScan options v old new =
+      (pairs : List Pair) × IsScan v.last (all_entries (files v)) pairs
+      × BeginsPrinting options pairs old new
 
-  -- What a scan leaves that ends with a fault: nothing, or, over an honest shelf, lines for the first of them.
+  -- What a scan leaves that ends with a fault: nothing, or, over an honest shelf, lines for the
+  -- first of them.
   abbrev pub LeavesScan : ScanOptions → Type 0 → Levels → Option (List ℕ) → Option (List ℕ) → Type 0
   LeavesScan options Honest v old new = Keeps old new ⊎ (Honest → BeginsScan options v old new)
 
@@ -91,18 +100,23 @@ Fits None n = ⊤
 Fits (Some limit) n = n ≤ limit
 
 module _ (form : Form) where
-  -- The first of these pairs are passed, and those of `left` are not. Of the passed ones that are within the bounds the lines were written,
-  -- and with them n have become m.
-  pub record Passes (options : ScanOptions) (pairs left : List Pair) (n m : ℕ) (old new : Option (List ℕ)) : Type 0 where
+  -- The first of these pairs are passed, and those of `left` are not. Of the passed ones that are
+  -- within the bounds the lines were written, and with them n have become m.
+  pub record Passes (options : ScanOptions) (pairs left : List Pair) (n m : ℕ)
+      (old new : Option (List ℕ)) : Type 0 where
     pub front : List Pair
     pub is : pairs ≡ front ++ left
     pub count : m ≡ n + length (within options.bounds front)
     pub lines : Appends old new (lines_of form options.output (within options.bounds front))
 
   -- that, and where there are no more, none that is left is within the bounds
-  abbrev pub PassesNext : ScanOptions → (more : Bool) → (pairs left : List Pair) → (n m : ℕ) → Option (List ℕ) → Option (List ℕ) → Type 0
-  PassesNext options more pairs left n m old new = Passes options pairs left n m old new × (more ≡ false → within options.bounds left ≡ [])
+  abbrev pub PassesNext : ScanOptions → (more : Bool) → (pairs left : List Pair) → (n m : ℕ)
+      → Option (List ℕ) → Option (List ℕ) → Type 0
+  PassesNext options more pairs left n m old new =
+      Passes options pairs left n m old new × (more ≡ false → within options.bounds left ≡ [])
 
   -- the lines of the pairs that are asked for were written, so many
   abbrev pub PrintsLines : ScanOptions → List Pair → ℕ → Option (List ℕ) → Option (List ℕ) → Type 0
-  PrintsLines options pairs n old new = (n ≡ length (asked_for options pairs)) × Appends old new (lines_of form options.output (asked_for options pairs))
+  PrintsLines options pairs n old new =
+      (n ≡ length (asked_for options pairs))
+      × Appends old new (lines_of form options.output (asked_for options pairs))

@@ -1,5 +1,7 @@
--- The lines of a conversation: those of a script, and some more (this project's rule). Words for bytes are of one form.
-use Rattle.std.specs.Prelude.{◌≡◌, ◌≢◌, ◌⊎◌, ℕ, ◌-◌, ◌^◌, ⊤, List, [], ◌∷◌, ◌++◌, ◌≤◌, length, get_or, codes, Option, None, Some}
+-- The lines of a conversation: those of a script, and some more (this project's rule). Words for
+-- bytes are of one form.
+use Rattle.std.specs.Prelude.{◌≡◌, ◌≢◌, ◌⊎◌, ℕ, ◌-◌, ◌^◌, ⊤, List, [], ◌∷◌, ◌++◌, ◌≤◌, length}
+use Rattle.std.specs.Prelude.{get_or, codes, Option, None, Some}
 use Rattle.lsm_batch.specs.declared.write.Write.{Write}
 use Rattle.lsm_text.specs.Numbers.{IsNumberWord}
 use Rattle.lsm_text.specs.Spelling.{IsWord}
@@ -8,7 +10,8 @@ use Rattle.lsm_text.specs.declared.key_bounds.KeyBounds.{KeyBounds}
 use Rattle.lsm_script.specs.CommandLine.{IsCommandLine}
 use Rattle.lsm_script.specs.Words.{words_of}
 use Rattle.lsm_cmd_shell.specs.declared.ask.Ask.{Ask}
-use Rattle.lsm_cmd_shell.specs.declared.ask.Ask.TheVariants.{Do, Put, Scan, Begin, Commit, Abort, Compact, Stats, Help}
+use Rattle.lsm_cmd_shell.specs.declared.ask.Ask.TheVariants.{Do, Put, Scan, Begin, Commit, Abort}
+use Rattle.lsm_cmd_shell.specs.declared.ask.Ask.TheVariants.{Compact, Stats, Help}
 
 -- ---- one write
 
@@ -38,22 +41,26 @@ IsOneWrite form words w = IsPut form words w ⊎ IsDelete form words w
 -- `[FROM [TO]]`; where both stand, FROM is not the word `limit`
 abbrev pub AreEnds : Form → List (List ℕ) → KeyBounds → Type 0
 AreEnds form [] b = (b.from ≡ None) × (b.to ≡ None) × (b.prefix ≡ None)
-AreEnds form (f ∷ []) b = (from : List ℕ) × (b.from ≡ Some from) × (b.to ≡ None) × IsWord form f from × (b.prefix ≡ None)
+AreEnds form (f ∷ []) b = (from : List ℕ) × (b.from ≡ Some from) × (b.to ≡ None)
+    × IsWord form f from × (b.prefix ≡ None)
 AreEnds form (f ∷ t ∷ []) b =
-    (from : List ℕ) × (to : List ℕ) × (b.from ≡ Some from) × (b.to ≡ Some to) × (f ≢ codes "limit") × IsWord form f from × IsWord form t to × (b.prefix ≡ None)
+    (from : List ℕ) × (to : List ℕ) × (b.from ≡ Some from) × (b.to ≡ Some to) × (f ≢ codes "limit")
+    × IsWord form f from × IsWord form t to × (b.prefix ≡ None)
 AreEnds form (f ∷ t ∷ w ∷ ws) b = ⊥
 
 -- `[limit N]`
 abbrev pub IsLimit : List (List ℕ) → Option ℕ → Type 0
 IsLimit tail None = tail ≡ []
-IsLimit tail (Some n) = (word : List ℕ) × (tail ≡ codes "limit" ∷ word ∷ []) × IsNumberWord (2 ^ 64 - 1) word n
+IsLimit tail (Some n) = (word : List ℕ) × (tail ≡ codes "limit" ∷ word ∷ [])
+    × IsNumberWord (2 ^ 64 - 1) word n
 
 -- the last word but one is `limit`
 abbrev pub HasLimit : List (List ℕ) → Type 0
 HasLimit words = (2 ≤ length words) × (get_or words (length words - 2) [] ≡ codes "limit")
 
 -- both, one behind the other
-pub record IsScanRest (form : Form) (rest : List (List ℕ)) (bounds : KeyBounds) (limit : Option ℕ) : Type 0 where
+pub record IsScanRest (form : Form) (rest : List (List ℕ)) (bounds : KeyBounds) (limit : Option ℕ)
+    : Type 0 where
   pub ends : List (List ℕ)
   pub tail : List (List ℕ)
   pub words_are : rest ≡ ends ++ tail
@@ -62,7 +69,8 @@ pub record IsScanRest (form : Form) (rest : List (List ℕ)) (bounds : KeyBounds
 
 -- `scan [FROM [TO]] [limit N]`
 abbrev pub IsScanWords : Form → List (List ℕ) → KeyBounds → Option ℕ → Type 0
-IsScanWords form words bounds limit = (rest : List (List ℕ)) × (words ≡ codes "scan" ∷ rest) × IsScanRest form rest bounds limit
+IsScanWords form words bounds limit =
+    (rest : List (List ℕ)) × (words ≡ codes "scan" ∷ rest) × IsScanRest form rest bounds limit
 
 -- ---- any line
 

@@ -53,24 +53,33 @@ abbrev pub IsAbort : (old new : Option (List Write)) → List ℕ → Type 0
 IsAbort None new said = (new ≡ None) × (said ≡ none_begun)
 IsAbort (Some ws) new said = (new ≡ None) × (said ≡ codes "aborted\n")
 
--- The write stands behind the others; or it does not, since with it a limit of a batch would be passed, or for want of memory.
+-- The write stands behind the others; or it does not, since with it a limit of a batch would be
+-- passed, or for want of memory.
 abbrev pub IsQueued : Write → (old new : List Write) → List ℕ → Type 0
 IsQueued w old new said =
     ((new ≡ old ++ w ∷ []) × (said ≡ codes "queued\n"))
-    ⊎ ((new ≡ old) × (((said ≡ codes "refused 39 TooLarge\n") × IsTooLarge (old ++ w ∷ [])) ⊎ (said ≡ no_memory)))
+    ⊎ ((new ≡ old) × (((said ≡ codes "refused 39 TooLarge\n") × IsTooLarge (old ++ w ∷ []))
+    ⊎ (said ≡ no_memory)))
 
 -- a batch came in, or was refused; or memory was refused before that, and nothing was done
 abbrev pub IsIngested : Type 0 → Form → (List Write → Type 0) → List ℕ → Stage → Stage → Type 0
 IsIngested honest form IsIt said s t =
-    ((batch : List Write) × (r : Reply) × IsIt batch × IsStep honest (Ingest batch) r s t × Says (reply_text form r) said)
+    ((batch : List Write) × (r : Reply) × IsIt batch × IsStep honest (Ingest batch) r s t
+    × Says (reply_text form r) said)
     ⊎ ((said ≡ no_memory) × (t ≡ s))
 
 -- `put` and `delete`: a batch of this write, or one more write of the batch that is begun
-abbrev pub IsPutReply : Type 0 → Form → Write → Option (List Write) → List ℕ → Standing → Standing → Type 0
-IsPutReply honest form w None said s t = (t.begun ≡ None) × IsIngested honest form (λ batch. batch ≡ w ∷ []) said s.stage t.stage
-IsPutReply honest form w (Some ws) said s t = (t.stage ≡ s.stage) × ((new : List Write) × (t.begun ≡ Some new) × IsQueued w ws new said)
+abbrev pub IsPutReply : Type 0 → Form → Write → Option (List Write) → List ℕ → Standing → Standing
+    → Type 0
+IsPutReply honest form w None said s t =
+    (t.begun ≡ None) × IsIngested honest form (λ batch. batch ≡ w ∷ []) said s.stage t.stage
+IsPutReply honest form w (Some ws) said s t =
+    (t.stage ≡ s.stage) × ((new : List Write) × (t.begun ≡ Some new) × IsQueued w ws new said)
 
 -- `commit`: of each key that was written the last write, as one batch; none is begun then
-abbrev pub IsCommitReply : Type 0 → Form → Option (List Write) → List ℕ → Standing → Standing → Type 0
-IsCommitReply honest form None said s t = (t.begun ≡ None) × (said ≡ none_begun) × (t.stage ≡ s.stage)
-IsCommitReply honest form (Some ws) said s t = (t.begun ≡ None) × IsIngested honest form (KeepsLast ws) said s.stage t.stage
+abbrev pub IsCommitReply : Type 0 → Form → Option (List Write) → List ℕ → Standing → Standing
+    → Type 0
+IsCommitReply honest form None said s t =
+    (t.begun ≡ None) × (said ≡ none_begun) × (t.stage ≡ s.stage)
+IsCommitReply honest form (Some ws) said s t =
+    (t.begun ≡ None) × IsIngested honest form (KeepsLast ws) said s.stage t.stage

@@ -1,4 +1,5 @@
--- A conversation beside workers (this project's rule): a store lends its state for each turn, and workers compact between two of them.
+-- A conversation beside workers (this project's rule): a store lends its state for each turn, and
+-- workers compact between two of them.
 use Rattle.std.specs.Prelude.{◌≡◌, ℕ, List, Option, Result}
 use Rattle.lsm_codec.specs.Entries.{Entry}
 use Rattle.lsm_history.specs.History.{IsLater}
@@ -12,8 +13,8 @@ use Rattle.lsm_cmd_shell.specs.Batching.{Standing, standing}
 use Rattle.lsm_cmd_shell.specs.Talk.{IsReplied, IsTalkOf}
 use Rattle.lsm_cmd_shell.specs.declared.talk_fault.TalkFault.{TalkFault}
 
--- Where it stands between two turns: all that it knows to have come in, what its shelf was told, its jobs and results, and the writes of the
--- batch that is begun, if one is.
+-- Where it stands between two turns: all that it knows to have come in, what its shelf was told,
+-- its jobs and results, and the writes of the batch that is begun, if one is.
 pub record Waiting : Type 0 where
   pub known : List Entry
   pub told : Told
@@ -27,14 +28,16 @@ waiting known told desk begun = record { known = known; told = told; desk = desk
 abbrev pub on : Held → Waiting → Standing
 on h w = standing (stage h w.desk w.told) w.begun
 
--- A state that is lent has all that was known to have come in; and over an honest shelf each read of it that is promised gives what it gives
--- over all that ever came in.
+-- A state that is lent has all that was known to have come in; and over an honest shelf each read
+-- of it that is promised gives what it gives over all that ever came in.
 pub record IsLent (honest : Type 0) (known : List Entry) (h : Held) : Type 0 where
   pub later : IsLater h.history known
   pub reads : honest → ReadsAs (plain h) h.history
 
--- A line was replied to on a state that was lent, as without workers; and all that had come in then is known.
-pub record IsRepliedBeside (honest : Type 0) (form : Form) (line said : List ℕ) (s t : Waiting) : Type 0 where
+-- A line was replied to on a state that was lent, as without workers; and all that had come in then
+-- is known.
+pub record IsRepliedBeside (honest : Type 0) (form : Form) (line said : List ℕ) (s t : Waiting)
+    : Type 0 where
   pub lent : Held
   pub back : Held
   pub has : IsLent honest s.known lent
@@ -42,9 +45,14 @@ pub record IsRepliedBeside (honest : Type 0) (form : Form) (line said : List ℕ
   pub known : t.known ≡ back.history
 
 -- Such a conversation. No batch was begun before it, and one that is begun at its end is let go.
-abbrev pub IsTalkBeside : Type 0 → Form → Option (List ℕ) → Result (Unit {0}) TalkFault → Waiting → Waiting → Option (List ℕ) → Option (List ℕ) → Type 0
-IsTalkBeside honest form input r s t old new = (begun : Option (List Write)) × IsTalkOf (IsRepliedBeside honest form) input r s (record t { begun = begun }) old new
+abbrev pub IsTalkBeside : Type 0 → Form → Option (List ℕ) → Result (Unit {0}) TalkFault → Waiting
+    → Waiting → Option (List ℕ) → Option (List ℕ) → Type 0
+IsTalkBeside honest form input r s t old new =
+    (begun : Option (List Write))
+    × IsTalkOf (IsRepliedBeside honest form) input r s (record t { begun = begun }) old new
 
 -- So it was, and it was said of an output that had this much.
-abbrev pub IsTalkedBeside : Type 0 → Form → Option (List ℕ) → Result (Unit {0}) TalkFault → Waiting → Option (List ℕ) → Type 0
-IsTalkedBeside honest form input r s old = (t : Waiting) × (new : Option (List ℕ)) × IsTalkBeside honest form input r s t old new
+abbrev pub IsTalkedBeside : Type 0 → Form → Option (List ℕ) → Result (Unit {0}) TalkFault → Waiting
+    → Option (List ℕ) → Type 0
+IsTalkedBeside honest form input r s old =
+    (t : Waiting) × (new : Option (List ℕ)) × IsTalkBeside honest form input r s t old new

@@ -1,5 +1,6 @@
 -- What is printed of a scan (this project's rule). Keys and values stand in a form.
-use Rattle.std.specs.Prelude.{◌≡◌, ◌⊎◌, ℕ, ◌-◌, Bool, true, false, ⊤, List, [], ◌∷◌, ◌++◌, take, Option, Some, None, Result, Ok, Err}
+use Rattle.std.specs.Prelude.{◌≡◌, ◌⊎◌, ℕ, ◌-◌, Bool, true, false, ⊤, List, [], ◌∷◌, ◌++◌, take}
+use Rattle.std.specs.Prelude.{Option, Some, None, Result, Ok, Err}
 use Rattle.std.specs.List.{flat_map, filter}
 use Rattle.std.specs.Io.KnownBytes.{Appends, Keeps}
 use Rattle.lsm_model.specs.Files.{all_entries}
@@ -41,18 +42,26 @@ pairs_text form pairs = flat_map (pair_line form) pairs
 
 -- ---- one step
 
--- Of the pairs that are left the first one was taken, and stands within the bounds, or not; or none that is left does.
+-- Of the pairs that are left the first one was taken, and stands within the bounds, or not; or none
+-- that is left does.
 abbrev pub Steps : KeyBounds → List Pair → Showing → Step → Type 0
 Steps bounds left new End = filter (λ p. is_within bounds p.0) left ≡ []
 Steps bounds left new Outside = (p : Pair) × (left ≡ p ∷ new.left) × (is_within bounds p.0 ≡ false)
-Steps bounds left new Within = (p : Pair) × (left ≡ p ∷ new.left) × (is_within bounds p.0 ≡ true) × (new.here ≡ Some p)
+Steps bounds left new Within =
+    (p : Pair) × (left ≡ p ∷ new.left) × (is_within bounds p.0 ≡ true) × (new.here ≡ Some p)
 
--- Lines were written for the first of those that are to be shown, at most one; or none is left; or, unless a write failed, nothing was written.
-abbrev pub PrintsNext : Type 0 → Form → KeyBounds → (limit limit' : Option ℕ) → (left left' : List Pair) → Result Bool ScanFault → (old new : Option (List ℕ)) → Type 0
+-- Lines were written for the first of those that are to be shown, at most one; or none is left; or,
+-- unless a write failed, nothing was written.
+abbrev pub PrintsNext : Type 0 → Form → KeyBounds → (limit limit' : Option ℕ)
+    → (left left' : List Pair) → Result Bool ScanFault → (old new : Option (List ℕ)) → Type 0
 PrintsNext honest form bounds limit limit' left left' (Ok true) old new =
-    (front : List Pair) × Appends old new (pairs_text form front) × (honest → (shown bounds limit left ≡ front ++ shown bounds limit' left') × UsersAscend left')
-PrintsNext honest form bounds limit limit' left left' (Ok false) old new = Keeps old new × (honest → shown bounds limit left ≡ [])
-PrintsNext honest form bounds limit limit' left left' (Err fault) old new = (fault ≡ Write → ⊥) → Keeps old new
+    (front : List Pair) × Appends old new (pairs_text form front)
+    × (honest → (shown bounds limit left ≡ front ++ shown bounds limit' left')
+    × UsersAscend left')
+PrintsNext honest form bounds limit limit' left left' (Ok false) old new =
+    Keeps old new × (honest → shown bounds limit left ≡ [])
+PrintsNext honest form bounds limit limit' left left' (Err fault) old new =
+    (fault ≡ Write → ⊥) → Keeps old new
 
 -- ---- a scan
 
@@ -73,21 +82,27 @@ abbrev pub IsFront : Result (Unit {0}) ScanFault → List Pair → List Pair →
 IsFront (Ok done) front all = front ≡ all
 IsFront (Err fault) front all = (back : List Pair) × (all ≡ front ++ back)
 
--- Lines were written for pairs: over an honest shelf for those that are to be shown of these that are left.
-pub record PrintsLeft (honest : Type 0) (form : Form) (bounds : KeyBounds) (limit : Option ℕ) (left : List Pair) (r : Result (Unit {0}) ScanFault) (old new : Option (List ℕ)) : Type 0 where
+-- Lines were written for pairs: over an honest shelf for those that are to be shown of these that
+-- are left.
+pub record PrintsLeft (honest : Type 0) (form : Form) (bounds : KeyBounds) (limit : Option ℕ)
+    (left : List Pair) (r : Result (Unit {0}) ScanFault) (old new : Option (List ℕ)) : Type 0 where
   pub front : List Pair
   pub written : (IsWrite r → ⊥) → Appends old new (pairs_text form front)
   pub shows : honest → IsFront r front (shown bounds limit left)
 
--- why a scan was stopped: memory ran out; a write failed; or a table could not be read, over an honest shelf only since the shelf refused
+-- why a scan was stopped: memory ran out; a write failed; or a table could not be read, over an
+-- honest shelf only since the shelf refused
 abbrev pub IsScanFault : Type 0 → Told → Told → ScanFault → Type 0
 IsScanFault honest was is NoMemory = ⊤
 IsScanFault honest was is Write = ⊤
 IsScanFault honest was is (Read fault) = (honest → IsMemoryOrShelf fault) × ReadCounted fault was is
 
--- Lines were written for pairs: over an honest shelf for those of the version's keys that have a value at its last sequence and are to be
--- shown, in order; or for none yet.
-pub record PrintsVersion (honest : Type 0) (form : Form) (bounds : KeyBounds) (limit : Option ℕ) (v : Levels) (r : Result (Unit {0}) ScanFault) (old new : Option (List ℕ)) : Type 0 where
+-- Lines were written for pairs: over an honest shelf for those of the version's keys that have a
+-- value at its last sequence and are to be shown, in order; or for none yet.
+pub record PrintsVersion (honest : Type 0) (form : Form) (bounds : KeyBounds) (limit : Option ℕ)
+    (v : Levels) (r : Result (Unit {0}) ScanFault) (old new : Option (List ℕ)) : Type 0 where
   pub front : List Pair
   pub written : (IsWrite r → ⊥) → Appends old new (pairs_text form front)
-  pub shows : ((front ≡ []) × (IsWhole r → ⊥)) ⊎ (honest → (pairs : List Pair) × IsScan v.last (all_entries (files v)) pairs × IsFront r front (shown bounds limit pairs))
+  pub shows : ((front ≡ []) × (IsWhole r → ⊥))
+      ⊎ (honest → (pairs : List Pair) × IsScan v.last (all_entries (files v)) pairs
+      × IsFront r front (shown bounds limit pairs))

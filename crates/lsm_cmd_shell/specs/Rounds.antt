@@ -3,7 +3,8 @@ use Rattle.std.specs.Prelude.{◌≡◌, ◌⊎◌, ℕ, suc, zero, ◌-◌, ◌
 use Rattle.lsm_state.specs.declared.state_fault.StateFault.TheVariants.{OutOfMemory}
 use Rattle.lsm_script.specs.Steps.{IsStep, Stage}
 use Rattle.lsm_script.specs.declared.command.Command.{Command}
-use Rattle.lsm_script.specs.declared.command.Command.TheVariants.{Reserve, Merge, Install, Cancel, Collect}
+use Rattle.lsm_script.specs.declared.command.Command.TheVariants.{Reserve, Merge, Install, Cancel}
+use Rattle.lsm_script.specs.declared.command.Command.TheVariants.{Collect}
 use Rattle.lsm_script.specs.declared.command_fault.CommandFault.{CommandFault}
 use Rattle.lsm_script.specs.declared.command_fault.CommandFault.TheVariants.{State}
 use Rattle.lsm_script.specs.declared.reply.Reply.{Reply}
@@ -35,27 +36,36 @@ IsReserved honest ticket s t = (r : Reply) × IsStep honest Reserve r s t × Res
 
 -- nothing is due
 abbrev pub NoneIsDue : Type 0 → Stage → Stage → Type 0
-NoneIsDue honest s t = (r : Reply) × IsStep honest Reserve r s t × IsNoRefusal r × ((ticket : ℕ) → Reserves r ticket → ⊥)
+NoneIsDue honest s t = (r : Reply) × IsStep honest Reserve r s t × IsNoRefusal r
+    × ((ticket : ℕ) → Reserves r ticket → ⊥)
 
 -- the job of the ticket was merged and installed
 abbrev pub IsFinished : Type 0 → ℕ → Stage → Stage → Type 0
-IsFinished honest ticket s t = (mid : Stage) × Does honest (Merge ticket) s mid × Does honest (Install ticket) mid t
+IsFinished honest ticket s t =
+    (mid : Stage) × Does honest (Merge ticket) s mid × Does honest (Install ticket) mid t
 
 -- its merge was refused, or its install
 abbrev pub IsUnfinished : Type 0 → ℕ → CommandFault → Stage → Stage → Type 0
-IsUnfinished honest ticket e s t = Fails honest (Merge ticket) e s t ⊎ ((mid : Stage) × Does honest (Merge ticket) s mid × Fails honest (Install ticket) e mid t)
+IsUnfinished honest ticket e s t =
+    Fails honest (Merge ticket) e s t
+    ⊎ ((mid : Stage) × Does honest (Merge ticket) s mid × Fails honest (Install ticket) e mid t)
 
 -- then it was cancelled
 abbrev pub IsGivenUp : Type 0 → ℕ → CommandFault → Stage → Stage → Type 0
-IsGivenUp honest ticket e s t = (mid : Stage) × (r : Reply) × IsUnfinished honest ticket e s mid × IsStep honest (Cancel ticket) r mid t
+IsGivenUp honest ticket e s t =
+    (mid : Stage) × (r : Reply) × IsUnfinished honest ticket e s mid
+    × IsStep honest (Cancel ticket) r mid t
 
 -- what was due was reserved, merged and installed
 abbrev pub IsRound : Type 0 → Stage → Stage → Type 0
-IsRound honest s t = (ticket : ℕ) × (mid : Stage) × IsReserved honest ticket s mid × IsFinished honest ticket mid t
+IsRound honest s t = (ticket : ℕ) × (mid : Stage) × IsReserved honest ticket s mid
+    × IsFinished honest ticket mid t
 
 -- it was refused, and nothing is reserved any more
 abbrev pub IsRefusedRound : Type 0 → CommandFault → Stage → Stage → Type 0
-IsRefusedRound honest e s t = Fails honest Reserve e s t ⊎ ((ticket : ℕ) × (mid : Stage) × IsReserved honest ticket s mid × IsGivenUp honest ticket e mid t)
+IsRefusedRound honest e s t = Fails honest Reserve e s t
+    ⊎ ((ticket : ℕ) × (mid : Stage) × IsReserved honest ticket s mid
+    × IsGivenUp honest ticket e mid t)
 
 -- ---- one after another
 
@@ -72,8 +82,8 @@ pub record IsCompacted (honest : Type 0) (n : ℕ) (s t : Stage) : Type 0 where
   pub none : NoneIsDue honest last idle
   pub collected : Does honest Collect idle t
 
--- Why it ends before that, behind some: the next one was refused; or nothing was due, and the removals were refused; or there are more than
--- are counted.
+-- Why it ends before that, behind some: the next one was refused; or nothing was due, and the
+-- removals were refused; or there are more than are counted.
 abbrev pub Ends : Type 0 → ℕ → CommandFault → Stage → Stage → Type 0
 Ends honest n e s t =
     IsRefusedRound honest e s t

@@ -1,5 +1,6 @@
 -- A conversation: lines and the replies to them (this project's rule).
-use Rattle.std.specs.Prelude.{◌≡◌, ◌≢◌, ◌⊎◌, ℕ, ◌<◌, Bool, true, false, ⊤, List, [], ◌∷◌, ◌++◌, length, codes, Option, Some, None, Result, Ok, Err}
+use Rattle.std.specs.Prelude.{◌≡◌, ◌≢◌, ◌⊎◌, ℕ, ◌<◌, Bool, true, false, ⊤, List, [], ◌∷◌, ◌++◌}
+use Rattle.std.specs.Prelude.{length, codes, Option, Some, None, Result, Ok, Err}
 use Rattle.std.specs.Io.KnownBytes.{Appends, IsAtEnd, Keeps}
 use Rattle.lsm_model.specs.Files.{all_entries}
 use Rattle.lsm_model.specs.Scanning.{IsScan, Pair}
@@ -23,12 +24,14 @@ use Rattle.lsm_script.specs.declared.reply.Reply.{Reply}
 use Rattle.lsm_script.specs.declared.reply.Reply.TheVariants.{Refused}
 use Rattle.lsm_cmd_compact.specs.Compacting.{installed_text}
 use Rattle.lsm_cmd_shell.specs.Asks.{IsAsk}
-use Rattle.lsm_cmd_shell.specs.Batching.{IsAbort, IsBegin, IsCommitReply, IsPutReply, Says, Standing, no_memory, standing}
+use Rattle.lsm_cmd_shell.specs.Batching.{IsAbort, IsBegin, IsCommitReply, IsPutReply, Says}
+use Rattle.lsm_cmd_shell.specs.Batching.{Standing, no_memory, standing}
 use Rattle.lsm_cmd_shell.specs.Pairs.{pairs_text, shown}
 use Rattle.lsm_cmd_shell.specs.Rounds.{IsCompacted, IsUncompacted}
 use Rattle.lsm_cmd_shell.specs.Statistics.{statistics_text}
 use Rattle.lsm_cmd_shell.specs.declared.ask.Ask.{Ask}
-use Rattle.lsm_cmd_shell.specs.declared.ask.Ask.TheVariants.{Do, Put, Scan, Begin, Commit, Abort, Compact, Stats, Help}
+use Rattle.lsm_cmd_shell.specs.declared.ask.Ask.TheVariants.{Do, Put, Scan, Begin, Commit, Abort}
+use Rattle.lsm_cmd_shell.specs.declared.ask.Ask.TheVariants.{Compact, Stats, Help}
 use Rattle.lsm_cmd_shell.specs.declared.help.TheConstants.{HELP}
 use Rattle.lsm_cmd_shell.specs.declared.talk_fault.TalkFault.{TalkFault}
 use Rattle.lsm_cmd_shell.specs.declared.talk_fault.TalkFault.TheVariants.{Read, Write as WriteFault}
@@ -45,29 +48,37 @@ long_line = codes "bad line: it has more than 8388608 bytes\n"
 
 -- ---- a scan
 
--- the last line of a scan's reply: that it is whole; or why it is not, a table that could not be read, over an honest shelf only since the
--- shelf refused, or want of memory
+-- the last line of a scan's reply: that it is whole; or why it is not, a table that could not be
+-- read, over an honest shelf only since the shelf refused, or want of memory
 abbrev pub StopsScan : Type 0 → Form → List ℕ → Told → Told → Type 0
 StopsScan honest form last was is =
     (last ≡ no_memory)
-    ⊎ ((fault : ReadFault) × (last ≡ reply_text form (Refused (State (ReadRefused fault)))) × (honest → IsMemoryOrShelf fault) × ReadCounted fault was is)
+    ⊎ ((fault : ReadFault) × (last ≡ reply_text form (Refused (State (ReadRefused fault))))
+    × (honest → IsMemoryOrShelf fault) × ReadCounted fault was is)
 
--- Of the keys of the version that have a value at its last sequence those that are asked for are shown, in order.
+-- Of the keys of the version that have a value at its last sequence those that are asked for are
+-- shown, in order.
 abbrev pub ShowsAll : KeyBounds → Option ℕ → Levels → List Pair → Type 0
-ShowsAll bounds limit v front = (pairs : List Pair) × IsScan v.last (all_entries (files v)) pairs × (front ≡ shown bounds limit pairs)
+ShowsAll bounds limit v front =
+    (pairs : List Pair) × IsScan v.last (all_entries (files v)) pairs
+    × (front ≡ shown bounds limit pairs)
 
 -- the first of them
 abbrev pub ShowsSome : KeyBounds → Option ℕ → Levels → List Pair → Type 0
-ShowsSome bounds limit v front = (pairs : List Pair) × (back : List Pair) × IsScan v.last (all_entries (files v)) pairs × (shown bounds limit pairs ≡ front ++ back)
+ShowsSome bounds limit v front =
+    (pairs : List Pair) × (back : List Pair) × IsScan v.last (all_entries (files v)) pairs
+    × (shown bounds limit pairs ≡ front ++ back)
 
 -- Lines for pairs, and a last line. Nothing changed but what the shelf was told.
-pub record IsScanned (honest : Type 0) (form : Form) (bounds : KeyBounds) (limit : Option ℕ) (said : List ℕ) (s t : Stage) : Type 0 where
+pub record IsScanned (honest : Type 0) (form : Form) (bounds : KeyBounds) (limit : Option ℕ)
+    (said : List ℕ) (s t : Stage) : Type 0 where
   pub front : List Pair
   pub last : List ℕ
   pub said_is : said ≡ pairs_text form front ++ last
   pub shows :
       ((last ≡ codes "end\n") × (honest → ShowsAll bounds limit s.state.slots.version front))
-      ⊎ (StopsScan honest form last s.told t.told × ((front ≡ []) ⊎ (honest → ShowsSome bounds limit s.state.slots.version front)))
+      ⊎ (StopsScan honest form last s.told t.told
+      × ((front ≡ []) ⊎ (honest → ShowsSome bounds limit s.state.slots.version front)))
   pub told : Becomes s.told t.told
   pub same : t ≡ record s { told = t.told }
 
@@ -83,22 +94,30 @@ IsCompactReply honest form said s t =
 
 -- What is said to who asks for this, and what it leaves. A command is a step of the state's own.
 abbrev pub Obeys : Type 0 → Form → Ask → List ℕ → Standing → Standing → Type 0
-Obeys honest form (Do c) said s t = (t.begun ≡ s.begun) × ((r : Reply) × IsStep honest c r s.stage t.stage × Says (reply_text form r) said)
+Obeys honest form (Do c) said s t =
+    (t.begun ≡ s.begun) × ((r : Reply) × IsStep honest c r s.stage t.stage
+    × Says (reply_text form r) said)
 Obeys honest form (Put w) said s t = IsPutReply honest form w s.begun said s t
-Obeys honest form (Scan bounds limit) said s t = (t.begun ≡ s.begun) × IsScanned honest form bounds limit said s.stage t.stage
+Obeys honest form (Scan bounds limit) said s t =
+    (t.begun ≡ s.begun) × IsScanned honest form bounds limit said s.stage t.stage
 Obeys honest form Begin said s t = (t.stage ≡ s.stage) × IsBegin s.begun t.begun said
 Obeys honest form Commit said s t = IsCommitReply honest form s.begun said s t
 Obeys honest form Abort said s t = (t.stage ≡ s.stage) × IsAbort s.begun t.begun said
-Obeys honest form Compact said s t = (t.begun ≡ s.begun) × IsCompactReply honest form said s.stage t.stage
-Obeys honest form Stats said s t = (t ≡ s) × ((said ≡ statistics_text s.stage.state) ⊎ (said ≡ no_memory))
+Obeys honest form Compact said s t =
+    (t.begun ≡ s.begun) × IsCompactReply honest form said s.stage t.stage
+Obeys honest form Stats said s t =
+    (t ≡ s) × ((said ≡ statistics_text s.stage.state) ⊎ (said ≡ no_memory))
 Obeys honest form Help said s t = (t ≡ s) × (said ≡ HELP.now)
 
 -- What is said to a line, and what it leaves.
-pub data IsReplied (honest : Type 0) (form : Form) (line said : List ℕ) (s t : Standing) : Type 0 where
+pub data IsReplied (honest : Type 0) (form : Form) (line said : List ℕ) (s t : Standing)
+    : Type 0 where
   -- what it asks for was done
-  Obeyed : (a : Ask) → IsAsk form line a → Obeys honest form a said s t → IsReplied honest form line said s t
+  Obeyed : (a : Ask) → IsAsk form line a → Obeys honest form a said s t
+      → IsReplied honest form line said s t
   -- nothing is asked for, nor is it `quit`
-  Bad : ((a : Ask) → IsAsk form line a → ⊥) → line ≢ codes "quit" → said ≡ bad_line → t ≡ s → IsReplied honest form line said s t
+  Bad : ((a : Ask) → IsAsk form line a → ⊥) → line ≢ codes "quit" → said ≡ bad_line → t ≡ s
+      → IsReplied honest form line said s t
   -- the line is too long
   Long : most_of_line < length line → said ≡ long_line → t ≡ s → IsReplied honest form line said s t
   -- memory was refused, and nothing was done
@@ -107,10 +126,12 @@ pub data IsReplied (honest : Type 0) (form : Form) (line said : List ℕ) (s t :
 -- ---- line after line
 
 -- Lines were replied to, one after another, each where the one before it left off.
-abbrev pub AreAnswered : {S : Type 0} → (List ℕ → List ℕ → S → S → Type 0) → List (List ℕ) → List ℕ → S → S → Type 0
+abbrev pub AreAnswered : {S : Type 0} → (List ℕ → List ℕ → S → S → Type 0) → List (List ℕ) → List ℕ
+    → S → S → Type 0
 AreAnswered answers [] said s t = (said ≡ []) × (t ≡ s)
 AreAnswered {S = S} answers (line ∷ lines) said s t =
-    (mid : S) × (one : List ℕ) × (rest : List ℕ) × (said ≡ one ++ rest) × answers line one s mid × AreAnswered answers lines rest mid t
+    (mid : S) × (one : List ℕ) × (rest : List ℕ) × (said ≡ one ++ rest) × answers line one s mid
+    × AreAnswered answers lines rest mid t
 
 abbrev pub AreReplied : Type 0 → Form → List (List ℕ) → List ℕ → Standing → Standing → Type 0
 AreReplied honest form lines said s t = AreAnswered (IsReplied honest form) lines said s t
@@ -120,7 +141,8 @@ abbrev pub IsEnd : List (List ℕ) → Type 0
 IsEnd [] = ⊤
 IsEnd (line ∷ lines) = line ≡ codes "quit"
 
--- The lines that were replied to are the first of the input's; all up to its end, or to a `quit`, unless the conversation was stopped.
+-- The lines that were replied to are the first of the input's; all up to its end, or to a `quit`,
+-- unless the conversation was stopped.
 abbrev pub AreFirst : Result (Unit {0}) TalkFault → List (List ℕ) → List (List ℕ) → Type 0
 AreFirst (Ok done) lines all = (rest : List (List ℕ)) × (all ≡ lines ++ rest) × IsEnd rest
 AreFirst (Err fault) lines all = (rest : List (List ℕ)) × (all ≡ lines ++ rest)
@@ -136,9 +158,11 @@ IsWrite (Ok done) = ⊥
 IsWrite (Err WriteFault) = ⊤
 IsWrite (Err Read) = ⊥
 
--- Just the first lines of the input were replied to, each by what it asks for, in their order; and these replies were written, unless a
--- write failed.
-pub record IsTalkOf {S : Type 0} (answers : List ℕ → List ℕ → S → S → Type 0) (input : Option (List ℕ)) (r : Result (Unit {0}) TalkFault) (s t : S) (old new : Option (List ℕ)) : Type 0 where
+-- Just the first lines of the input were replied to, each by what it asks for, in their order; and
+-- these replies were written, unless a write failed.
+pub record IsTalkOf {S : Type 0} (answers : List ℕ → List ℕ → S → S
+    → Type 0) (input : Option (List ℕ)) (r : Result (Unit {0}) TalkFault) (s t : S) (old new
+    : Option (List ℕ)) : Type 0 where
   pub lines : List (List ℕ)
   pub said : List ℕ
   pub replied : AreAnswered answers lines said s t
@@ -146,8 +170,11 @@ pub record IsTalkOf {S : Type 0} (answers : List ℕ → List ℕ → S → S �
   pub written : (IsWrite r → ⊥) → Appends old new said
 
 -- A conversation. No batch was begun before it, and one that is begun at its end is let go.
-abbrev pub IsTalk : Type 0 → Form → Option (List ℕ) → Result (Unit {0}) TalkFault → Stage → Stage → Option (List ℕ) → Option (List ℕ) → Type 0
-IsTalk honest form input r s t old new = (begun : Option (List Write)) × IsTalkOf (IsReplied honest form) input r (standing s None) (standing t begun) old new
+abbrev pub IsTalk : Type 0 → Form → Option (List ℕ) → Result (Unit {0}) TalkFault → Stage → Stage
+    → Option (List ℕ) → Option (List ℕ) → Type 0
+IsTalk honest form input r s t old new =
+    (begun : Option (List Write))
+    × IsTalkOf (IsReplied honest form) input r (standing s None) (standing t begun) old new
 
 -- ---- one turn
 
@@ -172,12 +199,17 @@ pub record IsToReply (old new : Lined) (next : NextLine) : Type 0 where
   pub is : IsLineOf next new.line line
   pub takes : TakesLine line old.left new.left
 
--- The next line was replied to; or the conversation ended, at the end of the input or by `quit`; or it was stopped.
-abbrev pub IsTurnOf : {S : Type 0} → (List ℕ → List ℕ → S → S → Type 0) → Result Bool TalkFault → Lined → Lined → S → S → Option (List ℕ) → Option (List ℕ) → Type 0
+-- The next line was replied to; or the conversation ended, at the end of the input or by `quit`; or
+-- it was stopped.
+abbrev pub IsTurnOf : {S : Type 0} → (List ℕ → List ℕ → S → S → Type 0) → Result Bool TalkFault
+    → Lined → Lined → S → S → Option (List ℕ) → Option (List ℕ) → Type 0
 IsTurnOf answers (Ok true) in_old in_new s t old new =
-    (line : List ℕ) × (said : List ℕ) × TakesLine line in_old.left in_new.left × answers line said s t × Appends old new said
+    (line : List ℕ) × (said : List ℕ) × TakesLine line in_old.left in_new.left
+    × answers line said s t × Appends old new said
 IsTurnOf answers (Ok false) in_old in_new s t old new =
-    (IsAtEnd in_old.left ⊎ TakesLine (codes "quit") in_old.left in_new.left) × (t ≡ s) × Keeps old new
+    (IsAtEnd in_old.left ⊎ TakesLine (codes "quit") in_old.left in_new.left) × (t ≡ s)
+    × Keeps old new
 IsTurnOf answers (Err Read) in_old in_new s t old new = (t ≡ s) × Keeps old new
 IsTurnOf answers (Err WriteFault) in_old in_new s t old new =
-    (line : List ℕ) × (said : List ℕ) × TakesLine line in_old.left in_new.left × answers line said s t
+    (line : List ℕ) × (said : List ℕ) × TakesLine line in_old.left in_new.left
+    × answers line said s t

@@ -1,5 +1,6 @@
--- What a run of `shell` comes to, for the words of its command line: this project's rule. It is about a folder that was opened at the path of
--- these words, and about shelves on its place; that such a shelf is the run's own is to be read.
+-- What a run of `shell` comes to, for the words of its command line: this project's rule. It is
+-- about a folder that was opened at the path of these words, and about shelves on its place; that
+-- such a shelf is the run's own is to be read.
 use Rattle.std.specs.Prelude.{◌⊎◌, ℕ, List, Option}
 use Rattle.std.specs.Io.KnownBytes.{Keeps}
 use Rattle.lsm_folder.specs.Calls.{AreHonest}
@@ -16,27 +17,35 @@ use Rattle.lsm_cmd_write.specs.declared.ingesting.start.Start.{Start}
 use Rattle.lsm_cmd_shell.specs.Conversing.{IsConversed, IsUnconversed}
 
 module _ {C M : Type 0} (folders : Ghosts C M) where
-  -- The lock of the folder at the path was held, and it was looked at. On a shelf of it a conversation went on, up to its end.
-  pub record TalksAt (path : List ℕ) (options : IngestOptions) (workers : Option ℕ) (input : Option (List ℕ)) (old new : Option (List ℕ)) : Type 0 where
+  -- The lock of the folder at the path was held, and it was looked at. On a shelf of it a
+  -- conversation went on, up to its end.
+  pub record TalksAt (path : List ℕ) (options : IngestOptions) (workers : Option ℕ)
+      (input : Option (List ℕ)) (old new : Option (List ℕ)) : Type 0 where
     pub start : Start
     pub logs : List FolderFile
     pub begun : FileShelf C M
     pub on : IsShelfAt folders path (IsPrepared options start logs) begun
     pub ended : FileShelf C M
-    pub done : IsConversed workers (AreHonest folders.calls) start logs options.form input (told_by folders begun) (told_by folders ended) old new
+    pub done : IsConversed workers (AreHonest folders.calls) start logs options.form input
+        (told_by folders begun) (told_by folders ended) old new
 
 module _ {C M : Type 0} (folders : Ghosts C M) (marks : mark.Ghosts M) where
-  -- The lock of the folder at the path was held, and it was looked at. On a shelf of it this fault kept a conversation from its end.
-  pub record StopsAt (path : List ℕ) (options : IngestOptions) (workers : Option ℕ) (input : Option (List ℕ)) (fault : CompactFault) (old new : Option (List ℕ)) : Type 0 where
+  -- The lock of the folder at the path was held, and it was looked at. On a shelf of it this fault
+  -- kept a conversation from its end.
+  pub record StopsAt (path : List ℕ) (options : IngestOptions) (workers : Option ℕ)
+      (input : Option (List ℕ)) (fault : CompactFault) (old new : Option (List ℕ)) : Type 0 where
     pub start : Start
     pub logs : List FolderFile
     pub begun : FileShelf C M
     pub on : IsShelfAt folders path (IsPrepared options start logs) begun
     pub ended : FileShelf C M
     pub refused :
-        IsUnconversed workers (stored_at folders marks (told_by folders begun).place) MayRefuse (AreHonest folders.calls) start logs options.form input fault
+        IsUnconversed workers (stored_at folders marks (told_by folders begun).place) MayRefuse
+        (AreHonest folders.calls) start logs options.form input fault
         (told_by folders begun) (told_by folders ended) old new
 
   -- nothing was written; or a fault was met so
-  abbrev pub FailsToTalk : List ℕ → IngestOptions → (workers : Option ℕ) → (input : Option (List ℕ)) → (old new : Option (List ℕ)) → Type 0
-  FailsToTalk path options workers input old new = Keeps old new ⊎ ((fault : CompactFault) × StopsAt path options workers input fault old new)
+  abbrev pub FailsToTalk : List ℕ → IngestOptions → (workers : Option ℕ) → (input : Option (List ℕ))
+      → (old new : Option (List ℕ)) → Type 0
+  FailsToTalk path options workers input old new =
+      Keeps old new ⊎ ((fault : CompactFault) × StopsAt path options workers input fault old new)

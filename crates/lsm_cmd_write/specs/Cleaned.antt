@@ -1,5 +1,5 @@
--- What a `clean` comes to, for the words of its command line: this project's rule. It is about a folder that was opened at the path of
--- these words.
+-- What a `clean` comes to, for the words of its command line: this project's rule. It is about a
+-- folder that was opened at the path of these words.
 use Rattle.std.specs.Prelude.{◌≡◌, ◌⊎◌, ℕ, List, Option}
 use Rattle.std.specs.Io.KnownBytes.{Keeps}
 use Rattle.lsm_folder.specs.declared.folder_calls.FolderCalls.{Ghosts}
@@ -18,7 +18,8 @@ module _ {C M : Type 0} (folders : Ghosts C M) where
     pub on : IsFolderAt folders path (λ first now. now ≡ first) begun
     pub ended : C
     pub same : folders.place ended ≡ folders.place begun
-    pub done : IsCleaned folders (folders.place begun) (folders.calls begun) (folders.calls ended) old new
+    pub done : IsCleaned folders (folders.place begun) (folders.calls begun) (folders.calls ended)
+        old new
 
 -- the folder was not opened
 abbrev pub IsUnopenedBy : WriterFault → Type 0
@@ -26,13 +27,16 @@ IsUnopenedBy e = (fault : DirectoryFault) × (e ≡ Directory fault) × IsFolder
 
 module _ {C M : Type 0} (folders : Ghosts C M) (marks : mark.Ghosts M) where
   -- This stopped the cleaning of the folder at the path.
-  pub record StopsAt (path : List ℕ) (fault : WriterFault) (old new : Option (List ℕ)) : Type 0 where
+  pub record StopsAt (path : List ℕ) (fault : WriterFault) (old new : Option (List ℕ))
+      : Type 0 where
     pub begun : C
     pub on : IsFolderAt folders path (λ first now. now ≡ first) begun
     pub ended : C
     pub same : folders.place ended ≡ folders.place begun
-    pub stopped : IsUncleaned folders marks (folders.place begun) fault (folders.calls begun) (folders.calls ended) old new
+    pub stopped : IsUncleaned folders marks (folders.place begun) fault (folders.calls begun)
+        (folders.calls ended) old new
 
   -- memory ran out, or the folder was not opened, and nothing was written; or that
   abbrev pub FailsToClean : List ℕ → WriterFault → (old new : Option (List ℕ)) → Type 0
-  FailsToClean path fault old new = ((IsUnopenedBy fault ⊎ (fault ≡ NoMemory)) × Keeps old new) ⊎ StopsAt path fault old new
+  FailsToClean path fault old new =
+      ((IsUnopenedBy fault ⊎ (fault ≡ NoMemory)) × Keeps old new) ⊎ StopsAt path fault old new

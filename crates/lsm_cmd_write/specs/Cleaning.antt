@@ -1,5 +1,7 @@
--- What a `clean` removes, and why it stops (this project's rule; which files are obsolete is LevelDB's `DBImpl::RemoveObsoleteFiles`).
-use Rattle.std.specs.Prelude.{◌≡◌, ◌≢◌, ◌↔◌, ◌⊎◌, ℕ, ◌-◌, ◌^◌, List, [], ◌∷◌, ◌++◌, Ok, Err, Option, map, reverse}
+-- What a `clean` removes, and why it stops (this project's rule; which files are obsolete is
+-- LevelDB's `DBImpl::RemoveObsoleteFiles`).
+use Rattle.std.specs.Prelude.{◌≡◌, ◌≢◌, ◌↔◌, ◌⊎◌, ℕ, ◌-◌, ◌^◌, List, [], ◌∷◌, ◌++◌, Ok, Err, Option}
+use Rattle.std.specs.Prelude.{map, reverse}
 use Rattle.std.specs.Io.KnownBytes.{Appends, Keeps}
 use Rattle.std.specs.List.{flat_map}
 use Rattle.std.specs.List.Sorted.{IsPermutation, IsSorted}
@@ -28,7 +30,8 @@ use Rattle.lsm_directory.specs.Holding.{IsHeld, IsUnheld}
 use Rattle.lsm_directory.specs.Logs.{AreThose}
 use Rattle.lsm_directory.specs.Looking.{LooksStopped}
 use Rattle.lsm_directory.specs.declared.faults.directory_fault.DirectoryFault.{DirectoryFault}
-use Rattle.lsm_directory.specs.declared.folder.file_kind.FileKind.TheVariants.{Table, Manifest, Temporary}
+use Rattle.lsm_directory.specs.declared.folder.file_kind.FileKind.TheVariants.{Table, Manifest}
+use Rattle.lsm_directory.specs.declared.folder.file_kind.FileKind.TheVariants.{Temporary}
 use Rattle.lsm_cmd_write.specs.WriterFault.{of_open, of_shelf}
 use Rattle.lsm_cmd_write.specs.declared.faults.writer_fault.WriterFault.{WriterFault}
 use Rattle.lsm_cmd_write.specs.declared.faults.writer_fault.WriterFault.TheVariants.{OutOfMemory, Write as WriteFault, Directory}
@@ -46,9 +49,11 @@ pub record IsKept (Honest : Type 0) (manifest : ℕ) (tables : List ℕ) (was is
   pub all : (n : ℕ) → Has tables n ↔ Has (numbers_in version) n
 
 -- memory ran out, or there was none to be found
-abbrev pub IsUnkept : (ℕ → List ℕ → Type 0) → (Asked → ShelfFault → Type 0) → Type 0 → WriterFault → Told → Told → Type 0
+abbrev pub IsUnkept : (ℕ → List ℕ → Type 0) → (Asked → ShelfFault → Type 0) → Type 0 → WriterFault
+    → Told → Told → Type 0
 IsUnkept Stored Refused Honest e was is =
-    (e ≡ OutOfMemory) ⊎ ((fault : OpenFault) × (e ≡ of_open fault) × IsFindRefusal Stored Refused Honest fault was is)
+    (e ≡ OutOfMemory) ⊎ ((fault : OpenFault) × (e ≡ of_open fault)
+    × IsFindRefusal Stored Refused Honest fault was is)
 
 -- The name is of another manifest, of a temporary file, or of a table that is none of these.
 abbrev pub IsSpare : ℕ → List ℕ → List ℕ → Type 0
@@ -68,26 +73,34 @@ abbrev pub lines : List (List ℕ) → List ℕ
 lines names = flat_map (λ name. name ++ 10 ∷ []) names
 
 -- Of these names just the spare ones were removed and printed, in their order.
-pub record AreRemoved (manifest : ℕ) (tables : List ℕ) (names : List (List ℕ)) (old new : List Call) (before after : Option (List ℕ)) : Type 0 where
+pub record AreRemoved (manifest : ℕ) (tables : List ℕ) (names : List (List ℕ)) (old new : List Call)
+    (before after : Option (List ℕ)) : Type 0 where
   pub spares : List (List ℕ)
   pub those : AreThose (IsSpare manifest tables) names spares
   pub calls : new ≡ removals spares old
   pub printed : Appends before after (lines spares)
 
--- The folder refused to remove the file of this name; or it removed it, and its line was not written.
-abbrev pub IsUnremoved : List ℕ → WriterFault → List Call → List Call → Option (List ℕ) → Option (List ℕ) → Type 0
+-- The folder refused to remove the file of this name; or it removed it, and its line was not
+-- written.
+abbrev pub IsUnremoved : List ℕ → WriterFault → List Call → List Call → Option (List ℕ)
+    → Option (List ℕ) → Type 0
 IsUnremoved name e old new before after =
-    ((fault : FolderFault) × (e ≡ of_shelf (device_of fault)) × (new ≡ removed name (Err fault) ∷ old) × Keeps before after)
+    ((fault : FolderFault) × (e ≡ of_shelf (device_of fault))
+    × (new ≡ removed name (Err fault) ∷ old) × Keeps before after)
     ⊎ ((e ≡ WriteFault) × (new ≡ removed name (Ok tt) ∷ old))
 
--- The file of this name was removed and printed if it is a spare one, and else nothing was asked for.
-abbrev pub Removes : ℕ → List ℕ → List ℕ → List Call → List Call → Option (List ℕ) → Option (List ℕ) → Type 0
+-- The file of this name was removed and printed if it is a spare one, and else nothing was asked
+-- for.
+abbrev pub Removes : ℕ → List ℕ → List ℕ → List Call → List Call → Option (List ℕ) → Option (List ℕ)
+    → Type 0
 Removes manifest tables name old new before after =
-    (IsSpare manifest tables name × (new ≡ removed name (Ok tt) ∷ old) × Appends before after (name ++ 10 ∷ []))
+    (IsSpare manifest tables name × (new ≡ removed name (Ok tt) ∷ old)
+    × Appends before after (name ++ 10 ∷ []))
     ⊎ ((IsSpare manifest tables name → ⊥) × (new ≡ old) × (after ≡ before))
 
 -- Just the spare ones before this one were removed and printed.
-pub record StopsRemoving (manifest : ℕ) (tables : List ℕ) (names : List (List ℕ)) (e : WriterFault) (old new : List Call) (before after : Option (List ℕ)) : Type 0 where
+pub record StopsRemoving (manifest : ℕ) (tables : List ℕ) (names : List (List ℕ)) (e : WriterFault)
+    (old new : List Call) (before after : Option (List ℕ)) : Type 0 where
   pub front : List (List ℕ)
   pub name : List ℕ
   pub back : List (List ℕ)
@@ -98,8 +111,10 @@ pub record StopsRemoving (manifest : ℕ) (tables : List ℕ) (names : List (Lis
   pub removed : AreRemoved manifest tables front old calls before mid
   pub stops : IsUnremoved name e calls new mid after
 
--- The folder told its names, and just the spare ones were removed and printed, in the order of names.
-pub record IsTidied (manifest : ℕ) (tables : List ℕ) (old new : List Call) (before after : Option (List ℕ)) : Type 0 where
+-- The folder told its names, and just the spare ones were removed and printed, in the order of
+-- names.
+pub record IsTidied (manifest : ℕ) (tables : List ℕ) (old new : List Call)
+    (before after : Option (List ℕ)) : Type 0 where
   pub names : List (List ℕ)
   pub ordered : List (List ℕ)
   pub same : IsPermutation names ordered
@@ -107,15 +122,18 @@ pub record IsTidied (manifest : ℕ) (tables : List ℕ) (old new : List Call) (
   pub removed : AreRemoved manifest tables ordered (listed (Ok names) ∷ old) new before after
 
 -- The folder told its names, and a removal or a line of one stopped it.
-pub record IsHalfTidied (manifest : ℕ) (tables : List ℕ) (e : WriterFault) (old new : List Call) (before after : Option (List ℕ)) : Type 0 where
+pub record IsHalfTidied (manifest : ℕ) (tables : List ℕ) (e : WriterFault) (old new : List Call)
+    (before after : Option (List ℕ)) : Type 0 where
   pub names : List (List ℕ)
   pub ordered : List (List ℕ)
   pub same : IsPermutation names ordered
   pub ascending : IsSorted (slice_cmp nat_cmp) ordered
   pub stops : StopsRemoving manifest tables ordered e (listed (Ok names) ∷ old) new before after
 
--- Why it is not tidied: a look was refused; a removal or a line; or all was done, and the lines were not written out.
-abbrev pub IsUntidied : ℕ → List ℕ → WriterFault → List Call → List Call → Option (List ℕ) → Option (List ℕ) → Type 0
+-- Why it is not tidied: a look was refused; a removal or a line; or all was done, and the lines
+-- were not written out.
+abbrev pub IsUntidied : ℕ → List ℕ → WriterFault → List Call → List Call → Option (List ℕ)
+    → Option (List ℕ) → Type 0
 IsUntidied manifest tables e old new before after =
     ((fault : ShelfFault) × (e ≡ of_shelf fault) × LooksStopped fault old new × Keeps before after)
     ⊎ (IsHalfTidied manifest tables e old new before after
@@ -125,7 +143,8 @@ IsUntidied manifest tables e old new before after =
 
 -- The manifest of this number was synced, and then the folder's names.
 abbrev pub IsDurable : ℕ → List Call → List Call → Type 0
-IsDurable manifest old new = new ≡ folder_synced (Ok tt) ∷ synced (manifest_name manifest) (Ok tt) ∷ old
+IsDurable manifest old new = new
+    ≡ folder_synced (Ok tt) ∷ synced (manifest_name manifest) (Ok tt) ∷ old
 
 -- Memory ran out before either was asked for; or the folder refused the one or the other.
 abbrev pub IsUndurable : ℕ → WriterFault → List Call → List Call → Type 0
@@ -133,48 +152,68 @@ IsUndurable manifest e old new =
     ((e ≡ OutOfMemory) × (new ≡ old))
     ⊎ ((fault : FolderFault)
     × (e ≡ of_shelf (device_of fault))
-    × ((new ≡ synced (manifest_name manifest) (Err fault) ∷ old) ⊎ (new ≡ folder_synced (Err fault) ∷ synced (manifest_name manifest) (Ok tt) ∷ old)))
+    × ((new ≡ synced (manifest_name manifest) (Err fault) ∷ old)
+    ⊎ (new ≡ folder_synced (Err fault) ∷ synced (manifest_name manifest) (Ok tt) ∷ old)))
 
--- The manifest and the folder's names were made durable, and then just the spare files were removed.
-abbrev pub IsCleared : ℕ → List ℕ → List Call → List Call → Option (List ℕ) → Option (List ℕ) → Type 0
-IsCleared manifest tables old new before after = (durable : List Call) × IsDurable manifest old durable × IsTidied manifest tables durable new before after
+-- The manifest and the folder's names were made durable, and then just the spare files were
+-- removed.
+abbrev pub IsCleared : ℕ → List ℕ → List Call → List Call → Option (List ℕ) → Option (List ℕ)
+    → Type 0
+IsCleared manifest tables old new before after =
+    (durable : List Call) × IsDurable manifest old durable
+    × IsTidied manifest tables durable new before after
 
 -- They were not made durable, and no file was removed; or it was not tidied behind that.
-abbrev pub IsUncleared : ℕ → List ℕ → WriterFault → List Call → List Call → Option (List ℕ) → Option (List ℕ) → Type 0
+abbrev pub IsUncleared : ℕ → List ℕ → WriterFault → List Call → List Call → Option (List ℕ)
+    → Option (List ℕ) → Type 0
 IsUncleared manifest tables e old new before after =
     (IsUndurable manifest e old new × Keeps before after)
-    ⊎ ((durable : List Call) × IsDurable manifest old durable × IsUntidied manifest tables e durable new before after)
+    ⊎ ((durable : List Call) × IsDurable manifest old durable
+    × IsUntidied manifest tables e durable new before after)
 
 -- ---- a clean
 
 module _ {C M : Type 0} (folders : Ghosts C M) where
-  -- On a shelf of the folder of this place a database was found, which needs this manifest and these tables.
+  -- On a shelf of the folder of this place a database was found, which needs this manifest and
+  -- these tables.
   abbrev pub Needs : Place → ℕ → List ℕ → Type 0
-  Needs place manifest tables = (shelf : FileShelf C M) × IsKept (AreHonest folders.calls) manifest tables (fresh place) (told_by folders shelf)
+  Needs place manifest tables = (shelf : FileShelf C M)
+      × IsKept (AreHonest folders.calls) manifest tables (fresh place) (told_by folders shelf)
 
   -- What the database in the folder needs was made durable, and what it does not need was removed.
-  abbrev pub AreSparesGone : Place → List Call → List Call → Option (List ℕ) → Option (List ℕ) → Type 0
-  AreSparesGone place old new before after = (manifest : ℕ) × (tables : List ℕ) × Needs place manifest tables × IsCleared manifest tables old new before after
+  abbrev pub AreSparesGone : Place → List Call → List Call → Option (List ℕ) → Option (List ℕ)
+      → Type 0
+  AreSparesGone place old new before after =
+      (manifest : ℕ) × (tables : List ℕ) × Needs place manifest tables
+      × IsCleared manifest tables old new before after
 
   -- The lock was held, and then this was done.
   abbrev pub IsCleaned : Place → List Call → List Call → Option (List ℕ) → Option (List ℕ) → Type 0
-  IsCleaned place old new before after = (held : List Call) × IsHeld Exclusive old held × AreSparesGone place held new before after
+  IsCleaned place old new before after =
+      (held : List Call) × IsHeld Exclusive old held × AreSparesGone place held new before after
 
 module _ {C M : Type 0} (folders : Ghosts C M) (marks : mark.Ghosts M) where
   -- Memory ran out; or on a shelf of the folder of this place there was no database to be found.
   abbrev pub HasNone : Place → WriterFault → Type 0
   HasNone place e =
       (e ≡ OutOfMemory)
-      ⊎ ((shelf : FileShelf C M) × IsUnkept (stored_at folders marks place) MayRefuse (AreHonest folders.calls) e (fresh place) (told_by folders shelf))
+      ⊎ ((shelf : FileShelf C M) × IsUnkept (stored_at folders marks place) MayRefuse
+      (AreHonest folders.calls) e (fresh place) (told_by folders shelf))
 
-  -- Behind the lock: no database was found, and nothing was asked for; or what it does not need was not removed.
-  abbrev pub StopsCleaning : Place → WriterFault → List Call → List Call → Option (List ℕ) → Option (List ℕ) → Type 0
+  -- Behind the lock: no database was found, and nothing was asked for; or what it does not need was
+  -- not removed.
+  abbrev pub StopsCleaning : Place → WriterFault → List Call → List Call → Option (List ℕ)
+      → Option (List ℕ) → Type 0
   StopsCleaning place e old new before after =
       (HasNone place e × (new ≡ old) × Keeps before after)
-      ⊎ ((manifest : ℕ) × (tables : List ℕ) × Needs folders place manifest tables × IsUncleared manifest tables e old new before after)
+      ⊎ ((manifest : ℕ) × (tables : List ℕ) × Needs folders place manifest tables
+      × IsUncleared manifest tables e old new before after)
 
   -- Why a folder is not cleaned: its lock was not held; or what follows.
-  abbrev pub IsUncleaned : Place → WriterFault → List Call → List Call → Option (List ℕ) → Option (List ℕ) → Type 0
+  abbrev pub IsUncleaned : Place → WriterFault → List Call → List Call → Option (List ℕ)
+      → Option (List ℕ) → Type 0
   IsUncleaned place e old new before after =
-      ((fault : DirectoryFault) × (e ≡ Directory fault) × IsUnheld Exclusive fault old new × Keeps before after)
-      ⊎ ((held : List Call) × IsHeld Exclusive old held × StopsCleaning place e held new before after)
+      ((fault : DirectoryFault) × (e ≡ Directory fault) × IsUnheld Exclusive fault old new
+      × Keeps before after)
+      ⊎ ((held : List Call) × IsHeld Exclusive old held
+      × StopsCleaning place e held new before after)

@@ -1,5 +1,6 @@
--- What an `ingest` comes to, for the words of its command line: this project's rule. It is about a folder that was opened at the path of
--- these words, and about shelves on its place; that such a shelf is the run's own is to be read.
+-- What an `ingest` comes to, for the words of its command line: this project's rule. It is about a
+-- folder that was opened at the path of these words, and about shelves on its place; that such a
+-- shelf is the run's own is to be read.
 use Rattle.std.specs.Prelude.{◌⊎◌, ℕ, List, Option, IfSome}
 use Rattle.std.specs.Io.KnownBytes.{Keeps}
 use Rattle.lsm_batch.specs.declared.write.Write.{Write}
@@ -18,37 +19,49 @@ use Rattle.lsm_directory.specs.declared.folder.folder_file.FolderFile.{FolderFil
 use Rattle.lsm_cmd_write.specs.declared.ingesting.start.Start.{Start}
 
 module _ {C M : Type 0} (folders : Ghosts C M) where
-  -- The lock of the folder at the path was held, and it was looked at. On a shelf of it the batch came in, and the reply was written.
-  pub record ComesInAt (path : List ℕ) (options : IngestOptions) (ws : List Write) (old new : Option (List ℕ)) : Type 0 where
+  -- The lock of the folder at the path was held, and it was looked at. On a shelf of it the batch
+  -- came in, and the reply was written.
+  pub record ComesInAt (path : List ℕ) (options : IngestOptions) (ws : List Write)
+      (old new : Option (List ℕ)) : Type 0 where
     pub start : Start
     pub logs : List FolderFile
     pub begun : FileShelf C M
     pub on : IsShelfAt folders path (IsPrepared options start logs) begun
     pub ended : FileShelf C M
-    pub done : IsBroughtIn (AreHonest folders.calls) start logs ws (told_by folders begun) (told_by folders ended) old new
+    pub done : IsBroughtIn (AreHonest folders.calls) start logs ws (told_by folders begun)
+        (told_by folders ended) old new
 
   -- The text spells a batch, which came in there.
-  abbrev pub IsIngested : List ℕ → IngestOptions → (text : Option (List ℕ)) → (old new : Option (List ℕ)) → Type 0
-  IsIngested path options text old new = (ws : List Write) × IfSome text (λ t. IsBatchText options.form t ws) × ComesInAt path options ws old new
+  abbrev pub IsIngested : List ℕ → IngestOptions → (text : Option (List ℕ))
+      → (old new : Option (List ℕ)) → Type 0
+  IsIngested path options text old new =
+      (ws : List Write) × IfSome text (λ t. IsBatchText options.form t ws)
+      × ComesInAt path options ws old new
 
 module _ {C M : Type 0} (folders : Ghosts C M) (marks : mark.Ghosts M) where
-  -- The lock of the folder at the path was held, and it was looked at. On a shelf of it this fault kept the batch out, or its reply from
-  -- being written.
-  pub record StaysOutAt (path : List ℕ) (options : IngestOptions) (ws : List Write) (fault : WriterFault) (old new : Option (List ℕ)) : Type 0 where
+  -- The lock of the folder at the path was held, and it was looked at. On a shelf of it this fault
+  -- kept the batch out, or its reply from being written.
+  pub record StaysOutAt (path : List ℕ) (options : IngestOptions) (ws : List Write)
+      (fault : WriterFault) (old new : Option (List ℕ)) : Type 0 where
     pub start : Start
     pub logs : List FolderFile
     pub begun : FileShelf C M
     pub on : IsShelfAt folders path (IsPrepared options start logs) begun
     pub ended : FileShelf C M
     pub refused :
-        IsNotBroughtIn (stored_at folders marks (told_by folders begun).place) MayRefuse (AreHonest folders.calls) start logs ws fault
+        IsNotBroughtIn (stored_at folders marks (told_by folders begun).place) MayRefuse
+        (AreHonest folders.calls) start logs ws fault
         (told_by folders begun) (told_by folders ended) old new
 
   -- nothing was written; or a fault was met so
-  abbrev pub FailsToBringIn : List ℕ → IngestOptions → List Write → (old new : Option (List ℕ)) → Type 0
-  FailsToBringIn path options ws old new = Keeps old new ⊎ ((fault : WriterFault) × StaysOutAt path options ws fault old new)
+  abbrev pub FailsToBringIn : List ℕ → IngestOptions → List Write → (old new : Option (List ℕ))
+      → Type 0
+  FailsToBringIn path options ws old new =
+      Keeps old new ⊎ ((fault : WriterFault) × StaysOutAt path options ws fault old new)
 
   -- Nothing was written; or the text spells a batch, and for it a fault was met so.
-  abbrev pub IsUningested : List ℕ → IngestOptions → (text : Option (List ℕ)) → (old new : Option (List ℕ)) → Type 0
+  abbrev pub IsUningested : List ℕ → IngestOptions → (text : Option (List ℕ))
+      → (old new : Option (List ℕ)) → Type 0
   IsUningested path options text old new =
-      Keeps old new ⊎ ((ws : List Write) × IfSome text (λ t. IsBatchText options.form t ws) × FailsToBringIn path options ws old new)
+      Keeps old new ⊎ ((ws : List Write) × IfSome text (λ t. IsBatchText options.form t ws)
+      × FailsToBringIn path options ws old new)

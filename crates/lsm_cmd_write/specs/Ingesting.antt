@@ -18,10 +18,12 @@ use Rattle.lsm_cmd_write.specs.declared.faults.writer_fault.WriterFault.TheVaria
 
 -- `file N first F last L`
 abbrev pub ingest_text : Ingested → List ℕ
-ingest_text r = codes "file " ++ (decimal r.file ++ (codes " first " ++ (decimal r.first ++ (codes " last " ++ (decimal r.last ++ (10 ∷ []))))))
+ingest_text r = codes "file " ++ (decimal r.file
+    ++ (codes " first " ++ (decimal r.first ++ (codes " last " ++ (decimal r.last ++ (10 ∷ []))))))
 
 -- The directory was begun or opened, and then the batch came in.
-pub record ComesIn (Honest : Type 0) (start : Start) (logs : List FolderFile) (ws : List Write) (r : Ingested) (was is : Told) : Type 0 where
+pub record ComesIn (Honest : Type 0) (start : Start) (logs : List FolderFile) (ws : List Write)
+    (r : Ingested) (was is : Told) : Type 0 where
   pub before : Held
   pub after : Held
   pub mid : Told
@@ -29,12 +31,17 @@ pub record ComesIn (Honest : Type 0) (start : Start) (logs : List FolderFile) (w
   pub ingested : Ingests before after ws r mid is
 
 -- It came in, and the reply was written.
-abbrev pub IsBroughtIn : Type 0 → Start → List FolderFile → List Write → Told → Told → Option (List ℕ) → Option (List ℕ) → Type 0
-IsBroughtIn Honest start logs ws was is old new = (r : Ingested) × ComesIn Honest start logs ws r was is × Appends old new (ingest_text r)
+abbrev pub IsBroughtIn : Type 0 → Start → List FolderFile → List Write → Told → Told
+    → Option (List ℕ) → Option (List ℕ) → Type 0
+IsBroughtIn Honest start logs ws was is old new =
+    (r : Ingested) × ComesIn Honest start logs ws r was is × Appends old new (ingest_text r)
 
--- The directory was begun or opened, and then the state refused the batch. Where it was the shelf, other than for want of memory, it
--- refused the put of the batch's table, or the write of the manifest by which that comes in.
-pub record StaysOut (Refused : Asked → ShelfFault → Type 0) (Honest : Type 0) (start : Start) (logs : List FolderFile) (ws : List Write) (fault : StateFault) (was is : Told) : Type 0 where
+-- The directory was begun or opened, and then the state refused the batch. Where it was the shelf,
+-- other than for want of memory, it refused the put of the batch's table, or the write of the
+-- manifest by which that comes in.
+pub record StaysOut (Refused : Asked → ShelfFault
+    → Type 0) (Honest : Type 0) (start : Start) (logs : List FolderFile) (ws : List Write) (fault
+    : StateFault) (was is : Told) : Type 0 where
   pub before : Held
   pub after : Held
   pub mid : Told
@@ -42,16 +49,21 @@ pub record StaysOut (Refused : Asked → ShelfFault → Type 0) (Honest : Type 0
   pub refused : IsIngestRefusal before after ws fault mid is
   pub asked : OnShelf (IngestRefused Refused before ws) fault
 
--- What a fault says: memory ran out before the shelf was asked for anything; the directory was not begun or opened; the state refused the
--- batch; or it came in, and the reply was not written.
-abbrev pub IsIngestFault : (ℕ → List ℕ → Type 0) → (Asked → ShelfFault → Type 0) → Type 0 → Start → List FolderFile → List Write → WriterFault → Told → Told → Type 0
+-- What a fault says: memory ran out before the shelf was asked for anything; the directory was not
+-- begun or opened; the state refused the batch; or it came in, and the reply was not written.
+abbrev pub IsIngestFault : (ℕ → List ℕ → Type 0) → (Asked → ShelfFault → Type 0) → Type 0 → Start
+    → List FolderFile → List Write → WriterFault → Told → Told → Type 0
 IsIngestFault Stored Refused Honest start logs ws e was is =
     ((e ≡ OutOfMemory) × (is ≡ was))
     ⊎ (IsStartRefusal Stored Refused Honest start logs e was is
-    ⊎ (((fault : StateFault) × (e ≡ State fault) × StaysOut Refused Honest start logs ws fault was is)
+    ⊎ (((fault : StateFault) × (e ≡ State fault)
+    × StaysOut Refused Honest start logs ws fault was is)
     ⊎ ((e ≡ WriteFault) × ((r : Ingested) × ComesIn Honest start logs ws r was is))))
 
--- What a refusal is: what the fault says; and, unless a write failed, nothing was written on standard output.
-pub record IsNotBroughtIn (Stored : ℕ → List ℕ → Type 0) (Refused : Asked → ShelfFault → Type 0) (Honest : Type 0) (start : Start) (logs : List FolderFile) (ws : List Write) (fault : WriterFault) (was is : Told) (old new : Option (List ℕ)) : Type 0 where
+-- What a refusal is: what the fault says; and, unless a write failed, nothing was written on
+-- standard output.
+pub record IsNotBroughtIn (Stored : ℕ → List ℕ → Type 0) (Refused : Asked → ShelfFault
+    → Type 0) (Honest : Type 0) (start : Start) (logs : List FolderFile) (ws : List Write) (fault
+    : WriterFault) (was is : Told) (old new : Option (List ℕ)) : Type 0 where
   pub says : IsIngestFault Stored Refused Honest start logs ws fault was is
   pub left : fault ≢ WriteFault → Keeps old new

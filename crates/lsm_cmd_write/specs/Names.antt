@@ -1,5 +1,7 @@
--- What the names in a folder say of the database there (LevelDB's `doc/impl.md`, "Recovery"; where one is begun is this project's rule).
-use Rattle.std.specs.Prelude.{◌≡◌, ◌⊎◌, ℕ, ◌<◌, ◌≤◌, ◌-◌, ◌^◌, Bool, true, false, List, codes, Option, Some, None}
+-- What the names in a folder say of the database there (LevelDB's `doc/impl.md`, "Recovery"; where
+-- one is begun is this project's rule).
+use Rattle.std.specs.Prelude.{◌≡◌, ◌⊎◌, ℕ, ◌<◌, ◌≤◌, ◌-◌, ◌^◌, Bool, true, false, List, codes}
+use Rattle.std.specs.Prelude.{Option, Some, None}
 use Rattle.lsm_codec.specs.Lists.{Has}
 use Rattle.lsm_directory.specs.FileNames.{IsFileName, is_of_database, number_of}
 use Rattle.lsm_directory.specs.declared.faults.directory_fault.DirectoryFault.TheVariants.{NumbersSpent}
@@ -8,7 +10,8 @@ use Rattle.lsm_directory.specs.declared.folder.file_kind.FileKind.TheVariants.{M
 use Rattle.lsm_cmd_write.specs.declared.ingesting.start.Start.{Start}
 use Rattle.lsm_cmd_write.specs.declared.ingesting.start.Start.TheVariants.{Open, Begin}
 use Rattle.lsm_cmd_write.specs.declared.faults.writer_fault.WriterFault.{WriterFault}
-use Rattle.lsm_cmd_write.specs.declared.faults.writer_fault.WriterFault.TheVariants.{Directory, LostCurrent}
+use Rattle.lsm_cmd_write.specs.declared.faults.writer_fault.WriterFault.TheVariants.{Directory}
+use Rattle.lsm_cmd_write.specs.declared.faults.writer_fault.WriterFault.TheVariants.{LostCurrent}
 
 -- one of these names is such a one
 abbrev pub Among : List (List ℕ) → (List ℕ → Type 0) → Type 0
@@ -42,21 +45,26 @@ IsLeastUnused names n = IsUnused names n × ((m : ℕ) → IsUnused names m → 
 -- the highest number of a manifest among these names; none where there is no manifest
 abbrev pub IsHighestManifest : List (List ℕ) → Option ℕ → Type 0
 IsHighestManifest names None = (m : ℕ) → Among names (IsManifestName m) → ⊥
-IsHighestManifest names (Some n) = Among names (IsManifestName n) × ((m : ℕ) → Among names (IsManifestName m) → m ≤ n)
+IsHighestManifest names (Some n) =
+    Among names (IsManifestName n) × ((m : ℕ) → Among names (IsManifestName m) → m ≤ n)
 
--- Under which number a database is begun: where it is to be begun in any case, above all that are there; and else under 1, where no file of a
--- database is there.
+-- Under which number a database is begun: where it is to be begun in any case, above all that are
+-- there; and else under 1, where no file of a database is there.
 abbrev pub IsBegunUnder : Bool → List (List ℕ) → ℕ → Type 0
 IsBegunUnder true names n = IsLeastUnused names n
 IsBegunUnder false names n = (Among names IsOfDatabase → ⊥) × (n ≡ 1)
 
--- What these names lead to. `begins` says that a database is to be begun in any case where `CURRENT` is not there.
+-- What these names lead to. `begins` says that a database is to be begun in any case where
+-- `CURRENT` is not there.
 abbrev pub Leads : Bool → List (List ℕ) → Start → Type 0
 Leads begins names Open = HasCurrent names
 Leads begins names (Begin n) = (HasCurrent names → ⊥) × IsBegunUnder begins names n
 
--- Why they lead to none: `CURRENT` is lost; or a database is to be begun in any case, and no number is left for it.
+-- Why they lead to none: `CURRENT` is lost; or a database is to be begun in any case, and no number
+-- is left for it.
 abbrev pub LeadsNowhere : Bool → List (List ℕ) → WriterFault → Type 0
 LeadsNowhere begins names e =
-    ((highest : Option ℕ) × (e ≡ LostCurrent highest) × (begins ≡ false) × (HasCurrent names → ⊥) × Among names IsOfDatabase × IsHighestManifest names highest)
-    ⊎ ((e ≡ Directory NumbersSpent) × (begins ≡ true) × (HasCurrent names → ⊥) × Among names (IsNumbered (2 ^ 64 - 1)))
+    ((highest : Option ℕ) × (e ≡ LostCurrent highest) × (begins ≡ false) × (HasCurrent names → ⊥)
+    × Among names IsOfDatabase × IsHighestManifest names highest)
+    ⊎ ((e ≡ Directory NumbersSpent) × (begins ≡ true) × (HasCurrent names → ⊥)
+    × Among names (IsNumbered (2 ^ 64 - 1)))

@@ -18,13 +18,16 @@ use Rattle.lsm_cmd_write.specs.declared.ingesting.start.Start.{Start}
 use Rattle.lsm_cmd_write.specs.declared.faults.writer_fault.WriterFault.{WriterFault}
 use Rattle.lsm_cmd_write.specs.declared.faults.writer_fault.WriterFault.TheVariants.{Directory}
 
--- At which logs is looked, by their sizes: where the batch may not come in beside a log, at all that these names name; and else at none.
+-- At which logs is looked, by their sizes: where the batch may not come in beside a log, at all
+-- that these names name; and else at none.
 abbrev pub LooksAtLogs : Bool → List (List ℕ) → List FolderFile → List Call → List Call → Type 0
 LooksAtLogs false names files old new = AsksSizes names files old new
 LooksAtLogs true names files old new = (files ≡ []) × (new ≡ old)
 
--- The folder told its names; these lead to this start, and these are the logs, in the order of names.
-pub record IsLookedAt (o : IngestOptions) (start : Start) (files : List FolderFile) (old new : List Call) : Type 0 where
+-- The folder told its names; these lead to this start, and these are the logs, in the order of
+-- names.
+pub record IsLookedAt (o : IngestOptions) (start : Start) (files : List FolderFile)
+    (old new : List Call) : Type 0 where
   pub names : List (List ℕ)
   pub ordered : List (List ℕ)
   pub same : IsPermutation names ordered
@@ -42,13 +45,16 @@ pub record IsUnstartable (o : IngestOptions) (e : WriterFault) (old new : List C
 
 -- memory was refused, or a look; or there is no start
 abbrev pub StopsLooking : IngestOptions → WriterFault → List Call → List Call → Type 0
-StopsLooking o e old new = ((fault : ShelfFault) × (e ≡ of_shelf fault) × LooksStopped fault old new) ⊎ IsUnstartable o e old new
+StopsLooking o e old new = ((fault : ShelfFault) × (e ≡ of_shelf fault)
+    × LooksStopped fault old new) ⊎ IsUnstartable o e old new
 
 -- The lock was held, and then the folder was looked at.
 abbrev pub IsPrepared : IngestOptions → Start → List FolderFile → List Call → List Call → Type 0
-IsPrepared o start files old new = (held : List Call) × IsHeld Exclusive old held × IsLookedAt o start files held new
+IsPrepared o start files old new =
+    (held : List Call) × IsHeld Exclusive old held × IsLookedAt o start files held new
 
--- The lock was not held, just where another has it or the folder refused; or it was, and the looking stopped.
+-- The lock was not held, just where another has it or the folder refused; or it was, and the
+-- looking stopped.
 abbrev pub IsUnprepared : IngestOptions → WriterFault → List Call → List Call → Type 0
 IsUnprepared o e old new =
     ((fault : DirectoryFault) × (e ≡ Directory fault) × IsUnheld Exclusive fault old new)
@@ -56,4 +62,5 @@ IsUnprepared o e old new =
 
 -- The folder was asked for the lock, and then only looked at.
 abbrev pub OnlyLocks : List Call → List Call → Type 0
-OnlyLocks old new = (answer : Result Bool FolderFault) × OnlyLooks (locked (codes "LOCK") Exclusive answer ∷ old) new
+OnlyLocks old new = (answer : Result Bool FolderFault)
+    × OnlyLooks (locked (codes "LOCK") Exclusive answer ∷ old) new

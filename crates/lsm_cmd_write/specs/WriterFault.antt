@@ -1,4 +1,5 @@
--- Why a command that writes a directory is refused, and what it prints of that: this project's rule.
+-- Why a command that writes a directory is refused, and what it prints of that: this project's
+-- rule.
 use Rattle.std.specs.Prelude.{ℕ, List, ◌++◌, codes, decimal, Option, None, Some}
 use Rattle.lsm_shelf.specs.declared.shelf_fault.ShelfFault.{ShelfFault}
 use Rattle.lsm_journal.specs.declared.open_fault.OpenFault.{OpenFault}
@@ -10,7 +11,13 @@ use Rattle.lsm_text.specs.declared.streams.InputFault.TheVariants as input_fault
 use Rattle.lsm_directory.specs.DirectoryFault as directory
 use Rattle.lsm_directory.specs.declared.faults.directory_fault.DirectoryFault.TheVariants as directory_faults
 use Rattle.lsm_cmd_write.specs.declared.faults.writer_fault.WriterFault.{WriterFault}
-use Rattle.lsm_cmd_write.specs.declared.faults.writer_fault.WriterFault.TheVariants.{OutOfMemory, Read, Write, BadLine, Directory, LostCurrent, UnflushedLog, State}
+use Rattle.lsm_cmd_write.specs.declared.faults.writer_fault.WriterFault.TheVariants.{OutOfMemory}
+use Rattle.lsm_cmd_write.specs.declared.faults.writer_fault.WriterFault.TheVariants.{Read, Write}
+use Rattle.lsm_cmd_write.specs.declared.faults.writer_fault.WriterFault.TheVariants.{BadLine}
+use Rattle.lsm_cmd_write.specs.declared.faults.writer_fault.WriterFault.TheVariants.{Directory}
+use Rattle.lsm_cmd_write.specs.declared.faults.writer_fault.WriterFault.TheVariants.{LostCurrent}
+use Rattle.lsm_cmd_write.specs.declared.faults.writer_fault.WriterFault.TheVariants.{UnflushedLog}
+use Rattle.lsm_cmd_write.specs.declared.faults.writer_fault.WriterFault.TheVariants.{State}
 
 -- ---- names of refusals
 

@@ -1,6 +1,7 @@
 -- Entries, their order, and what a set of entries answers to a read (LevelDB's `doc/impl.md` and
 -- `db/dbformat.h`).
-use Rattle.std.specs.Prelude.{ℕ, Bool, cond, List, [], ◌∷◌, Option, Some, None, nat_lt, nat_le, ◌&&◌}
+use Rattle.std.specs.Prelude.{ℕ, Bool, cond, List, [], ◌∷◌, Option, Some, None, nat_lt, nat_le}
+use Rattle.std.specs.Prelude.{◌&&◌}
 use Rattle.std.specs.Str.{bytes_eq}
 use Rattle.std.specs.declared.cmp.Ordering.{Ordering}
 use Rattle.lsm_codec.specs.declared.kind.Kind.{Kind}
@@ -37,7 +38,8 @@ first_of_two e (Some f) = cond (nat_lt (stamp e) (stamp f)) f e
 -- the first entry of the user key k with a sequence at most s
 abbrev pub newest : UserKey → ℕ → List Entry → Option Entry
 newest k s [] = None
-newest k s (e ∷ es) = cond (is_allowed k s e) (Some (first_of_two e (newest k s es))) (newest k s es)
+newest k s (e ∷ es) = cond (is_allowed k s e) (Some (first_of_two e (newest k s es)))
+    (newest k s es)
 
 -- a value, or nothing for a deletion
 abbrev pub shown : Kind → List ℕ → Option (List ℕ)

@@ -1,5 +1,7 @@
 -- User keys, internal keys, and their orders (LevelDB's `db/dbformat.h`).
-use Rattle.std.specs.Prelude.{◌≡◌, ℕ, zero, suc, ◌+◌, ◌-◌, ◌*◌, ◌/◌, ◌%◌, ◌^◌, ◌<◌, ◌≤◌, ◌&&◌, Bool, true, nat_lt, nat_le, if◌then◌else◌, List, ◌++◌, length, take, drop, Some, slice_get, slice_index}
+use Rattle.std.specs.Prelude.{◌≡◌, ℕ, zero, suc, ◌+◌, ◌-◌, ◌*◌, ◌/◌, ◌%◌, ◌^◌, ◌<◌, ◌≤◌, ◌&&◌, Bool}
+use Rattle.std.specs.Prelude.{true, nat_lt, nat_le, if◌then◌else◌, List, ◌++◌, length, take, drop}
+use Rattle.std.specs.Prelude.{Some, slice_get, slice_index}
 use Rattle.std.specs.Ordering.{nat_cmp, is_le}
 use Rattle.std.specs.declared.cmp.Ordering.{Ordering}
 use Rattle.std.specs.declared.cmp.Ordering.TheVariants.{Less, Equal, Greater}
@@ -79,7 +81,12 @@ kind_at (suc n) = Value
 
 -- the internal key that the bytes are
 unfoldable pub key_at : List ℕ → InternalKey
-key_at bytes = record { user = user_of bytes; seq = tail_of bytes / 256; kind = kind_at (tail_of bytes % 256) }
+key_at bytes = record {
+  user = user_of bytes;
+  seq = tail_of bytes / 256;
+  kind = kind_at
+      (tail_of bytes % 256);
+}
 
 -- What stands before the last eight bytes, and the number that these spell. Fewer than eight bytes
 -- are all a user key.

@@ -1,5 +1,7 @@
 -- Numbers in groups of seven bits (the varints of LevelDB's `util/coding.h`).
-use Rattle.std.specs.Prelude.{◌≡◌, ℕ, zero, suc, ◌+◌, ◌-◌, ◌*◌, ◌/◌, ◌%◌, ◌^◌, ◌<◌, ◌≤◌, ◌⊎◌, List, [], ◌∷◌, length, take, drop, Result, Ok, Err, IfOk, IfErr, ◌↔◌, nat_lt, nat_le, if◌then◌else◌}
+use Rattle.std.specs.Prelude.{◌≡◌, ℕ, zero, suc, ◌+◌, ◌-◌, ◌*◌, ◌/◌, ◌%◌, ◌^◌, ◌<◌, ◌≤◌, ◌⊎◌, List}
+use Rattle.std.specs.Prelude.{[], ◌∷◌, length, take, drop, Result, Ok, Err, IfOk, IfErr, ◌↔◌}
+use Rattle.std.specs.Prelude.{nat_lt, nat_le, if◌then◌else◌}
 use Rattle.std.specs.List.{AllByRecursion}
 use Rattle.lsm_codec.specs.declared.fault.CodecFault.{CodecFault}
 use Rattle.lsm_codec.specs.declared.fault.CodecFault.TheVariants.{Cut, TooBig}
@@ -53,23 +55,27 @@ IsTooBig most max bytes = IsEndless most bytes ⊎ IsOver most max bytes
 
 -- What a reader of a number answers: Ok exactly where a front of the bytes spells one, with it and
 -- its length, and each refusal exactly where it is due.
-pub record GetsVarint (most max : ℕ) (bytes : List ℕ) (result : Result (ℕ × ℕ) CodecFault) : Type 0 where
+pub record GetsVarint (most max : ℕ) (bytes : List ℕ) (result : Result (ℕ × ℕ) CodecFault)
+    : Type 0 where
   pub found : IfOk result (λ r. (r.1 ≤ length bytes) × IsVarint most max (take r.1 bytes) r.0)
-  pub only : (len n : ℕ) → len ≤ length bytes → IsVarint most max (take len bytes) n → result ≡ Ok (n, len)
+  pub only : (len n : ℕ) → len ≤ length bytes → IsVarint most max (take len bytes) n
+      → result ≡ Ok (n, len)
   pub cut : result ≡ Err Cut ↔ IsCut most bytes
   pub too_big : result ≡ Err TooBig ↔ IsTooBig most max bytes
   pub fault : IfErr result (λ e. (e ≡ Cut) ⊎ (e ≡ TooBig))
 
 -- a group in front of the number that its further groups give
 abbrev pub with_low : ℕ → ℕ → Result (ℕ × List ℕ) CodecFault → Result (ℕ × List ℕ) CodecFault
-with_low max low (Ok high) = if nat_le (low + 128 * high.0) max then Ok (low + 128 * high.0, high.1) else Err TooBig
+with_low max low (Ok high) = if nat_le (low + 128 * high.0) max then Ok (low + 128 * high.0, high.1)
+    else Err TooBig
 with_low max low (Err e) = Err e
 
 -- the number at the front, and what follows it
 unfoldable pub varint_at : ℕ → ℕ → List ℕ → Result (ℕ × List ℕ) CodecFault
 varint_at zero max bytes = Err TooBig
 varint_at (suc most) max [] = Err Cut
-varint_at (suc most) max (b ∷ bs) = if nat_lt b 128 then Ok (b, bs) else with_low max (b % 128) (varint_at most max bs)
+varint_at (suc most) max (b ∷ bs) =
+    if nat_lt b 128 then Ok (b, bs) else with_low max (b % 128) (varint_at most max bs)
 
 abbrev pub varint32_at : List ℕ → Result (ℕ × List ℕ) CodecFault
 varint32_at bytes = varint_at 5 (2 ^ 32 - 1) bytes

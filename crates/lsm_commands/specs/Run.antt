@@ -1,6 +1,7 @@
--- What the program does for the words of its command line: this project's rule. Each command has a relation for what status 0 means, and one
--- for what status 1 does. Those of a command on a folder are about a folder that was opened at the path of its words, and the calls on it, and
--- about shelves on its place; that such a shelf is the run's own is to be read.
+-- What the program does for the words of its command line: this project's rule. Each command has a
+-- relation for what status 0 means, and one for what status 1 does. Those of a command on a folder
+-- are about a folder that was opened at the path of its words, and the calls on it, and about
+-- shelves on its place; that such a shelf is the run's own is to be read.
 use Rattle.std.specs.Prelude.{◌⊎◌, ℕ, IsFalse, List, [], ◌∷◌, Option, ⊤}
 use Rattle.std.specs.Io.KnownBytes.{Appends, Keeps}
 use Rattle.clap.specs.Words.{Text}
@@ -11,9 +12,12 @@ use Rattle.lsm_text.specs.Requests.{AskHelp, AskNothing, Asks, HaveUsageFault}
 use Rattle.lsm_text.specs.declared.input.Input.{Input}
 use Rattle.lsm_text.specs.declared.input.Input.TheVariants.{Standard}
 use Rattle.lsm_text.specs.declared.request.Request.{Request}
-use Rattle.lsm_text.specs.declared.request.Request.TheVariants.{Convert, Look, Levels, Write as WriteFolder, Load, Compact, Script, Shell, Bench}
+use Rattle.lsm_text.specs.declared.request.Request.TheVariants.{Convert, Look, Levels}
+use Rattle.lsm_text.specs.declared.request.Request.TheVariants.{Write as WriteFolder, Load, Compact}
+use Rattle.lsm_text.specs.declared.request.Request.TheVariants.{Script, Shell, Bench}
 use Rattle.lsm_text.specs.declared.writing_command.WritingCommand.{WritingCommand}
-use Rattle.lsm_text.specs.declared.writing_command.WritingCommand.TheVariants.{Ingest, WriteKey, Clean}
+use Rattle.lsm_text.specs.declared.writing_command.WritingCommand.TheVariants.{Ingest, WriteKey}
+use Rattle.lsm_text.specs.declared.writing_command.WritingCommand.TheVariants.{Clean}
 use Rattle.lsm_cmd_bench.specs.Benched.{BenchesAt}
 use Rattle.lsm_cmd_convert.specs.Converted.{IsConverted, IsUnconverted}
 use Rattle.lsm_cmd_convert.specs.Played.{IsPlayed, IsUnplayed}
@@ -31,8 +35,10 @@ module _ {C M : Type 0} (folders : Ghosts C M) where
   -- ---- ingest, put, delete, clean
 
   -- a batch came in, that of one write too; or the folder was cleaned
-  abbrev pub IsWritten : (Input → Option (List ℕ)) → List ℕ → WritingCommand → (old new : Option (List ℕ)) → Type 0
-  IsWritten text path (Ingest input options) old new = IsIngested folders path options (text input) old new
+  abbrev pub IsWritten : (Input → Option (List ℕ)) → List ℕ → WritingCommand
+      → (old new : Option (List ℕ)) → Type 0
+  IsWritten text path (Ingest input options) old new =
+      IsIngested folders path options (text input) old new
   IsWritten text path (WriteKey w options) old new = ComesInAt folders path options (w ∷ []) old new
   IsWritten text path Clean old new = IsCleanedAt folders path old new
 
@@ -40,54 +46,80 @@ module _ {C M : Type 0} (folders : Ghosts C M) (marks : mark.Ghosts M) where
   -- ---- what status 0 means
 
   -- what was done, and what stands on standard output and standard error
-  abbrev pub IsDone : (Input → Option (List ℕ)) → Request → (old new said_old said_new : Option (List ℕ)) → Type 0
-  IsDone text (Convert conversion input) old new said_old said_new = IsConverted conversion (text input) old new × Keeps said_old said_new
-  IsDone text (Look line) old new said_old said_new = LooksAtGiven folders marks line old new said_old said_new
-  IsDone text (Levels line) old new said_old said_new = LaysOutAt folders line old new said_old said_new
-  IsDone text (WriteFolder line) old new said_old said_new = IsWritten folders text line.path.now line.command old new × Keeps said_old said_new
+  abbrev pub IsDone : (Input → Option (List ℕ)) → Request
+      → (old new said_old said_new : Option (List ℕ)) → Type 0
+  IsDone text (Convert conversion input) old new said_old said_new =
+      IsConverted conversion (text input) old new × Keeps said_old said_new
+  IsDone text (Look line) old new said_old said_new =
+      LooksAtGiven folders marks line old new said_old said_new
+  IsDone text (Levels line) old new said_old said_new =
+      LaysOutAt folders line old new said_old said_new
+  IsDone text (WriteFolder line) old new said_old said_new =
+      IsWritten folders text line.path.now line.command old new × Keeps said_old said_new
   IsDone text (Load line) old new said_old said_new =
-      LoadsAt folders line.path.now line.options (text line.input) old new × (IsFalse line.options.progress → Keeps said_old said_new)
-  IsDone text (Compact line) old new said_old said_new = IsCompactedAt folders line old new × (IsFalse line.options.progress → Keeps said_old said_new)
-  IsDone text (Script input) old new said_old said_new = IsPlayed (text input) old new × Keeps said_old said_new
-  IsDone text (Shell line) old new said_old said_new = TalksAt folders line.path.now line.options line.workers (text Standard) old new × Keeps said_old said_new
-  IsDone text (Bench line) old new said_old said_new = BenchesAt folders line.path.now line.options × Keeps said_old said_new
+      LoadsAt folders line.path.now line.options (text line.input) old new
+      × (IsFalse line.options.progress → Keeps said_old said_new)
+  IsDone text (Compact line) old new said_old said_new =
+      IsCompactedAt folders line old new × (IsFalse line.options.progress → Keeps said_old said_new)
+  IsDone text (Script input) old new said_old said_new =
+      IsPlayed (text input) old new × Keeps said_old said_new
+  IsDone text (Shell line) old new said_old said_new =
+      TalksAt folders line.path.now line.options line.workers (text Standard) old new
+      × Keeps said_old said_new
+  IsDone text (Bench line) old new said_old said_new =
+      BenchesAt folders line.path.now line.options × Keeps said_old said_new
 
-  -- The words ask for a command, which was done; or they ask for help, which was written, and nothing was on standard error.
-  abbrev pub AreDone : (Input → Option (List ℕ)) → List Text → (old new said_old said_new : Option (List ℕ)) → Type 0
+  -- The words ask for a command, which was done; or they ask for help, which was written, and
+  -- nothing was on standard error.
+  abbrev pub AreDone : (Input → Option (List ℕ)) → List Text
+      → (old new said_old said_new : Option (List ℕ)) → Type 0
   AreDone text words old new said_old said_new =
       ((request : Request) × Asks request words × IsDone text request old new said_old said_new)
-      ⊎ (AskNothing words × AskHelp words × ((help : List ℕ) × Appends old new help) × Keeps said_old said_new)
+      ⊎ (AskNothing words × AskHelp words × ((help : List ℕ) × Appends old new help)
+      × Keeps said_old said_new)
 
 -- ---- what status 1 means
 
 module _ {C M : Type 0} (folders : Ghosts C M) (marks : mark.Ghosts M) where
   -- neither a batch came in, and was told, nor was the folder cleaned
-  abbrev pub IsUnwritten : (Input → Option (List ℕ)) → List ℕ → WritingCommand → (old new : Option (List ℕ)) → Type 0
-  IsUnwritten text path (Ingest input options) old new = IsUningested folders marks path options (text input) old new
-  IsUnwritten text path (WriteKey w options) old new = FailsToBringIn folders marks path options (w ∷ []) old new
-  IsUnwritten text path Clean old new = (fault : WriterFault) × FailsToClean folders marks path fault old new
+  abbrev pub IsUnwritten : (Input → Option (List ℕ)) → List ℕ → WritingCommand
+      → (old new : Option (List ℕ)) → Type 0
+  IsUnwritten text path (Ingest input options) old new =
+      IsUningested folders marks path options (text input) old new
+  IsUnwritten text path (WriteKey w options) old new =
+      FailsToBringIn folders marks path options (w ∷ []) old new
+  IsUnwritten text path Clean old new =
+      (fault : WriterFault) × FailsToClean folders marks path fault old new
 
   -- why it was not done, and what stands on standard output
   abbrev pub IsUndone : (Input → Option (List ℕ)) → Request → (old new : Option (List ℕ)) → Type 0
   IsUndone text (Convert conversion input) old new = IsUnconverted conversion (text input) old new
-  IsUndone text (Look line) old new = (fault : DirectoryFault) × FailsToLook folders marks line fault old new
-  IsUndone text (Levels line) old new = (fault : DirectoryFault) × FailsToLayOut folders line fault old new
+  IsUndone text (Look line) old new =
+      (fault : DirectoryFault) × FailsToLook folders marks line fault old new
+  IsUndone text (Levels line) old new =
+      (fault : DirectoryFault) × FailsToLayOut folders line fault old new
   IsUndone text (WriteFolder line) old new = IsUnwritten text line.path.now line.command old new
-  IsUndone text (Load line) old new = FailsToLoad folders marks line.path.now line.options (text line.input) old new
+  IsUndone text (Load line) old new =
+      FailsToLoad folders marks line.path.now line.options (text line.input) old new
   IsUndone text (Compact line) old new = IsUncompacted folders marks line old new
   IsUndone text (Script input) old new = IsUnplayed (text input) old new
-  IsUndone text (Shell line) old new = FailsToTalk folders marks line.path.now line.options line.workers (text Standard) old new
+  IsUndone text (Shell line) old new =
+      FailsToTalk folders marks line.path.now line.options line.workers (text Standard) old new
   IsUndone text (Bench line) old new = ⊤
 
-  -- The words ask for a command, which was not done; or for help, of which a beginning was written; or memory ran out before they were read.
-  abbrev pub AreUndone : (Input → Option (List ℕ)) → List Text → (old new : Option (List ℕ)) → Type 0
+  -- The words ask for a command, which was not done; or for help, of which a beginning was written;
+  -- or memory ran out before they were read.
+  abbrev pub AreUndone : (Input → Option (List ℕ)) → List Text → (old new : Option (List ℕ))
+      → Type 0
   AreUndone text words old new =
       ((request : Request) × Asks request words × IsUndone text request old new)
-      ⊎ ((AskNothing words × AskHelp words × ((help : List ℕ) × Begins old new help)) ⊎ Keeps old new)
+      ⊎ ((AskNothing words × AskHelp words × ((help : List ℕ) × Begins old new help))
+      ⊎ Keeps old new)
 
 -- ---- what status 2 means
 
--- The words ask for nothing: clap finds a fault in them that is no wish for help or for the version; or it finds none, and a word spells no
--- bytes or writes no number. Nothing was written on standard output.
+-- The words ask for nothing: clap finds a fault in them that is no wish for help or for the
+-- version; or it finds none, and a word spells no bytes or writes no number. Nothing was written on
+-- standard output.
 abbrev pub AreUsageFault : List Text → (old new : Option (List ℕ)) → Type 0
 AreUsageFault words old new = AskNothing words × HaveUsageFault words × Keeps old new

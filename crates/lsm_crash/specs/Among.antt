@@ -1,6 +1,8 @@
 -- Operations on the manifest among calls of other threads, which put their tables meanwhile.
 use Rattle.std.specs.Prelude.{◌≡◌, ◌⊎◌, ℕ, ◌^◌, ◌<◌, List, [], ◌∷◌, Ok, Err, Some, None}
-use Rattle.lsm_folder.specs.Calls.{Answer, Call, opened, made, wrote, appended, synced, folder_synced, renamed, removed, measured, read, loaded, listed, locked}
+use Rattle.lsm_folder.specs.Calls.{Answer, Call, opened, made, wrote, appended, synced}
+use Rattle.lsm_folder.specs.Calls.{folder_synced, renamed, removed, measured, read, loaded, listed}
+use Rattle.lsm_folder.specs.Calls.{locked}
 use Rattle.lsm_folder.specs.declared.folder_fault.FolderFault.{FolderFault}
 use Rattle.lsm_folder.specs.declared.folder_fault.FolderFault.TheVariants as folder
 use Rattle.lsm_storage.specs.FileNames.{table_name, manifest_name, temporary_name}
@@ -8,7 +10,8 @@ use Rattle.lsm_storage.specs.Plans.{Step as Asked, unnamed_plan}
 use Rattle.lsm_crash.specs.Disk.{Disk, Step, set}
 use Rattle.lsm_crash.specs.Versions.{Tables}
 use Rattle.lsm_crash.specs.Known.{Stands, World, current_name}
-use Rattle.lsm_crash.specs.Operations.{Allows, Append, Operation, Put, Remove, Start, after, plan_of}
+use Rattle.lsm_crash.specs.Operations.{Allows, Append, Operation, Put, Remove, Start, after}
+use Rattle.lsm_crash.specs.Operations.{plan_of}
 
 -- the call does not touch what has the name
 abbrev pub Avoids : List ℕ → Call → Type 0
@@ -62,7 +65,8 @@ CutAmong tables (s ∷ ss) d e = (m : Disk) × IsGap tables d m
 -- before the one that gives `CURRENT` its new text was refused.
 abbrev pub FailsAmong : World → Operation → Disk → Disk → Type 0
 FailsAmong w (Put number image) d e = CutAmong w.tables (plan_of w (Put number image)) d e
-FailsAmong w (Remove number) d e = CutAmong (after w (Remove number)).tables (plan_of w (Remove number)) d e
+FailsAmong w (Remove number) d e =
+    CutAmong (after w (Remove number)).tables (plan_of w (Remove number)) d e
 FailsAmong w (Append text version) d e = (m : Disk) × IsGap w.tables d m
     × Step m (appended (manifest_name w.manifest) text (Err folder.OutOfMemory)) e
 FailsAmong w (Start number bytes version) d e = CutAmong w.tables (unnamed_plan number bytes) d e
@@ -89,7 +93,9 @@ Goes w [] u d e = (u ≡ w) × IsGap w.tables d e
 Goes w (Counts number image ∷ es) u d e = (number < 2 ^ 64)
     × ((m : Disk) × IsGap w.tables d m × Stands m (table_name number) image
     × Goes (counting number image w) es u m e)
-Goes w (Does o ∷ es) u d e = Allows w o × ((mid : Disk) × ((DoneAmong (after w o).tables (plan_of w o) d mid × Goes (after w o) es u mid e)
+Goes w (Does o ∷ es) u d e = Allows w o
+    × ((mid : Disk) × ((DoneAmong (after w o).tables (plan_of w o) d mid
+    × Goes (after w o) es u mid e)
     ⊎ (FailsAmong w o d mid × Goes (failed w o) es u mid e)))
 
 -- calls of any kind, one after another, none of which touches what has the name

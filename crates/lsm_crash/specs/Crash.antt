@@ -2,7 +2,8 @@
 -- lost in half, and names may come back in any mixture; of bytes that are not durable any
 -- beginning. That what stands behind the durable bytes is such a beginning, and no other bytes, is
 -- a premise.
-use Rattle.std.specs.Prelude.{◌≡◌, ℕ, ◌<◌, ◌≤◌, List, [], ◌∷◌, ◌++◌, length, take, Option, None, Some}
+use Rattle.std.specs.Prelude.{◌≡◌, ℕ, ◌<◌, ◌≤◌, List, [], ◌∷◌, ◌++◌, length, take, Option, None}
+use Rattle.std.specs.Prelude.{Some}
 use Rattle.lsm_codec.specs.Lists.{Has}
 use Rattle.lsm_crash.specs.Disk.{Disk, Names}
 

@@ -1,6 +1,7 @@
 -- The calls of a database, as the contracts of its state have them: what each asks of its shelf, in
 -- which order, and what it leaves of the folder where other threads make calls between.
-use Rattle.std.specs.Prelude.{◌≡◌, ◌⊎◌, ℕ, suc, ◌+◌, ◌^◌, ◌<◌, ◌≤◌, false, List, [], ◌∷◌, ◌++◌, Some, None, if◌then◌else◌}
+use Rattle.std.specs.Prelude.{◌≡◌, ◌⊎◌, ℕ, suc, ◌+◌, ◌^◌, ◌<◌, ◌≤◌, false, List, [], ◌∷◌, ◌++◌}
+use Rattle.std.specs.Prelude.{Some, None, if◌then◌else◌}
 use Rattle.atomic_table.specs.Seated.{TableId}
 use Rattle.lsm_codec.specs.Entries.{Entry}
 use Rattle.lsm_codec.specs.Lists.{Has}
@@ -24,7 +25,8 @@ use Rattle.lsm_slots.specs.Slots.{AreSlots}
 use Rattle.lsm_state.specs.Asked.{ChangeRefused, CollectRefused, InstallRefused, PutRefused}
 use Rattle.lsm_state.specs.Collecting.{AreCollected, HasLookedAround, IsCollectRefusal, is_in}
 use Rattle.lsm_state.specs.Held.{Held, IsLawfulState, plain}
-use Rattle.lsm_state.specs.Ingesting.{Ingests, IsIngestRefusal, IsWelcome, coming_in, entries_of, last_of, with_slots}
+use Rattle.lsm_state.specs.Ingesting.{Ingests, IsIngestRefusal, IsWelcome, coming_in, entries_of}
+use Rattle.lsm_state.specs.Ingesting.{last_of, with_slots}
 use Rattle.lsm_state.specs.Installing.{Installed, IsInstallRefusal, IsInstalling, MayInstall}
 use Rattle.lsm_state.specs.Making.{created_state_under}
 use Rattle.lsm_state.specs.Opening.{IsBegun}
@@ -35,7 +37,8 @@ use Rattle.lsm_crash.specs.Disk.{Disk, Shows, empty_disk}
 use Rattle.lsm_crash.specs.Crash.{Found, IsLeft}
 use Rattle.lsm_crash.specs.Versions.{ComesTo, Tables, Version}
 use Rattle.lsm_crash.specs.Known.{Known, Stands, World, current_name, known_of, nothing}
-use Rattle.lsm_crash.specs.Operations.{Allows, Append, Operation, Put, Remove, Start, after, either, plan_of, started}
+use Rattle.lsm_crash.specs.Operations.{Allows, Append, Operation, Put, Remove, Start, after, either}
+use Rattle.lsm_crash.specs.Operations.{plan_of, started}
 use Rattle.lsm_crash.specs.Among.{CutAmong, DoneAmong, FailsAmong, IsGap, counting, failed}
 use Rattle.lsm_crash.specs.States.{Finds}
 

@@ -1,8 +1,10 @@
 -- A folder on a disk, and what each call makes of it (POSIX: `fsync` of a file makes its bytes
 -- durable, `fsync` of the folder its names; a rename is atomic).
-use Rattle.std.specs.Prelude.{◌≡◌, ◌⊎◌, ℕ, suc, ◌==◌, cond, List, [], ◌∷◌, ◌++◌, length, take, Option, None, Some, Ok, Err}
+use Rattle.std.specs.Prelude.{◌≡◌, ◌⊎◌, ℕ, suc, ◌==◌, cond, List, [], ◌∷◌, ◌++◌, length, take}
+use Rattle.std.specs.Prelude.{Option, None, Some, Ok, Err}
 use Rattle.std.specs.Str.{bytes_eq}
-use Rattle.lsm_folder.specs.Calls.{Call, opened, made, wrote, appended, synced, folder_synced, renamed, removed, measured, read, loaded, listed, locked}
+use Rattle.lsm_folder.specs.Calls.{Call, opened, made, wrote, appended, synced, folder_synced}
+use Rattle.lsm_folder.specs.Calls.{renamed, removed, measured, read, loaded, listed, locked}
 use Rattle.lsm_folder.specs.declared.folder_fault.FolderFault.TheVariants as folder
 
 -- which file a name has, if any; files are told apart by numbers
@@ -22,7 +24,14 @@ pub record Disk : Type 0 where
 
 -- no file was ever made
 abbrev pub empty_disk : Disk
-empty_disk = record { next = 0; bytes = λ i. []; kept = λ i. 0; names = λ name. None; past = (λ name. None) ∷ [] }
+empty_disk = record {
+  next = 0;
+  bytes = λ i. [];
+  kept = λ i. 0;
+  names = λ name.
+      None;
+  past = (λ name. None) ∷ [];
+}
 
 -- ---- what a call makes of it
 
@@ -99,9 +108,11 @@ Step d opened e = e ≡ d
 Step d (made name bytes (Ok v)) e = Makes d name bytes e
 Step d (made name bytes (Err f)) e = (e ≡ d) ⊎ ((k : ℕ) × Makes d name (take k bytes) e)
 Step d (wrote name bytes (Ok v)) e = Writes d name bytes e
-Step d (wrote name bytes (Err f)) e = (e ≡ d) ⊎ (Removes d name e ⊎ ((k : ℕ) × Writes d name (take k bytes) e))
+Step d (wrote name bytes (Err f)) e =
+    (e ≡ d) ⊎ (Removes d name e ⊎ ((k : ℕ) × Writes d name (take k bytes) e))
 Step d (appended name bytes (Ok v)) e = Appends d name bytes e
-Step d (appended name bytes (Err f)) e = (e ≡ d) ⊎ ((f ≡ folder.OutOfMemory → ⊥) × (k : ℕ) × Appends d name (take k bytes) e)
+Step d (appended name bytes (Err f)) e =
+    (e ≡ d) ⊎ ((f ≡ folder.OutOfMemory → ⊥) × (k : ℕ) × Appends d name (take k bytes) e)
 Step d (synced name (Ok v)) e = Syncs d name e
 Step d (synced name (Err f)) e = (e ≡ d) ⊎ Syncs d name e
 Step d (folder_synced (Ok v)) e = SyncsFolder d e

@@ -7,7 +7,8 @@ use Rattle.lsm_crash.specs.Disk.{Disk, Shows}
 use Rattle.lsm_crash.specs.Crash.{Found, IsFresh, IsLeft}
 use Rattle.lsm_crash.specs.Versions.{ComesTo, Version}
 use Rattle.lsm_crash.specs.Known.{IsHeld, IsSettled, Known, World, current_name, known_of, nothing}
-use Rattle.lsm_crash.specs.Operations.{Allows, MayStart, Operation, after, either, plan_of, started, starting}
+use Rattle.lsm_crash.specs.Operations.{Allows, MayStart, Operation, after, either, plan_of, started}
+use Rattle.lsm_crash.specs.Operations.{starting}
 use Rattle.lsm_crash.specs.Among.{CutAmong, DoneAmong, Event, Goes, IsGap}
 
 -- The world that is read from a folder: `CURRENT` names its manifest, which has its bytes, and

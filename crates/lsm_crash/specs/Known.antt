@@ -1,5 +1,6 @@
 -- What is known of a disk: between two operations, and where one was cut or refused.
-use Rattle.std.specs.Prelude.{◌≡◌, ◌⊎◌, ℕ, ◌^◌, ◌<◌, ◌≤◌, Bool, true, false, List, [], ◌∷◌, length, take, codes, Option, Some, None}
+use Rattle.std.specs.Prelude.{◌≡◌, ◌⊎◌, ℕ, ◌^◌, ◌<◌, ◌≤◌, Bool, true, false, List, [], ◌∷◌, length}
+use Rattle.std.specs.Prelude.{take, codes, Option, Some, None}
 use Rattle.lsm_codec.specs.Lists.{Has}
 use Rattle.lsm_storage.specs.FileNames.{table_name, manifest_name, current_text}
 use Rattle.lsm_crash.specs.Disk.{Disk}
@@ -92,7 +93,13 @@ pub record IsHeld (d : Disk) (known : Known) : Type 0 where
 
 -- where nothing was cut
 abbrev pub known_of : World → Known
-known_of w = record { may_miss = false; manifests = w.manifest ∷ []; versions = w.version ∷ []; tables = w.tables }
+known_of w = record {
+  may_miss = false;
+  manifests = w.manifest ∷ [];
+  versions = w.version
+      ∷ [];
+  tables = w.tables;
+}
 
 -- of a folder without `CURRENT`, whatever else is in it
 abbrev pub nothing : Known
@@ -140,4 +147,5 @@ pub record KeepsFront (known : Known) (found : Found) : Type 0 where
 
 -- the world that is read from a folder
 abbrev pub world_of : (known : Known) (found : Found) → Recovers known found → World
-world_of known found r = record { manifest = r.manifest; bytes = r.bytes; version = r.version; tables = known.tables }
+world_of known found r = record
+    { manifest = r.manifest; bytes = r.bytes; version = r.version; tables = known.tables }

@@ -17,7 +17,9 @@ use Rattle.lsm_crash.specs.Known.{Known, World, current_name, known_of, nothing}
 use Rattle.lsm_crash.specs.Operations.{Start, either, started, starting}
 use Rattle.lsm_crash.specs.Among.{CutAmong, DoneAmong}
 use Rattle.lsm_crash.specs.History.{IsRead}
-use Rattle.lsm_crash.specs.Database.{Answered, Builds, Collect, Deed, HasMade, Ingest, Install, IsCut, IsMade, IsState, Looks, Opens, Refused, Turn, Works, opened_world, plans_of}
+use Rattle.lsm_crash.specs.Database.{Answered, Builds, Collect, Deed, HasMade, Ingest, Install}
+use Rattle.lsm_crash.specs.Database.{IsCut, IsMade, IsState, Looks, Opens, Refused, Turn, Works}
+use Rattle.lsm_crash.specs.Database.{opened_world, plans_of}
 
 -- ---- what ingests bring in, and what reads give
 

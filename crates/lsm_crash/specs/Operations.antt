@@ -26,7 +26,8 @@ abbrev pub after : World → Operation → World
 after w (Put number image) = record w { tables = set w.tables number (Some image) }
 after w (Remove number) = record w { tables = set w.tables number None }
 after w (Append text version) = record w { bytes = w.bytes ++ text; version = version }
-after w (Start number bytes version) = record w { manifest = number; bytes = bytes; version = version }
+after w (Start number bytes version) =
+    record w { manifest = number; bytes = bytes; version = version }
 
 -- A manifest may be started under a number that `CURRENT` can't name; its bytes come to the
 -- version, of which each file is among the tables.
@@ -62,8 +63,10 @@ either w o = record {
 
 -- once a manifest was started, over whatever was known before
 abbrev pub started : Known → (number : ℕ) (bytes : List ℕ) → Version → World
-started known number bytes version = record { manifest = number; bytes = bytes; version = version; tables = known.tables }
+started known number bytes version =
+    record { manifest = number; bytes = bytes; version = version; tables = known.tables }
 
 -- where that was cut
 abbrev pub starting : Known → ℕ → Version → Known
-starting known number version = record known { manifests = number ∷ known.manifests; versions = version ∷ known.versions }
+starting known number version =
+    record known { manifests = number ∷ known.manifests; versions = version ∷ known.versions }

@@ -17,7 +17,8 @@ use Rattle.lsm_journal.specs.declared.open_fault.OpenFault.{OpenFault}
 use Rattle.lsm_journal.specs.declared.open_fault.OpenFault.TheVariants as open_faults
 use Rattle.lsm_verify.specs.declared.check_fault.CheckFault.{CheckFault}
 use Rattle.lsm_verify.specs.declared.check_fault.CheckFault.TheVariants as check_faults
-use Rattle.lsm_text.specs.FaultText.{edit_field, log_field, read_field, refusal_text, replay_field, shelf_field}
+use Rattle.lsm_text.specs.FaultText.{edit_field, log_field, read_field, refusal_text, replay_field}
+use Rattle.lsm_text.specs.FaultText.{shelf_field}
 use Rattle.lsm_directory.specs.declared.faults.directory_fault.DirectoryFault.{DirectoryFault}
 use Rattle.lsm_directory.specs.declared.faults.directory_fault.DirectoryFault.TheVariants.{OutOfMemory, Write, Shelf, Manifest, Tables, Read, NumbersSpent, Locked, Absent}
 
@@ -33,23 +34,28 @@ abbrev pub shelf_text : ShelfFault → List ℕ
 shelf_text fault = refusal_text (shelf.number_of fault) (shelf.name_of fault) (shelf_field fault)
 
 abbrev pub replay_text : ReplayFault → List ℕ
-replay_text fault = refusal_text (replay.number_of fault) (replay.name_of fault) (replay_field fault)
+replay_text fault = refusal_text (replay.number_of fault) (replay.name_of fault)
+    (replay_field fault)
 
 abbrev pub read_text : ReadFault → List ℕ
 read_text fault = refusal_text (read.number_of fault) (read.name_of fault) (read_field fault)
 
 abbrev pub recover_text : RecoverFault → List ℕ
 recover_text (recover_faults.Shelf fault) = shelf_text fault
-recover_text (recover_faults.Log fault) = refusal_text (log.number_of fault) (log.name_of fault) (log_field fault)
-recover_text (recover_faults.Edit fault) = refusal_text (edit.number_of fault) (edit.name_of fault) (edit_field fault)
+recover_text (recover_faults.Log fault) =
+    refusal_text (log.number_of fault) (log.name_of fault) (log_field fault)
+recover_text (recover_faults.Edit fault) =
+    refusal_text (edit.number_of fault) (edit.name_of fault) (edit_field fault)
 recover_text (recover_faults.Replay fault) = replay_text fault
 
 -- A key against age is spelled as a word, which is tested.
 abbrev pub check_text : CheckFault → Option (List ℕ)
 check_text (check_faults.Read file fault) = Some (read_text fault)
-check_text (check_faults.DoubleFile number) = Some (refusal_text 30 (codes "DoubleFile") (Some number))
+check_text (check_faults.DoubleFile number) =
+    Some (refusal_text 30 (codes "DoubleFile") (Some number))
 check_text (check_faults.Overlap level) = Some (refusal_text 31 (codes "Overlap") (Some level))
-check_text (check_faults.WrongRange number) = Some (refusal_text 32 (codes "WrongRange") (Some number))
+check_text (check_faults.WrongRange number) =
+    Some (refusal_text 32 (codes "WrongRange") (Some number))
 check_text (check_faults.AgeOrder user) = None
 
 abbrev pub fault_text : DirectoryFault → Option (List ℕ)

@@ -1,8 +1,13 @@
--- Which file of a database has a name (LevelDB's `ParseFileName` in `db/filename.cc`: zeros in front of a number are no matter).
-use Rattle.std.specs.Prelude.{◌≡◌, ℕ, ◌<◌, ◌^◌, Bool, true, false, List, ◌++◌, codes, Option, Some, None}
+-- Which file of a database has a name (LevelDB's `ParseFileName` in `db/filename.cc`: zeros in
+-- front of a number are no matter).
+use Rattle.std.specs.Prelude.{◌≡◌, ℕ, ◌<◌, ◌^◌, Bool, true, false, List, ◌++◌, codes, Option, Some}
+use Rattle.std.specs.Prelude.{None}
 use Rattle.std.specs.Str.Parse.{IsNumeral, digits_value}
 use Rattle.lsm_directory.specs.declared.folder.file_kind.FileKind.{FileKind}
-use Rattle.lsm_directory.specs.declared.folder.file_kind.FileKind.TheVariants.{Table, OldTable, Manifest, Temporary, Log, Current, Lock, Other}
+use Rattle.lsm_directory.specs.declared.folder.file_kind.FileKind.TheVariants.{Table, OldTable}
+use Rattle.lsm_directory.specs.declared.folder.file_kind.FileKind.TheVariants.{Manifest, Temporary}
+use Rattle.lsm_directory.specs.declared.folder.file_kind.FileKind.TheVariants.{Log, Current, Lock}
+use Rattle.lsm_directory.specs.declared.folder.file_kind.FileKind.TheVariants.{Other}
 
 -- the digits spell this number in decimal, which fits 64 bits
 abbrev pub IsDecimal : List ℕ → ℕ → Type 0
@@ -14,7 +19,8 @@ IsNumberBefore ending name n = (digits : List ℕ) × (name ≡ digits ++ ending
 
 -- the name is this beginning and then this number
 abbrev pub IsNumberBehind : (beginning name : List ℕ) → ℕ → Type 0
-IsNumberBehind beginning name n = (digits : List ℕ) × (name ≡ beginning ++ digits) × IsDecimal digits n
+IsNumberBehind beginning name n =
+    (digits : List ℕ) × (name ≡ beginning ++ digits) × IsDecimal digits n
 
 -- the name is no number before one of the endings that a database's files have
 pub record HasNoEnding (name : List ℕ) : Type 0 where

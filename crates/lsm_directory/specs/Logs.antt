@@ -1,5 +1,7 @@
--- Write-ahead logs beside the tables (LevelDB's `doc/impl.md`, "Log files", and `DBImpl::Recover` of `db/db_impl.cc`).
-use Rattle.std.specs.Prelude.{◌≡◌, ◌⊎◌, ℕ, ◌<◌, ◌≤◌, List, [], ◌∷◌, ◌++◌, codes, decimal, string_bytes}
+-- Write-ahead logs beside the tables (LevelDB's `doc/impl.md`, "Log files", and `DBImpl::Recover`
+-- of `db/db_impl.cc`).
+use Rattle.std.specs.Prelude.{◌≡◌, ◌⊎◌, ℕ, ◌<◌, ◌≤◌, List, [], ◌∷◌, ◌++◌, codes, decimal}
+use Rattle.std.specs.Prelude.{string_bytes}
 use Rattle.std.specs.List.{flat_map}
 use Rattle.lsm_codec.specs.Lists.{Has}
 use Rattle.lsm_directory.specs.FileNames.{IsNumberBefore}
@@ -11,19 +13,21 @@ use Rattle.lsm_directory.specs.declared.folder.wording.Wording.TheVariants.{List
 abbrev pub IsLogName : List ℕ → ℕ → Type 0
 IsLogName name n = IsNumberBefore (codes ".log") name n
 
--- LevelDB reads the log of this number when it opens the directory: the number is the manifest's log number or above it, or is the
--- previous log number.
+-- LevelDB reads the log of this number when it opens the directory: the number is the manifest's
+-- log number or above it, or is the previous log number.
 abbrev pub IsReached : ℕ → ℕ → ℕ → Type 0
 IsReached log prev n = (log ≤ n) ⊎ (n ≡ prev)
 
 -- a log that is not empty, and that LevelDB reads
 abbrev pub IsUnread : ℕ → ℕ → FolderFile → Type 0
-IsUnread log prev file = (0 < file.size) × ((n : ℕ) × IsLogName (string_bytes file.name) n × IsReached log prev n)
+IsUnread log prev file = (0 < file.size)
+    × ((n : ℕ) × IsLogName (string_bytes file.name) n × IsReached log prev n)
 
 -- the second list has just those of the first of which this holds, in their order
 abbrev pub AreThose : {X : Type 0} → (X → Type 0) → List X → List X → Type 0
 AreThose {X} P [] ys = ys ≡ []
-AreThose {X} P (x ∷ xs) ys = (P x × ((rest : List X) × (ys ≡ x ∷ rest) × AreThose P xs rest)) ⊎ ((P x → ⊥) × AreThose P xs ys)
+AreThose {X} P (x ∷ xs) ys = (P x × ((rest : List X) × (ys ≡ x ∷ rest) × AreThose P xs rest))
+    ⊎ ((P x → ⊥) × AreThose P xs ys)
 
 -- none of these files is a log that is not read
 abbrev pub NoneUnread : (log prev : ℕ) → List FolderFile → Type 0
@@ -45,7 +49,9 @@ log_line file = codes "log " ++ (string_bytes file.name ++ (32 ∷ (decimal file
 
 -- `note: NAME is not flushed: its BYTES bytes are not read`
 unfoldable pub note_line : FolderFile → List ℕ
-note_line file = codes "note: " ++ (string_bytes file.name ++ (codes " is not flushed: its " ++ (decimal file.size ++ codes " bytes are not read\n")))
+note_line file = codes "note: "
+    ++ (string_bytes file.name ++ (codes " is not flushed: its "
+    ++ (decimal file.size ++ codes " bytes are not read\n")))
 
 -- the line of a log in these words
 abbrev pub line_in : Wording → FolderFile → List ℕ
@@ -57,5 +63,8 @@ unfoldable pub log_lines : (FolderFile → List ℕ) → List FolderFile → Lis
 log_lines line files = flat_map line files
 
 -- To a text such a line was added for each log among these files that is not read.
-abbrev pub AppendsLogs : (FolderFile → List ℕ) → (log prev : ℕ) → List FolderFile → (old new : List ℕ) → Type 0
-AppendsLogs line log prev files old new = (logs : List FolderFile) × AreThose (IsUnread log prev) files logs × (new ≡ old ++ log_lines line logs)
+abbrev pub AppendsLogs : (FolderFile → List ℕ) → (log prev : ℕ) → List FolderFile
+    → (old new : List ℕ) → Type 0
+AppendsLogs line log prev files old new =
+    (logs : List FolderFile) × AreThose (IsUnread log prev) files logs
+    × (new ≡ old ++ log_lines line logs)

@@ -26,4 +26,5 @@ file_behind false (Some number) = file_line number
 abbrev pub told_text : Bool → Option ℕ → (text meaning : Option (List ℕ)) → Option (List ℕ)
 told_text named file None meaning = None
 told_text named file (Some text) None = None
-told_text named file (Some text) (Some meaning) = Some (line_of (named_in named file) text ++ (file_behind named file ++ meaning))
+told_text named file (Some text) (Some meaning) =
+    Some (line_of (named_in named file) text ++ (file_behind named file ++ meaning))

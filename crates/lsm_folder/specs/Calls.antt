@@ -81,7 +81,8 @@ pub record AreHonest {C : Type 0} (calls : C → List Call) : Type 0 where
   pub last : (c : C) → LastIsTrue (calls c)
 
 -- an answer is true in one way
-pub IsPart-prop : (image : List ℕ) (offset len : ℕ) (answer : Result (List ℕ) FolderFault) → IsProp (IsPart image offset len answer)
+pub IsPart-prop : (image : List ℕ) (offset len : ℕ) (answer : Result (List ℕ) FolderFault)
+    → IsProp (IsPart image offset len answer)
 IsPart-prop image offset len (Err fault) = Unit-prop
 IsPart-prop image offset len (Ok bytes) = Prim.hlevel logic.props
 

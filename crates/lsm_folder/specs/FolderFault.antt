@@ -1,6 +1,7 @@
 -- Which refusals a call on a folder can give (this project's rule).
 use Rattle.lsm_folder.specs.declared.folder_fault.FolderFault.{FolderFault}
-use Rattle.lsm_folder.specs.declared.folder_fault.FolderFault.TheVariants.{OutOfMemory, Failed, Missing, Exists}
+use Rattle.lsm_folder.specs.declared.folder_fault.FolderFault.TheVariants.{OutOfMemory, Failed}
+use Rattle.lsm_folder.specs.declared.folder_fault.FolderFault.TheVariants.{Missing, Exists}
 
 -- of a call that makes a file that must not be there
 abbrev pub NotMissing : FolderFault → Type 0

@@ -18,7 +18,8 @@ unfoldable pub held : {A : Type 0} → Read A → ℕ → List ℕ → List A
 held read skipped bytes = unwrap_or (items_in read (drop skipped bytes)) []
 
 -- The bytes are just these fields behind a head, and no longer than an answer's frame.
-pub record Holds {A : Type 0} (spell : A → List ℕ) (FitsOne : A → Type 0) (head : List ℕ) (xs : List A) (bytes : List ℕ) : Type 0 where
+pub record Holds {A : Type 0} (spell : A → List ℕ) (FitsOne : A
+    → Type 0) (head : List ℕ) (xs : List A) (bytes : List ℕ) : Type 0 where
   pub parts : bytes ≡ head ++ flat_map spell xs
   pub fits : AllByRecursion FitsOne xs
   pub short : length bytes ≤ MOST_ANSWER + 4

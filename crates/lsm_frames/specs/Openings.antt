@@ -1,5 +1,6 @@
 -- The opening (docs/PROTOCOL.md, this project's rule).
-use Rattle.std.specs.Prelude.{◌≡◌, ℕ, ◌+◌, ◌*◌, ◌^◌, ◌<◌, ◌≤◌, Bool, true, false, List, ◌∷◌, ◌++◌, length, IsUtf8}
+use Rattle.std.specs.Prelude.{◌≡◌, ℕ, ◌+◌, ◌*◌, ◌^◌, ◌<◌, ◌≤◌, Bool, true, false, List, ◌∷◌, ◌++◌}
+use Rattle.std.specs.Prelude.{length, IsUtf8}
 use Rattle.lsm_frames.specs.Texts.{number32, text}
 
 pub record Opened : Type 0 where
@@ -19,7 +20,9 @@ bit false = 0
 bit true = 1
 
 unfoldable pub opening_text : Opened → List ℕ
-opening_text o = number32 o.first ++ (number32 o.channels ++ (number32 o.workers ++ ((bit o.make + 2 * bit o.refuse) ∷ text o.path)))
+opening_text o = number32 o.first
+    ++ (number32 o.channels ++ (number32 o.workers
+    ++ ((bit o.make + 2 * bit o.refuse) ∷ text o.path)))
 
 pub record FitsOpened (o : Opened) : Type 0 where
   -- The last channel's number fits a descriptor.

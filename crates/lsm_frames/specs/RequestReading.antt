@@ -1,8 +1,10 @@
 -- Reading a request.
 use Rattle.std.specs.Prelude.{ℕ, List, [], ◌∷◌, length, Option, Some, None, ◌==◌, if◌then◌else◌}
 use Rattle.std.specs.Int.{w32, w64}
-use Rattle.lsm_frames.specs.Requests.{Asked, Stretch, Writes, Reads, Scans, Snapshots, Releases, Compacts, Collects, Statistics}
-use Rattle.lsm_frames.specs.Reading.{◌>>=◌, Read, number_at, text_at, optional_at, when_at, written_at, items_in}
+use Rattle.lsm_frames.specs.Requests.{Asked, Stretch, Writes, Reads, Scans, Snapshots, Releases}
+use Rattle.lsm_frames.specs.Requests.{Compacts, Collects, Statistics}
+use Rattle.lsm_frames.specs.Reading.{◌>>=◌, Read, number_at, text_at, optional_at, when_at}
+use Rattle.lsm_frames.specs.Reading.{written_at, items_in}
 
 -- at least one
 unfoldable pub some_in : {A : Type 0} → Read A → List ℕ → Option (List A)
@@ -20,7 +22,8 @@ unfoldable pub reads_at : List ℕ → Option Asked
 reads_at bytes = when_at bytes >>= λ w. some_in text_at w.1 >>= λ ks. Some (Reads w.0 ks)
 
 unfoldable pub stretch_at : Read Stretch
-stretch_at bytes = when_at bytes >>= λ w. text_at w.1 >>= λ f. optional_at f.1 >>= λ t. number_at w32 t.1 >>= λ n. Some (record { when = w.0; from = f.0; to = t.0; limit = n.0 }, n.1)
+stretch_at bytes = when_at bytes >>= λ w. text_at w.1 >>= λ f. optional_at f.1 >>= λ t.
+    number_at w32 t.1 >>= λ n. Some (record { when = w.0; from = f.0; to = t.0; limit = n.0 }, n.1)
 
 unfoldable pub scan_at : List ℕ → Option Asked
 scan_at bytes = stretch_at bytes >>= λ s. whole (Scans s.0) s.1

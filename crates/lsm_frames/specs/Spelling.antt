@@ -1,7 +1,8 @@
 -- What is spelled of a request so far.
 use Rattle.std.specs.Prelude.{◌≡◌, ℕ, ◌<◌, List, get_or, [], ◌∷◌, ◌++◌, Option, IfSome}
 use Rattle.lsm_frames.specs.Texts.{optional}
-use Rattle.lsm_frames.specs.Requests.{Asked, FitsText, Fits, spelled, Writes, Reads, Scans, Snapshots, Releases, Compacts, Collects, Statistics}
+use Rattle.lsm_frames.specs.Requests.{Asked, FitsText, Fits, spelled, Writes, Reads, Scans}
+use Rattle.lsm_frames.specs.Requests.{Snapshots, Releases, Compacts, Collects, Statistics}
 
 -- room for the length, and the request, which fits its form
 pub record Spells (bytes : List ℕ) (asked : Asked) : Type 0 where

@@ -4,13 +4,20 @@ use Rattle.lsm_frames.specs.declared.write.Write.{Write}
 use Rattle.lsm_frames.specs.declared.range.Range.{Range}
 use Rattle.lsm_frames.specs.declared.request.Request.{Request}
 use Rattle.lsm_frames.specs.declared.request.Request.TheVariants as request
-use Rattle.lsm_frames.specs.Requests.{Asked, Stretch, Written, Writes, Reads, Scans, Snapshots, Releases, Compacts, Collects, Statistics}
+use Rattle.lsm_frames.specs.Requests.{Asked, Stretch, Written, Writes, Reads, Scans, Snapshots}
+use Rattle.lsm_frames.specs.Requests.{Releases, Compacts, Collects, Statistics}
 
 abbrev pub written_of : Write → Written
 written_of w = record { key = w.key.now; value = option_map (λ v. v.now) w.value }
 
 abbrev pub stretch_of : Range → Stretch
-stretch_of r = record { when = r.when; from = r.from.now; to = option_map (λ k. k.now) r.to; limit = r.limit }
+stretch_of r = record {
+  when = r.when;
+  from = r.from.now;
+  to = option_map (λ k.
+      k.now) r.to;
+  limit = r.limit;
+}
 
 abbrev pub asked_of : Request → Asked
 asked_of (request.Write writes) = Writes writes

@@ -1,5 +1,5 @@
--- Histories: all that ever came in, the latest batch first, and within a batch in its own order; and
--- which version has had which id (this project's rule).
+-- Histories: all that ever came in, the latest batch first, and within a batch in its own order;
+-- and which version has had which id (this project's rule).
 use Rattle.std.specs.Prelude.{◌≡◌, ℕ, List, ◌++◌}
 use Rattle.lsm_codec.specs.Entries.{Entry}
 

@@ -1,4 +1,5 @@
--- The rule of a history's table: one seat knows all of it, and others remember what it was (this project's rule).
+-- The rule of a history's table: one seat knows all of it, and others remember what it was (this
+-- project's rule).
 use Rattle.std.specs.Prelude.{◌≡◌, ℕ, true, false, [], ◌++◌}
 use mathlib.Core.Option.{Option, none, some}
 use lib.ListN.{get_elem?}
@@ -36,13 +37,16 @@ GoesOn now old = IsLater now.entries old.entries × IsLater now.editions old.edi
 
 -- what the seat `by` knows, where the seat `seat` knows all
 abbrev pub Fits : ℕ → History → ℕ → View → Type 0
-Fits seat all by v = (v.keeps ≡ true → (by ≡ seat) × (v.seen ≡ all)) × GoesOn all v.seen × GoesOn all v.asked
+Fits seat all by v = (v.keeps ≡ true → (by ≡ seat) × (v.seen ≡ all)) × GoesOn all v.seen
+    × GoesOn all v.asked
 
 -- one seat at most knows all, and what each other one remembers stands at the end of it
 abbrev pub IsKept : State History View → Type 0
-IsKept s = (seat : ℕ) × (all : History) × ((by : ℕ) (v : View) → get_elem? s.views by ≡ some v → Fits seat all by v)
+IsKept s = (seat : ℕ) × (all : History)
+    × ((by : ℕ) (v : View) → get_elem? s.views by ≡ some v → Fits seat all by v)
 
-abbrev pub Told : (History → History → History) → Option History → History → Me History View → Type 0
+abbrev pub Told : (History → History → History) → Option History → History → Me History View
+    → Type 0
 Told with none h after = ⊥
 Told with (some new) h after = after.0 ≡ knowing (with h new)
 
@@ -56,4 +60,5 @@ Listed s before found after = Told with_editions s.said before.0.seen after × (
 
 -- what was to be compared stands at the end of all
 abbrev pub Compared : Step History → Me History View → ℕ → Me History View → Type 0
-Compared s before found after = (after.0 ≡ knowing before.0.seen) × (after.1 ≡ before.1) × GoesOn before.0.seen before.0.asked
+Compared s before found after =
+    (after.0 ≡ knowing before.0.seen) × (after.1 ≡ before.1) × GoesOn before.0.seen before.0.asked

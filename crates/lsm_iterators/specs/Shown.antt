@@ -55,4 +55,5 @@ pair_at true [] = None
 pair_at true (p ∷ ps) = pair_if p.1.kind (p.1.user, p.1.value)
 
 abbrev pub showing_of : ℕ → Option UserKey → Bool → List Placed → Showing
-showing_of seq told is_done ps = record { here = pair_at is_done ps; left = left_to_show seq told is_done ps }
+showing_of seq told is_done ps =
+    record { here = pair_at is_done ps; left = left_to_show seq told is_done ps }

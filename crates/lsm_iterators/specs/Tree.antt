@@ -11,7 +11,12 @@ use Rattle.lsm_iterators.specs.declared.tree.Tree.TheVariants.{Leaf, Fork'}
 
 -- what is left of two, the first one's entry first where both may go
 abbrev pub both : Left → Left → Left
-both a b = record { placed = merge a.placed b.placed; files = a.files ++ b.files; numbered = merge a.numbered b.numbered }
+both a b = record {
+  placed = merge a.placed b.placed;
+  files = a.files
+      ++ b.files;
+  numbered = merge a.numbered b.numbered;
+}
 
 abbrev pub none_left : Left
 none_left = record { placed = []; files = []; numbered = [] }
@@ -47,7 +52,9 @@ pub record IsFront (front : ℕ) (a b : Left) : Type 0 where
 -- each fork knows which of its two trees leads, and the front that both share
 abbrev pub IsReady : Tree Left → Type 0
 IsReady (Leaf source) = AreAlike source
-IsReady (Fork' led front p l q r) = IsLed led (left_of l) (left_of r) × IsFront front (left_of l) (left_of r) × IsReady l × IsReady r
+IsReady (Fork' led front p l q r) =
+    IsLed led (left_of l) (left_of r) × IsFront front (left_of l) (left_of r) × IsReady l
+    × IsReady r
 
 -- the two trees of a fork are ready
 abbrev pub AreReady : Tree Left → Type 0

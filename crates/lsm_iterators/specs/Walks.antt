@@ -22,7 +22,8 @@ passed_if true user = Some user
 -- key is the one that is remembered.
 abbrev pub told_first : Option UserKey → Option Placed → Option FirstKey
 told_first passed None = None
-told_first passed (Some p) = Some (record { seq = p.1.seq; kind = p.1.kind; is_same = is_answered passed p.1.user })
+told_first passed (Some p) = Some
+    (record { seq = p.1.seq; kind = p.1.kind; is_same = is_answered passed p.1.user })
 
 -- How the user key that is remembered stands to that of the first entry, where both are there.
 abbrev pub order_first : Option UserKey → Option Placed → Option Ordering

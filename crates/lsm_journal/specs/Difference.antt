@@ -35,21 +35,25 @@ FitsComing a = (a.0 ≤ 6) × FitsKey a.1.smallest × FitsKey a.1.largest
 abbrev pub FitsPlace : ℕ × List ℕ → Type 0
 FitsPlace p = (p.0 ≤ 6) × FitsKey p.1
 
--- Levels are 0 to 6, keys are internal keys whose lengths fit 32 bits, and deletions stand by level, then number.
+-- Levels are 0 to 6, keys are internal keys whose lengths fit 32 bits, and deletions stand by
+-- level, then number.
 pub record FitsDifference (d : Difference) : Type 0 where
   pub deleted : All FitsDeleted d.deleted
   pub ordered : AreInOrder d.deleted
   pub added : All FitsComing d.added
   pub pointer : IfSome d.pointer FitsPlace
 
--- The change is one of this version: what goes is there, at its level; no two tables that come have one number, and none has the
--- number of a table that stays.
+-- The change is one of this version: what goes is there, at its level; no two tables that come have
+-- one number, and none has the number of a table that stays.
 pub record Suits (d : Difference) (v : Levels) : Type 0 where
-  pub there : (x : Deletion) → Has d.deleted x → (t : Table) × Has (level_in v.tables x.level) t × (t.number ≡ x.number)
+  pub there : (x : Deletion) → Has d.deleted x
+      → (t : Table) × Has (level_in v.tables x.level) t × (t.number ≡ x.number)
   pub apart : AreDistinct (map (λ a. a.1.number) d.added)
-  pub fresh : (n m : ℕ) (t u : Table) → Has d.added (n, t) → Has (level_in v.tables m) u → (Has (deleted_numbers d) u.number → ⊥) → u.number ≡ t.number → ⊥
+  pub fresh : (n m : ℕ) (t u : Table) → Has d.added (n, t) → Has (level_in v.tables m) u
+      → (Has (deleted_numbers d) u.number → ⊥) → u.number ≡ t.number → ⊥
 
--- The manifest held records a version that the change turns into this one, under next file numbers up to this one.
+-- The manifest held records a version that the change turns into this one, under next file numbers
+-- up to this one.
 pub record LeadsTo (h : HeldManifest) (d : Difference) (w : Levels) (next : ℕ) : Type 0 where
   pub before : Levels
   pub recorded : IsRecorded 0 h before next

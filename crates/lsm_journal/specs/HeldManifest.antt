@@ -5,7 +5,8 @@ pub record HeldManifest : Type 0 where
   -- the number of its file, and its bytes
   pub number : ℕ
   pub bytes : List ℕ
-  -- the numbers of the write-ahead log and of the one before it, as the manifest had them when it was read
+  -- the numbers of the write-ahead log and of the one before it, as the manifest had them when it
+  -- was read
   pub log : ℕ
   pub prev_log : ℕ
   -- from so many bytes on a new manifest is due

@@ -4,7 +4,8 @@ use Rattle.lsm_shelf.specs.ShelfFault as shelf
 use Rattle.lsm_journal.specs.RecoverFault as recover
 use Rattle.lsm_verify.specs.CheckFault as check
 use Rattle.lsm_journal.specs.declared.open_fault.OpenFault.{OpenFault}
-use Rattle.lsm_journal.specs.declared.open_fault.OpenFault.TheVariants.{OutOfMemory, Shelf, Recover, Check, NumbersSpent}
+use Rattle.lsm_journal.specs.declared.open_fault.OpenFault.TheVariants.{OutOfMemory, Shelf, Recover}
+use Rattle.lsm_journal.specs.declared.open_fault.OpenFault.TheVariants.{Check, NumbersSpent}
 
 abbrev pub number_of : OpenFault → ℕ
 number_of OutOfMemory = 1

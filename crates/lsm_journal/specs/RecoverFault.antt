@@ -5,7 +5,8 @@ use Rattle.lsm_manifest.specs.LogFault as log
 use Rattle.lsm_manifest.specs.EditFault as edit
 use Rattle.lsm_manifest.specs.ReplayFault as replay
 use Rattle.lsm_journal.specs.declared.recover_fault.RecoverFault.{RecoverFault}
-use Rattle.lsm_journal.specs.declared.recover_fault.RecoverFault.TheVariants.{Shelf, Log, Edit, Replay}
+use Rattle.lsm_journal.specs.declared.recover_fault.RecoverFault.TheVariants.{Shelf, Log, Edit}
+use Rattle.lsm_journal.specs.declared.recover_fault.RecoverFault.TheVariants.{Replay}
 
 abbrev pub number_of : RecoverFault → ℕ
 number_of (Shelf e) = shelf.number_of e

@@ -15,9 +15,11 @@ use Rattle.lsm_manifest.specs.Manifest.{AreEdits, IsManifest}
 use Rattle.lsm_manifest.specs.Shape.{Form, IsRefused, IsReplayed}
 use Rattle.lsm_journal.specs.HeldManifest.{HeldManifest}
 use Rattle.lsm_journal.specs.declared.recover_fault.RecoverFault.{RecoverFault}
-use Rattle.lsm_journal.specs.declared.recover_fault.RecoverFault.TheVariants.{Shelf, Log, Edit, Replay}
+use Rattle.lsm_journal.specs.declared.recover_fault.RecoverFault.TheVariants.{Shelf, Log, Edit}
+use Rattle.lsm_journal.specs.declared.recover_fault.RecoverFault.TheVariants.{Replay}
 
--- The manifest held is edits that come to the shape, whose log numbers the journal keeps; so many bytes at its end hold no whole record.
+-- The manifest held is edits that come to the shape, whose log numbers the journal keeps; so many
+-- bytes at its end hold no whole record.
 pub record IsRecovered (h : HeldManifest) (shape : Form) (rest : ℕ) : Type 0 where
   pub edits : List Change
   pub manifest : IsManifest h.bytes edits rest
@@ -41,19 +43,25 @@ pub record IsRecordRefusal (records : List (List ℕ)) (e : EditFault) : Type 0 
 
 -- the bytes are a log, and so it is with its records
 abbrev pub IsEditRefusal : List ℕ → EditFault → Type 0
-IsEditRefusal bytes e = (records : List (List ℕ)) × (rest : ℕ) × IsLog bytes records rest × IsRecordRefusal records e
+IsEditRefusal bytes e = (records : List (List ℕ)) × (rest : ℕ) × IsLog bytes records rest
+    × IsRecordRefusal records e
 
 -- the edits have this fault
 abbrev pub IsReplayRefusal : List ℕ → ReplayFault → Type 0
-IsReplayRefusal bytes e = (edits : List Change) × (rest : ℕ) × IsManifest bytes edits rest × IsRefused edits e
+IsReplayRefusal bytes e = (edits : List Change) × (rest : ℕ) × IsManifest bytes edits rest
+    × IsRefused edits e
 
--- The shelf refused to give the manifest, with a count that rose; or what it gave is no log; or the log has a record that is no edit; or the edits come to
--- no shape.
+-- The shelf refused to give the manifest, with a count that rose; or what it gave is no log; or the
+-- log has a record that is no edit; or the edits come to no shape.
 abbrev pub IsRecoverRefusal : (Asked → ShelfFault → Type 0) → RecoverFault → Told → Told → Type 0
-IsRecoverRefusal Refused (Shelf e) was is = Becomes was is × NotTaken e × Counted e was is × Refused ReadManifest e
-IsRecoverRefusal Refused (Log e) was is = (bytes : List ℕ) × Gave bytes was is × log_view.Fails e (log_at bytes)
-IsRecoverRefusal Refused (Edit e) was is = (bytes : List ℕ) × Gave bytes was is × IsEditRefusal bytes e
-IsRecoverRefusal Refused (Replay e) was is = (bytes : List ℕ) × Gave bytes was is × IsReplayRefusal bytes e
+IsRecoverRefusal Refused (Shelf e) was is =
+    Becomes was is × NotTaken e × Counted e was is × Refused ReadManifest e
+IsRecoverRefusal Refused (Log e) was is =
+    (bytes : List ℕ) × Gave bytes was is × log_view.Fails e (log_at bytes)
+IsRecoverRefusal Refused (Edit e) was is =
+    (bytes : List ℕ) × Gave bytes was is × IsEditRefusal bytes e
+IsRecoverRefusal Refused (Replay e) was is =
+    (bytes : List ℕ) × Gave bytes was is × IsReplayRefusal bytes e
 
 -- no count rose
 abbrev pub SameCounts : Told → Told → Type 0

@@ -1,5 +1,5 @@
--- The edits that a journal writes, and their bytes (LevelDB's `db/version_set.cc`; that each edit but a new database's first has all
--- four numbers is this project's rule).
+-- The edits that a journal writes, and their bytes (LevelDB's `db/version_set.cc`; that each edit
+-- but a new database's first has all four numbers is this project's rule).
 use Rattle.std.specs.Prelude.{ℕ, ◌+◌, ◌%◌, List, [], ◌∷◌, length, map, Option, Some, None, codes}
 use Rattle.lsm_table.specs.Registry.{Table}
 use Rattle.lsm_manifest.specs.declared.parts.CompactPointer.{CompactPointer}
@@ -20,7 +20,8 @@ record_of bytes edit = record_text (length bytes % 32768) (edit_text edit)
 
 -- ---- a new database
 
--- the edit of a new database whose manifest has this number, so that the next file number is one more
+-- the edit of a new database whose manifest has this number, so that the next file number is one
+-- more
 abbrev pub first_edit_under : ℕ → Change
 first_edit_under number = record {
   comparator = Some (codes "leveldb.BytewiseComparator");
@@ -35,7 +36,13 @@ first_edit_under number = record {
 
 -- its manifest
 abbrev pub created_under : ℕ → ℕ → HeldManifest
-created_under number limit = record { number = number; bytes = record_of [] (first_edit_under number); log = 0; prev_log = 0; limit = limit }
+created_under number limit = record {
+  number = number;
+  bytes = record_of [] (first_edit_under number);
+  log = 0;
+  prev_log = 0;
+  limit = limit;
+}
 
 -- that of manifest 1, so that 2 is the next number
 abbrev pub created : ℕ → HeldManifest
@@ -70,7 +77,14 @@ metas_of tables = map (λ ts. map meta_of ts) tables
 
 -- the version as a replay gives it, with the journal's log numbers and the next file number
 abbrev pub shape_of : HeldManifest → Levels → ℕ → Form
-shape_of h v next = record { levels = metas_of v.tables; pointers = v.pointers; log = h.log; prev_log = h.prev_log; next = next; last = v.last }
+shape_of h v next = record {
+  levels = metas_of v.tables;
+  pointers = v.pointers;
+  log = h.log;
+  prev_log = h.prev_log;
+  next = next;
+  last = v.last;
+}
 
 -- the one edit of a new manifest
 abbrev pub version_edit : HeldManifest → Levels → ℕ → Change

@@ -9,7 +9,8 @@ use Rattle.lsm_lines.specs.Gathering.{Reads, Stops}
 use Rattle.lsm_lines.specs.declared.filling.FillEnd.{FillEnd}
 use Rattle.lsm_lines.specs.declared.filling.FillEnd.TheVariants.{Over, Enough, End, Stopped}
 use Rattle.lsm_lines.specs.declared.write_line_fault.WriteLineFault.{WriteLineFault}
-use Rattle.lsm_lines.specs.declared.write_line_fault.WriteLineFault.TheVariants.{BadLine, OutOfMemory}
+use Rattle.lsm_lines.specs.declared.write_line_fault.WriteLineFault.TheVariants.{BadLine}
+use Rattle.lsm_lines.specs.declared.write_line_fault.WriteLineFault.TheVariants.{OutOfMemory}
 
 -- the line spells no write, or there was no memory for it
 abbrev pub IsNoWrite : Form → List ℕ → WriteLineFault → Type 0
@@ -18,14 +19,20 @@ IsNoWrite form line OutOfMemory = ⊤
 IsNoWrite form line fault = ⊥
 
 -- the writes of the lines up to here stand behind those that were there
-pub record Fills (form : Form) (old new : Option (List ℕ)) (before after : List Write) : Type 0 where
+pub record Fills (form : Form) (old new : Option (List ℕ)) (before after : List Write)
+    : Type 0 where
   pub writes : List Write
   pub reads : Reads form old new writes
   pub put : after ≡ before ++ writes
 
--- What ended it: a write that would pass a limit; as many writes as may be; the input's end; or the line that comes next.
-abbrev pub IsFilled : Form → (old new : Option (List ℕ)) → (before after : List Write) → FillEnd → Type 0
-IsFilled form old new before after (Over w) = Fills form old new before (after ++ w ∷ []) × IsTooLarge (after ++ w ∷ [])
+-- What ended it: a write that would pass a limit; as many writes as may be; the input's end; or the
+-- line that comes next.
+abbrev pub IsFilled : Form → (old new : Option (List ℕ)) → (before after : List Write) → FillEnd
+    → Type 0
+IsFilled form old new before after (Over w) =
+    Fills form old new before (after ++ w ∷ []) × IsTooLarge (after ++ w ∷ [])
 IsFilled form old new before after Enough = Fills form old new before after × (65536 ≤ length after)
-IsFilled form old new before after End = (left : Option (List ℕ)) × Fills form old left before after × IsAtEnd left
-IsFilled form old new before after (Stopped fault) = (left : Option (List ℕ)) × Fills form old left before after × Stops form left fault
+IsFilled form old new before after End =
+    (left : Option (List ℕ)) × Fills form old left before after × IsAtEnd left
+IsFilled form old new before after (Stopped fault) =
+    (left : Option (List ℕ)) × Fills form old left before after × Stops form left fault

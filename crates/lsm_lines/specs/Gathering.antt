@@ -1,5 +1,6 @@
 -- Lines of writes that are gathered to batches (this project's rule).
-use Rattle.std.specs.Prelude.{◌≡◌, ◌⊎◌, ℕ, ◌<◌, ◌≤◌, ⊤, List, [], ◌∷◌, ◌++◌, length, Option, Some, None}
+use Rattle.std.specs.Prelude.{◌≡◌, ◌⊎◌, ℕ, ◌<◌, ◌≤◌, ⊤, List, [], ◌∷◌, ◌++◌, length, Option, Some}
+use Rattle.std.specs.Prelude.{None}
 use Rattle.std.specs.Io.KnownBytes.{IsAtEnd}
 use Rattle.lsm_text.specs.EntryList.{lines_of}
 use Rattle.lsm_text.specs.BatchText.{AreWriteLines, IsWriteLine}
@@ -12,7 +13,9 @@ use Rattle.lsm_lines.specs.declared.gathered.Gathered.{Gathered}
 use Rattle.lsm_lines.specs.declared.gathered.BatchEnd.{BatchEnd}
 use Rattle.lsm_lines.specs.declared.gathered.BatchEnd.TheVariants.{Full, End, Stopped}
 use Rattle.lsm_lines.specs.declared.write_line_fault.WriteLineFault.{WriteLineFault}
-use Rattle.lsm_lines.specs.declared.write_line_fault.WriteLineFault.TheVariants.{BadLine, LongLine, LargeWrite, Read, OutOfMemory}
+use Rattle.lsm_lines.specs.declared.write_line_fault.WriteLineFault.TheVariants.{BadLine, LongLine}
+use Rattle.lsm_lines.specs.declared.write_line_fault.WriteLineFault.TheVariants.{LargeWrite, Read}
+use Rattle.lsm_lines.specs.declared.write_line_fault.WriteLineFault.TheVariants.{OutOfMemory}
 
 -- ---- lines
 
@@ -33,17 +36,21 @@ abbrev pub BeginsWith : List ℕ → Option (List ℕ) → Type 0
 BeginsWith line None = ⊤
 BeginsWith line (Some xs) = (rest : List (List ℕ)) × (lines_of xs ≡ line ∷ rest)
 
--- Why the first line of what is left is no write that a batch may have. A failed read, and want of memory, say nothing of it.
+-- Why the first line of what is left is no write that a batch may have. A failed read, and want of
+-- memory, say nothing of it.
 abbrev pub Stops : Form → Option (List ℕ) → WriteLineFault → Type 0
-Stops form left (BadLine fault) = (line : List ℕ) × BeginsWith line left × ((w : Write) → IsWriteLine form line w → ⊥)
+Stops form left (BadLine fault) =
+    (line : List ℕ) × BeginsWith line left × ((w : Write) → IsWriteLine form line w → ⊥)
 Stops form left LongLine = (line : List ℕ) × BeginsWith line left × (most_of_line < length line)
-Stops form left LargeWrite = (line : List ℕ) × BeginsWith line left × ((w : Write) × IsWriteLine form line w × IsLarge w)
+Stops form left LargeWrite = (line : List ℕ) × BeginsWith line left
+    × ((w : Write) × IsWriteLine form line w × IsLarge w)
 Stops form left Read = ⊤
 Stops form left OutOfMemory = ⊤
 
 -- ---- batches
 
--- what is still to come: a write that was read and is held back, if there is one, and what is left of the input, where that is known
+-- what is still to come: a write that was read and is held back, if there is one, and what is left
+-- of the input, where that is known
 pub record Pending : Type 0 where
   pub form : Form
   pub held : List Write
@@ -53,14 +60,17 @@ pub record Pending : Type 0 where
 abbrev pub IsFull : List Write → List Write → Type 0
 IsFull ws held = (65536 ≤ length ws) ⊎ IsTooLarge (ws ++ held)
 
--- Lines were read, whose writes stand behind the one that was held back. Of all these the first are gathered, and none is left over but the one
--- that is held back now.
+-- Lines were read, whose writes stand behind the one that was held back. Of all these the first are
+-- gathered, and none is left over but the one that is held back now.
 abbrev pub Gathers : Pending → Option (List ℕ) → (held ws : List Write) → Type 0
-Gathers old left held ws = (writes : List Write) × Reads old.form old.left left writes × (old.held ++ writes ≡ ws ++ held)
+Gathers old left held ws = (writes : List Write) × Reads old.form old.left left writes
+    × (old.held ++ writes ≡ ws ++ held)
 
--- The line that comes next is no write that a batch may have. For want of memory a write may be lost that was read.
+-- The line that comes next is no write that a batch may have. For want of memory a write may be
+-- lost that was read.
 abbrev pub StopsBy : Pending → List Write → WriteLineFault → Type 0
-StopsBy old ws OutOfMemory = (left : Option (List ℕ)) × (held : List Write) × Gathers old left held ws
+StopsBy old ws OutOfMemory = (left : Option (List ℕ)) × (held : List Write)
+    × Gathers old left held ws
 StopsBy old ws fault = (left : Option (List ℕ)) × Gathers old left [] ws × Stops old.form left fault
 
 -- What ended the batch of these writes: its limits; the input's end; or the line that comes next.

@@ -9,4 +9,5 @@ TakesCount n old new = (lines : List (List ℕ)) × (length lines ≡ n) × Take
 
 -- So many lines were passed over, or all, which are fewer, and nothing is left.
 abbrev pub PassesLines : ℕ → Option (List ℕ) → Option (List ℕ) → Type 0
-PassesLines n old new = TakesCount n old new ⊎ ((less : ℕ) × (end : Option (List ℕ)) × TakesCount less old end × IsAtEnd end × IsAtEnd new)
+PassesLines n old new = TakesCount n old new
+    ⊎ ((less : ℕ) × (end : Option (List ℕ)) × TakesCount less old end × IsAtEnd end × IsAtEnd new)

@@ -4,8 +4,8 @@ use Rattle.lsm_lines.specs.Reading.{most_of_line}
 use Rattle.lsm_lines.specs.declared.line_reader.NextLine.{NextLine}
 use Rattle.lsm_lines.specs.declared.line_reader.NextLine.TheVariants.{Line, TooLong, NoMemory, End}
 
--- Of a line of which this front was read so much is held: all of it; or not any more, since it is too long, or there is no memory; or nothing
--- was read.
+-- Of a line of which this front was read so much is held: all of it; or not any more, since it is
+-- too long, or there is no memory; or nothing was read.
 abbrev pub Holds : NextLine → (line front : List ℕ) → Type 0
 Holds Line line front = (line ≡ front) × (length front ≤ most_of_line)
 Holds TooLong line front = most_of_line < length front

@@ -29,9 +29,11 @@ TakesLine line None new = ⊤
 TakesLine line (Some xs) None = ⊥
 TakesLine line (Some xs) (Some ys) = lines_of xs ≡ line ∷ lines_of ys
 
--- What was read next: a line, which is held; one that is too long, or for which there is no memory, and which is not held; or nothing is left.
+-- What was read next: a line, which is held; one that is too long, or for which there is no memory,
+-- and which is not held; or nothing is left.
 abbrev pub IsNext : Lined → Lined → NextLine → Type 0
 IsNext old new Line = (length new.line ≤ most_of_line) × TakesLine new.line old.left new.left
-IsNext old new TooLong = (line : List ℕ) × (most_of_line < length line) × TakesLine line old.left new.left
+IsNext old new TooLong = (line : List ℕ) × (most_of_line < length line)
+    × TakesLine line old.left new.left
 IsNext old new NoMemory = (line : List ℕ) × TakesLine line old.left new.left
 IsNext old new End = IsAtEnd old.left × IsAtEnd new.left

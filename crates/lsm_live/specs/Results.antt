@@ -11,7 +11,8 @@ pub record Awaits (b : Booked) (d : Done) : Type 0 where
   pub work : b.work ≡ d.work
   pub drew : (n : ℕ) → Has d.put n → Has b.drawn n
 
--- The result's job is live there: just this job is kept, it drew the numbers that the result put, and these rise.
+-- The result's job is live there: just this job is kept, it drew the numbers that the result put,
+-- and these rise.
 pub record IsLiveResult (live : List Booked) (d : Done) (b : Booked) : Type 0 where
   pub is_live : Has live b
   pub awaits : Awaits b d

@@ -23,7 +23,8 @@ pub data Field : Type 0 where
   Added : ℕ × (ℕ × (ℕ × (List ℕ × List ℕ))) → Field
 
 -- two parts, one after the other
-pub record Both {A B : Type 0} (T : A → List ℕ → Type 0) (U : B → List ℕ → Type 0) (x : A × B) (own : List ℕ) : Type 0 where
+pub record Both {A B : Type 0} (T : A → List ℕ → Type 0) (U : B → List ℕ
+    → Type 0) (x : A × B) (own : List ℕ) : Type 0 where
   pub first : List ℕ
   pub second : List ℕ
   pub own_is : own ≡ first ++ second
@@ -66,7 +67,8 @@ BodyText (Next x) own = NumberText x own
 BodyText (Last x) own = NumberText x own
 BodyText (Pointer x) own = Both LevelText KeyText x own
 BodyText (Deleted x) own = Both LevelText NumberText x own
-BodyText (Added x) own = Both LevelText (Both NumberText (Both NumberText (Both KeyText KeyText))) x own
+BodyText (Added x) own = Both LevelText (Both NumberText (Both NumberText (Both KeyText KeyText))) x
+    own
 
 pub record FieldText (field : Field) (own : List ℕ) : Type 0 where
   pub tag_text : List ℕ
@@ -78,7 +80,8 @@ pub record FieldText (field : Field) (own : List ℕ) : Type 0 where
 -- The text is these fields, one after the other.
 abbrev pub AreFields : List Field → List ℕ → Type 0
 AreFields [] text = text ≡ []
-AreFields (f ∷ fs) text = (own later : List ℕ) × (text ≡ own ++ later) × FieldText f own × AreFields fs later
+AreFields (f ∷ fs) text = (own later : List ℕ) × (text ≡ own ++ later) × FieldText f own
+    × AreFields fs later
 
 -- ---- what the fields come to
 
@@ -111,7 +114,15 @@ deleted_of (Deleted x) = Some (record { level = x.0; number = x.1 })
 deleted_of _ = None
 
 abbrev pub added_of : Field → Option AddedFile
-added_of (Added x) = Some (record { level = x.0; file = record { number = x.1.0; size = x.1.1.0; smallest = x.1.1.1.0; largest = x.1.1.1.1 } })
+added_of (Added x) = Some (record {
+  level = x.0;
+  file = record {
+    number = x.1.0;
+    size = x.1.1.0;
+    smallest = x.1.1.1.0;
+    largest = x.1.1.1.1;
+  };
+})
 added_of _ = None
 
 -- all values of a kind, in order

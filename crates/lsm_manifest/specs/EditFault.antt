@@ -1,7 +1,9 @@
 -- The numbers and names of an edit's refusals in docs/FORMATS.md (this project's rule).
 use Rattle.std.specs.Prelude.{ℕ, List, codes}
 use Rattle.lsm_manifest.specs.declared.edit_fault.EditFault.{EditFault}
-use Rattle.lsm_manifest.specs.declared.edit_fault.EditFault.TheVariants.{OutOfMemory, UnknownTag, BadLevel, EditCut, BadEditKey}
+use Rattle.lsm_manifest.specs.declared.edit_fault.EditFault.TheVariants.{OutOfMemory, UnknownTag}
+use Rattle.lsm_manifest.specs.declared.edit_fault.EditFault.TheVariants.{BadLevel, EditCut}
+use Rattle.lsm_manifest.specs.declared.edit_fault.EditFault.TheVariants.{BadEditKey}
 
 abbrev pub number_of : EditFault → ℕ
 number_of OutOfMemory = 1

@@ -1,19 +1,23 @@
 -- Reading an edit from left to right, with the first fault (this project's rule).
-use Rattle.std.specs.Prelude.{ℕ, zero, suc, nat_le, ◌==◌, if◌then◌else◌, List, [], ◌∷◌, length, take, drop, Result, Ok, Err}
+use Rattle.std.specs.Prelude.{ℕ, zero, suc, nat_le, ◌==◌, if◌then◌else◌, List, [], ◌∷◌, length}
+use Rattle.std.specs.Prelude.{take, drop, Result, Ok, Err}
 use Rattle.lsm_codec.specs.declared.fault.CodecFault.{CodecFault}
 use Rattle.lsm_codec.specs.Keys.{is_internal}
 use Rattle.lsm_codec.specs.Varint.{varint32_at, varint64_at}
 use Rattle.lsm_manifest.specs.declared.edit_fault.EditFault.{EditFault}
-use Rattle.lsm_manifest.specs.declared.edit_fault.EditFault.TheVariants.{UnknownTag, BadLevel, EditCut, BadEditKey}
+use Rattle.lsm_manifest.specs.declared.edit_fault.EditFault.TheVariants.{UnknownTag, BadLevel}
+use Rattle.lsm_manifest.specs.declared.edit_fault.EditFault.TheVariants.{EditCut, BadEditKey}
 use Rattle.lsm_manifest.specs.declared.edit.Edit.{Edit}
-use Rattle.lsm_manifest.specs.Edit.{Field, Comparator, Log, Prev, Next, Last, Pointer, Deleted, Added, edit_of}
+use Rattle.lsm_manifest.specs.Edit.{Field, Comparator, Log, Prev, Next, Last, Pointer, Deleted}
+use Rattle.lsm_manifest.specs.Edit.{Added, edit_of}
 
 -- what is at the front, and what follows it
 abbrev pub Read : Type 0 → Type 0
 Read A = Result (A × List ℕ) EditFault
 
 infixl 10 ◌>>=◌
-abbrev pub ◌>>=◌ : {A B : Type 0} → Result A EditFault → (A → Result B EditFault) → Result B EditFault
+abbrev pub ◌>>=◌ : {A B : Type 0} → Result A EditFault → (A → Result B EditFault)
+    → Result B EditFault
 (Ok x) >>= f = f x
 (Err e) >>= f = Err e
 
@@ -31,7 +35,8 @@ unfoldable pub level_at : List ℕ → Read ℕ
 level_at text = short_number_at text >>= λ x. if nat_le x.0 6 then Ok x else Err (BadLevel x.0)
 
 unfoldable pub bytes_at : List ℕ → Read (List ℕ)
-bytes_at text = short_number_at text >>= λ x. if nat_le x.0 (length x.1) then Ok (take x.0 x.1, drop x.0 x.1) else Err EditCut
+bytes_at text = short_number_at text >>= λ x. if nat_le x.0 (length x.1)
+    then Ok (take x.0 x.1, drop x.0 x.1) else Err EditCut
 
 unfoldable pub key_at : List ℕ → Read (List ℕ)
 key_at text = bytes_at text >>= λ x. if is_internal x.0 then Ok x else Err BadEditKey
@@ -80,7 +85,8 @@ field_at text = short_number_at text >>= λ x. body_at x.0 x.1
 unfoldable pub fields_at : ℕ → List ℕ → Result (List Field) EditFault
 fields_at zero text = Ok []
 fields_at (suc count) [] = Ok []
-fields_at (suc count) (b ∷ bs) = field_at (b ∷ bs) >>= λ x. fields_at count x.1 >>= λ fs. Ok (x.0 ∷ fs)
+fields_at (suc count) (b ∷ bs) =
+    field_at (b ∷ bs) >>= λ x. fields_at count x.1 >>= λ fs. Ok (x.0 ∷ fs)
 
 -- the edit that the fields come to, or the first fault
 abbrev pub with_edit : Result (List Field) EditFault → Result Edit EditFault

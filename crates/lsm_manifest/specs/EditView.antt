@@ -2,11 +2,14 @@
 use Rattle.std.specs.Prelude.{ℕ, Bool, true, false, List, Result}
 use Rattle.lsm_codec.specs.Gives as answer
 use Rattle.lsm_manifest.specs.declared.edit_fault.EditFault.{EditFault}
-use Rattle.lsm_manifest.specs.declared.edit_fault.EditFault.TheVariants.{OutOfMemory, UnknownTag, BadLevel, EditCut, BadEditKey}
+use Rattle.lsm_manifest.specs.declared.edit_fault.EditFault.TheVariants.{OutOfMemory, UnknownTag}
+use Rattle.lsm_manifest.specs.declared.edit_fault.EditFault.TheVariants.{BadLevel, EditCut}
+use Rattle.lsm_manifest.specs.declared.edit_fault.EditFault.TheVariants.{BadEditKey}
 use Rattle.lsm_manifest.specs.declared.parts.AddedFile.{AddedFile}
 use Rattle.lsm_manifest.specs.declared.field_reader.Field.{Field as Held}
 use Rattle.lsm_manifest.specs.declared.field_reader.Field.TheVariants as held
-use Rattle.lsm_manifest.specs.Edit.{Field, Comparator, Log, Prev, Next, Last, Pointer, Deleted, Added}
+use Rattle.lsm_manifest.specs.Edit.{Field, Comparator, Log, Prev, Next, Last, Pointer, Deleted}
+use Rattle.lsm_manifest.specs.Edit.{Added}
 
 abbrev pub is_memory : EditFault → Bool
 is_memory OutOfMemory = true

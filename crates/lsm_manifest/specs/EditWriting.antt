@@ -1,6 +1,7 @@
 -- The bytes that are written for an edit: its fields in the order in which LevelDB's
 -- `db/version_edit.cc` writes them.
-use Rattle.std.specs.Prelude.{◌≡◌, ℕ, ◌^◌, ◌<◌, ◌≤◌, List, [], ◌∷◌, ◌++◌, length, map, Option, Some, None}
+use Rattle.std.specs.Prelude.{◌≡◌, ℕ, ◌^◌, ◌<◌, ◌≤◌, List, [], ◌∷◌, ◌++◌, length, map, Option, Some}
+use Rattle.std.specs.Prelude.{None}
 use Rattle.std.specs.Ordering.{nat_cmp}
 use Rattle.std.specs.declared.cmp.Ordering.{Ordering}
 use Rattle.std.specs.List.Sorted.{IsSorted}
@@ -10,7 +11,8 @@ use Rattle.lsm_manifest.specs.declared.parts.CompactPointer.{CompactPointer}
 use Rattle.lsm_manifest.specs.declared.parts.DeletedFile.{DeletedFile}
 use Rattle.lsm_manifest.specs.declared.parts.AddedFile.{AddedFile}
 use Rattle.lsm_manifest.specs.declared.edit.Edit.{Edit}
-use Rattle.lsm_manifest.specs.Edit.{Field, Comparator, Log, Prev, Next, Last, Pointer, Deleted, Added, AreFields, tag_of}
+use Rattle.lsm_manifest.specs.Edit.{Field, Comparator, Log, Prev, Next, Last, Pointer, Deleted}
+use Rattle.lsm_manifest.specs.Edit.{Added, AreFields, tag_of}
 use Rattle.lsm_manifest.specs.EditFit.{FitsKey}
 use Rattle.lsm_manifest.specs.EditView.{added_parts}
 
@@ -25,7 +27,8 @@ body_text (Next x) = varint64 x
 body_text (Last x) = varint64 x
 body_text (Pointer x) = varint32 x.0 ++ bytes_text x.1
 body_text (Deleted x) = varint32 x.0 ++ varint64 x.1
-body_text (Added x) = varint32 x.0 ++ (varint64 x.1.0 ++ (varint64 x.1.1.0 ++ (bytes_text x.1.1.1.0 ++ bytes_text x.1.1.1.1)))
+body_text (Added x) = varint32 x.0
+    ++ (varint64 x.1.0 ++ (varint64 x.1.1.0 ++ (bytes_text x.1.1.1.0 ++ bytes_text x.1.1.1.1)))
 
 unfoldable pub field_text : Field → List ℕ
 field_text f = varint32 (tag_of f) ++ body_text f
@@ -73,8 +76,11 @@ added_field a = Added (added_parts a)
 -- the fields of an edit, in the order of the format's table
 abbrev pub fields_in : Edit → List Field
 fields_in e =
-    optional Comparator e.comparator ++ (optional Log e.log ++ (optional Prev e.prev_log ++ (optional Next e.next ++ (optional Last e.last
-    ++ (map pointer_field e.pointers ++ (map deleted_field e.deleted ++ map added_field e.added))))))
+    optional Comparator e.comparator
+    ++ (optional Log e.log ++ (optional Prev e.prev_log
+    ++ (optional Next e.next ++ (optional Last e.last
+    ++ (map pointer_field e.pointers
+    ++ (map deleted_field e.deleted ++ map added_field e.added))))))
 
 unfoldable pub edit_text : Edit → List ℕ
 edit_text e = fields_text (fields_in e)

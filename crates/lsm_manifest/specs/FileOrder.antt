@@ -11,7 +11,8 @@ use Rattle.lsm_manifest.specs.declared.file_meta.FileMeta.{FileMeta}
 abbrev pub place_cmp : List ℕ → ℕ → List ℕ → ℕ → Ordering
 place_cmp smallest number other_smallest other_number =
     ordering_then (slice_cmp nat_cmp (user_part smallest) (user_part other_smallest))
-    (ordering_then (nat_cmp (packed_part other_smallest) (packed_part smallest)) (nat_cmp number other_number))
+    (ordering_then (nat_cmp (packed_part other_smallest) (packed_part smallest))
+    (nat_cmp number other_number))
 
 abbrev pub file_cmp : FileMeta → FileMeta → Ordering
 file_cmp f g = place_cmp f.smallest f.number g.smallest g.number

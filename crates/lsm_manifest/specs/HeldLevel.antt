@@ -10,5 +10,6 @@ use Rattle.lsm_manifest.specs.Replay.{Stands}
 -- The list has just the files that stand at this level, each once, by smallest internal key, then
 -- number.
 pub record HoldsLevel (edits : List Edit) (level : ℕ) (held : List FileMeta) : Type 0 where
-  pub files : (file : FileMeta) → Has held file ↔ Stands edits (record { level = level; file = file })
+  pub files : (file : FileMeta) → Has held file
+      ↔ Stands edits (record { level = level; file = file })
   pub ordered : IsStrictlySortedBy file_cmp held

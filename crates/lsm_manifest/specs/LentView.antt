@@ -1,7 +1,8 @@
 -- A field that is lent, without where it lies in memory.
 use Rattle.lsm_manifest.specs.declared.field_writer.LentField.{LentField}
 use Rattle.lsm_manifest.specs.declared.field_writer.LentField.TheVariants as lent
-use Rattle.lsm_manifest.specs.Edit.{Field, Comparator, Log, Prev, Next, Last, Pointer, Deleted, Added}
+use Rattle.lsm_manifest.specs.Edit.{Field, Comparator, Log, Prev, Next, Last, Pointer, Deleted}
+use Rattle.lsm_manifest.specs.Edit.{Added}
 use Rattle.lsm_manifest.specs.EditView.{added_parts}
 
 abbrev pub lent_field : LentField → Field

@@ -1,7 +1,8 @@
 -- The numbers and names of a log's refusals in docs/FORMATS.md (this project's rule).
 use Rattle.std.specs.Prelude.{ℕ, List, codes}
 use Rattle.lsm_manifest.specs.declared.log_fault.LogFault.{LogFault}
-use Rattle.lsm_manifest.specs.declared.log_fault.LogFault.TheVariants.{OutOfMemory, LogChecksum, LogOrder, LogType}
+use Rattle.lsm_manifest.specs.declared.log_fault.LogFault.TheVariants.{OutOfMemory, LogChecksum}
+use Rattle.lsm_manifest.specs.declared.log_fault.LogFault.TheVariants.{LogOrder, LogType}
 
 abbrev pub number_of : LogFault → ℕ
 number_of OutOfMemory = 1

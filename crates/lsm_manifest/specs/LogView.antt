@@ -2,7 +2,8 @@
 use Rattle.std.specs.Prelude.{ℕ, Bool, true, false, List, [], Some, None, Result}
 use Rattle.lsm_codec.specs.Gives as answer
 use Rattle.lsm_manifest.specs.declared.log_fault.LogFault.{LogFault}
-use Rattle.lsm_manifest.specs.declared.log_fault.LogFault.TheVariants.{OutOfMemory, LogChecksum, LogOrder, LogType}
+use Rattle.lsm_manifest.specs.declared.log_fault.LogFault.TheVariants.{OutOfMemory, LogChecksum}
+use Rattle.lsm_manifest.specs.declared.log_fault.LogFault.TheVariants.{LogOrder, LogType}
 use Rattle.lsm_manifest.specs.declared.fragment.FragmentType.{FragmentType}
 use Rattle.lsm_manifest.specs.declared.fragment.FragmentType.TheVariants.{Full, First, Middle, Last}
 use Rattle.lsm_manifest.specs.declared.log_part.LogPart.{LogPart as Held}

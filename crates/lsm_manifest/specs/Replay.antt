@@ -1,6 +1,7 @@
 -- What a row of edits comes to (LevelDB's `doc/impl.md`, `db/version_set.cc`): the files that some
 -- edit adds and no later edit deletes, with the last value of each number field and pointer.
-use Rattle.std.specs.Prelude.{◌≡◌, ℕ, ◌⊎◌, List, [], ◌∷◌, ◌++◌, Option, Some, None, IsSomeAnd, codes, ◌==◌, if◌then◌else◌}
+use Rattle.std.specs.Prelude.{◌≡◌, ℕ, ◌⊎◌, List, [], ◌∷◌, ◌++◌, Option, Some, None, IsSomeAnd}
+use Rattle.std.specs.Prelude.{codes, ◌==◌, if◌then◌else◌}
 use Rattle.lsm_codec.specs.Lists.{Has}
 use Rattle.lsm_manifest.specs.Last.{last_by}
 use Rattle.lsm_manifest.specs.declared.parts.CompactPointer.{CompactPointer}
@@ -8,7 +9,12 @@ use Rattle.lsm_manifest.specs.declared.parts.DeletedFile.{DeletedFile}
 use Rattle.lsm_manifest.specs.declared.parts.AddedFile.{AddedFile}
 use Rattle.lsm_manifest.specs.declared.edit.Edit.{Edit}
 use Rattle.lsm_manifest.specs.declared.replay_fault.ReplayFault.{ReplayFault}
-use Rattle.lsm_manifest.specs.declared.replay_fault.ReplayFault.TheVariants.{OutOfMemory, NoNextFile, NoLogNumber, NoLastSequence, OtherComparator, DoubleFile}
+use Rattle.lsm_manifest.specs.declared.replay_fault.ReplayFault.TheVariants.{OutOfMemory}
+use Rattle.lsm_manifest.specs.declared.replay_fault.ReplayFault.TheVariants.{NoNextFile}
+use Rattle.lsm_manifest.specs.declared.replay_fault.ReplayFault.TheVariants.{NoLogNumber}
+use Rattle.lsm_manifest.specs.declared.replay_fault.ReplayFault.TheVariants.{NoLastSequence}
+use Rattle.lsm_manifest.specs.declared.replay_fault.ReplayFault.TheVariants.{OtherComparator}
+use Rattle.lsm_manifest.specs.declared.replay_fault.ReplayFault.TheVariants.{DoubleFile}
 
 -- a deletion, under a name that no type of src/ has
 abbrev pub Deletion : Type 0
@@ -45,19 +51,23 @@ IsTaken es ds xs number = (b : AddedFile) × (b.file.number ≡ number) × Stand
 
 -- Each addition has a number that is not taken when it comes.
 abbrev pub AreNew : List Edit → List DeletedFile → List AddedFile → Type 0
-AreNew es ds xs = (front : List AddedFile) (one : AddedFile) (back : List AddedFile) → xs ≡ front ++ one ∷ back → IsTaken es ds front one.file.number → ⊥
+AreNew es ds xs = (front : List AddedFile) (one : AddedFile) (back : List AddedFile)
+    → xs ≡ front ++ one ∷ back → IsTaken es ds front one.file.number → ⊥
 
 -- Each of these files has a number that no later one has.
 abbrev pub AreApart : List AddedFile → Type 0
 AreApart [] = Unit {0}
-AreApart (a ∷ later) = ((b : AddedFile) → Has later b → a.file.number ≡ b.file.number → ⊥) × AreApart later
+AreApart (a ∷ later) = ((b : AddedFile) → Has later b → a.file.number ≡ b.file.number → ⊥)
+    × AreApart later
 
 -- No file that stands after the edits and these deletions has the number of one of these files.
 abbrev pub AreFresh : List Edit → List DeletedFile → List AddedFile → Type 0
-AreFresh es ds xs = (a b : AddedFile) → Stands es a → (Has ds (deletion_of a) → ⊥) → Has xs b → a.file.number ≡ b.file.number → ⊥
+AreFresh es ds xs = (a b : AddedFile) → Stands es a → (Has ds (deletion_of a) → ⊥) → Has xs b
+    → a.file.number ≡ b.file.number → ⊥
 
 -- The first addition whose number is taken when it comes has this number.
-pub record AddsTaken (es : List Edit) (ds : List DeletedFile) (xs : List AddedFile) (number : ℕ) : Type 0 where
+pub record AddsTaken (es : List Edit) (ds : List DeletedFile) (xs : List AddedFile) (number : ℕ)
+    : Type 0 where
   pub front : List AddedFile
   pub one : AddedFile
   pub back : List AddedFile
@@ -94,7 +104,8 @@ HasFault es e (DoubleFile number) = (NamesOther e → ⊥) × AddsTaken es e.del
 
 -- No edit of these has a fault.
 abbrev pub AreInnocent : List Edit → Type 0
-AreInnocent edits = (earlier : List Edit) (e : Edit) (later : List Edit) → edits ≡ earlier ++ e ∷ later → IsInnocent earlier e
+AreInnocent edits = (earlier : List Edit) (e : Edit) (later : List Edit)
+    → edits ≡ earlier ++ e ∷ later → IsInnocent earlier e
 
 -- The first edit that has a fault has this one.
 pub record IsFirstFault (edits : List Edit) (fault : ReplayFault) : Type 0 where

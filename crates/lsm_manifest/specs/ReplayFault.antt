@@ -1,7 +1,12 @@
 -- The numbers and names of a replay's refusals in docs/FORMATS.md (this project's rule).
 use Rattle.std.specs.Prelude.{ℕ, List, codes}
 use Rattle.lsm_manifest.specs.declared.replay_fault.ReplayFault.{ReplayFault}
-use Rattle.lsm_manifest.specs.declared.replay_fault.ReplayFault.TheVariants.{OutOfMemory, NoNextFile, NoLogNumber, NoLastSequence, OtherComparator, DoubleFile}
+use Rattle.lsm_manifest.specs.declared.replay_fault.ReplayFault.TheVariants.{OutOfMemory}
+use Rattle.lsm_manifest.specs.declared.replay_fault.ReplayFault.TheVariants.{NoNextFile}
+use Rattle.lsm_manifest.specs.declared.replay_fault.ReplayFault.TheVariants.{NoLogNumber}
+use Rattle.lsm_manifest.specs.declared.replay_fault.ReplayFault.TheVariants.{NoLastSequence}
+use Rattle.lsm_manifest.specs.declared.replay_fault.ReplayFault.TheVariants.{OtherComparator}
+use Rattle.lsm_manifest.specs.declared.replay_fault.ReplayFault.TheVariants.{DoubleFile}
 
 abbrev pub number_of : ReplayFault → ℕ
 number_of OutOfMemory = 1

@@ -1,6 +1,7 @@
 -- The one edit that spells a shape (as LevelDB's `VersionSet::WriteSnapshot` begins a new manifest;
 -- that the numbers stand in the same edit is this project's rule).
-use Rattle.std.specs.Prelude.{ℕ, suc, ◌≤◌, List, [], ◌∷◌, ◌++◌, map, Option, Some, None, IfSome, get_or, codes}
+use Rattle.std.specs.Prelude.{ℕ, suc, ◌≤◌, List, [], ◌∷◌, ◌++◌, map, Option, Some, None, IfSome}
+use Rattle.std.specs.Prelude.{get_or, codes}
 use Rattle.lsm_codec.specs.Lists.{Has}
 use Rattle.lsm_manifest.specs.declared.file_meta.FileMeta.{FileMeta}
 use Rattle.lsm_manifest.specs.declared.parts.CompactPointer.{CompactPointer}
@@ -13,7 +14,8 @@ use Rattle.lsm_manifest.specs.EditFit.{FitsKey}
 abbrev pub pointers_from : ℕ → List (Option (List ℕ)) → List CompactPointer
 pointers_from level [] = []
 pointers_from level (None ∷ later) = pointers_from (suc level) later
-pointers_from level (Some key ∷ later) = record { level = level; key = key } ∷ pointers_from (suc level) later
+pointers_from level (Some key ∷ later) =
+    record { level = level; key = key } ∷ pointers_from (suc level) later
 
 abbrev pub placed_at : ℕ → FileMeta → AddedFile
 placed_at level file = record { level = level; file = file }
@@ -37,5 +39,6 @@ whole_edit s = record {
 
 -- Each key of a file or of a pointer is an internal key whose length fits 32 bits.
 pub record FitsShape (s : Shape) : Type 0 where
-  pub files : (level : ℕ) (file : FileMeta) → level ≤ 6 → Has (get_or s.levels level []) file → FitsKey file.smallest × FitsKey file.largest
+  pub files : (level : ℕ) (file : FileMeta) → level ≤ 6 → Has (get_or s.levels level []) file
+      → FitsKey file.smallest × FitsKey file.largest
   pub pointers : (level : ℕ) → level ≤ 6 → IfSome (get_or s.pointers level None) FitsKey

@@ -16,7 +16,9 @@ use Rattle.lsm_shelf.specs.declared.shelf_fault.ShelfFault.TheVariants as shelf
 use Rattle.lsm_merge.specs.declared.merge_fault.InputFault.TheVariants.{Read, OutOfOrder}
 use Rattle.lsm_merge.specs.declared.merge_fault.OutputFault.TheVariants.{TooLarge, Shelf}
 use Rattle.lsm_merge.specs.declared.merge_fault.MergeFault.{MergeFault}
-use Rattle.lsm_merge.specs.declared.merge_fault.MergeFault.TheVariants.{OutOfMemory, ReadFailed, PutFailed, UnknownTicket, NumbersSpent}
+use Rattle.lsm_merge.specs.declared.merge_fault.MergeFault.TheVariants.{OutOfMemory, ReadFailed}
+use Rattle.lsm_merge.specs.declared.merge_fault.MergeFault.TheVariants.{PutFailed, UnknownTicket}
+use Rattle.lsm_merge.specs.declared.merge_fault.MergeFault.TheVariants.{NumbersSpent}
 use Rattle.lsm_merge.specs.Outputs.{going}
 
 -- The shelf refused, and not for want of memory.
@@ -30,24 +32,29 @@ IsUnread (read.Shelf fault) = IsRefused fault
 IsUnread (read.Table table.OutOfMemory) = ⊥
 IsUnread (read.Table fault) = Unit {0}
 
--- Want of memory is told as such, and stands behind no other refusal. A refusal of the shelf comes only with a count that rose; an input at fault is one of these.
+-- Want of memory is told as such, and stands behind no other refusal. A refusal of the shelf comes
+-- only with a count that rose; an input at fault is one of these.
 abbrev pub HasCause : List ℕ → MergeFault → Told → Told → Type 0
 HasCause inputs OutOfMemory old new = Unit {0}
-HasCause inputs (ReadFailed number (Read fault)) old new = Has inputs number × (ReadCounted fault old new × IsUnread fault)
+HasCause inputs (ReadFailed number (Read fault)) old new =
+    Has inputs number × (ReadCounted fault old new × IsUnread fault)
 HasCause inputs (ReadFailed number OutOfOrder) old new = Has inputs number
 HasCause inputs (PutFailed number TooLarge) old new = Unit {0}
-HasCause inputs (PutFailed number (Shelf fault)) old new = TakenIs number fault × (Counted fault old new × IsRefused fault)
+HasCause inputs (PutFailed number (Shelf fault)) old new =
+    TakenIs number fault × (Counted fault old new × IsRefused fault)
 HasCause inputs (UnknownTicket ticket) old new = Unit {0}
 HasCause inputs NumbersSpent old new = Unit {0}
 
--- Which call the shelf refused: to give bytes of the input that could not be read; or to put, under the number of the output that
--- could not be put, what the builder makes of some entries with these sizes.
+-- Which call the shelf refused: to give bytes of the input that could not be read; or to put, under
+-- the number of the output that could not be put, what the builder makes of some entries with these
+-- sizes.
 abbrev pub NamesRefused : (Asked → ShelfFault → Type 0) → TableOptions → MergeFault → Type 0
 NamesRefused Refuses options OutOfMemory = Unit {0}
 NamesRefused Refuses options (ReadFailed number (Read fault)) = IsReadRefusal Refuses number fault
 NamesRefused Refuses options (ReadFailed number OutOfOrder) = Unit {0}
 NamesRefused Refuses options (PutFailed number TooLarge) = Unit {0}
-NamesRefused Refuses options (PutFailed number (Shelf fault)) = (es : List Entry) × Refuses (Put number (table_bytes options es)) fault
+NamesRefused Refuses options (PutFailed number (Shelf fault)) =
+    (es : List Entry) × Refuses (Put number (table_bytes options es)) fault
 NamesRefused Refuses options (UnknownTicket ticket) = Unit {0}
 NamesRefused Refuses options NumbersSpent = Unit {0}
 
@@ -62,9 +69,11 @@ IsUnasked NumbersSpent = Unit {0}
 
 -- just these were drawn after those that were there, and perhaps one more
 abbrev pub DrewMore : List ℕ → List ℕ → List ℕ → Type 0
-DrewMore put drew there = (drew ≡ going put there) ⊎ ((number : ℕ) × (drew ≡ number ∷ going put there))
+DrewMore put drew there = (drew ≡ going put there)
+    ⊎ ((number : ℕ) × (drew ≡ number ∷ going put there))
 
--- What was drawn: the numbers put, and perhaps one more; where an output could not be put, that is its number.
+-- What was drawn: the numbers put, and perhaps one more; where an output could not be put, that is
+-- its number.
 abbrev pub Leaves : MergeFault → List ℕ → List ℕ → List ℕ → Type 0
 Leaves OutOfMemory put drew there = DrewMore put drew there
 Leaves (ReadFailed number fault) put drew there = DrewMore put drew there

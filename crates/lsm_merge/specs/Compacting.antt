@@ -10,7 +10,14 @@ use Rattle.lsm_merge.specs.Work.{Work, contents_of, finished, job_of}
 
 -- nothing was made yet of a job
 abbrev pub nothing_of : Work → Made
-nothing_of w = record { ticket = w.ticket; options = w.table; target = w.target_size; tables = []; put = []; last = None }
+nothing_of w = record {
+  ticket = w.ticket;
+  options = w.table;
+  target = w.target_size;
+  tables = [];
+  put = [];
+  last = None;
+}
 
 -- The tables hold the kept entries of the job's inputs, merged and cut.
 pub record AreMergedOf (w : Work) (tables : List Table) : Type 0 where

@@ -1,5 +1,6 @@
 -- A merge under way: what it drops, by the entry before, and what it has made.
-use Rattle.std.specs.Prelude.{◌≡◌, ℕ, ◌&&◌, Bool, true, not, cond, List, [], ◌∷◌, ◌++◌, Option, Some, None}
+use Rattle.std.specs.Prelude.{◌≡◌, ℕ, ◌&&◌, Bool, true, not, cond, List, [], ◌∷◌, ◌++◌, Option}
+use Rattle.std.specs.Prelude.{Some, None}
 use Rattle.std.specs.Ordering.{is_lt, is_le}
 use Rattle.lsm_codec.specs.Lists.{Has}
 use Rattle.lsm_codec.specs.Keys.{InternalKey, UserKey, key_cmp}
@@ -62,6 +63,7 @@ abbrev pub closed : Making → List (List Entry)
 closed m = cond (is_empty m.output) m.outputs (m.outputs ++ m.output ∷ [])
 
 -- What a merge of entries makes: they ascend, and the kept ones are cut.
-pub record IsMerged (floor : ℕ) (ranges : List (UserKey × UserKey)) (size : List Entry → ℕ) (target : ℕ) (merged : List Entry) (outputs : List (List Entry)) : Type 0 where
+pub record IsMerged (floor : ℕ) (ranges : List (UserKey × UserKey)) (size : List Entry
+    → ℕ) (target : ℕ) (merged : List Entry) (outputs : List (List Entry)) : Type 0 where
   pub ascending : IsAscending merged
   pub cuts : IsCutBy size target (kept_entries merged floor ranges) outputs

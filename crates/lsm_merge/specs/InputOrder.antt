@@ -1,4 +1,5 @@
--- Whether the inputs of a job can stand in one order: those of a level from 1 on follow one another, and no internal key is there twice.
+-- Whether the inputs of a job can stand in one order: those of a level from 1 on follow one
+-- another, and no internal key is there twice.
 use Rattle.std.specs.Prelude.{◌≡◌, suc, ◌≤◌, ◌⊎◌, List, [], ◌∷◌}
 use Rattle.lsm_codec.specs.Lists.{Has}
 use Rattle.lsm_codec.specs.Entries.{Entry, stamp}

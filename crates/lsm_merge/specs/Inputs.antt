@@ -1,4 +1,5 @@
--- The inputs of a job, as the merge reads them: at level 0 each table by itself, else those of a level one after another.
+-- The inputs of a job, as the merge reads them: at level 0 each table by itself, else those of a
+-- level one after another.
 use Rattle.std.specs.Prelude.{◌≡◌, ℕ, List, ◌++◌, map, cond, Option, Some}
 use Rattle.std.specs.List.{flat_map}
 use Rattle.lsm_codec.specs.Lists.{Has}
@@ -9,7 +10,9 @@ use Rattle.lsm_model.specs.Merging.{Placed, entries_of}
 use Rattle.lsm_iterators.specs.Runs.{Left, entries_of_all}
 use Rattle.lsm_merge.specs.declared.merge_fault.InputFault.TheVariants.{Read, OutOfOrder}
 use Rattle.lsm_merge.specs.declared.merge_fault.MergeFault.{MergeFault}
-use Rattle.lsm_merge.specs.declared.merge_fault.MergeFault.TheVariants.{OutOfMemory, ReadFailed, PutFailed, UnknownTicket, NumbersSpent}
+use Rattle.lsm_merge.specs.declared.merge_fault.MergeFault.TheVariants.{OutOfMemory, ReadFailed}
+use Rattle.lsm_merge.specs.declared.merge_fault.MergeFault.TheVariants.{PutFailed, UnknownTicket}
+use Rattle.lsm_merge.specs.declared.merge_fault.MergeFault.TheVariants.{NumbersSpent}
 use Rattle.lsm_merge.specs.Dropping.{Follows, placed, is_kept}
 use Rattle.lsm_merge.specs.Outputs.{Goes, Made, making_of}
 use Rattle.lsm_merge.specs.Work.{Work, finished}
@@ -65,10 +68,12 @@ IsOrderFault (PutFailed number fault) = ⊥
 IsOrderFault (UnknownTicket ticket) = ⊥
 IsOrderFault NumbersSpent = ⊥
 
--- A step of the merge: the entry at hand stands after the one before; it is dropped or placed, and remembered; over an honest shelf
--- the rest is left.
-pub record Stepped (Honest : Type 0) (w : Work) (p : Placed) (rest : List Placed) (before before' : Option Entry) (m m' : Made) (left' : Left) : Type 0 where
+-- A step of the merge: the entry at hand stands after the one before; it is dropped or placed, and
+-- remembered; over an honest shelf the rest is left.
+pub record Stepped (Honest : Type 0) (w : Work) (p : Placed) (rest : List Placed)
+    (before before' : Option Entry) (m m' : Made) (left' : Left) : Type 0 where
   pub follows : Follows before p.1
-  pub goes : Goes m m' (cond (is_kept w.floor w.ranges before p.1) (placed (finished m.options) m.target (making_of m) p.1) (making_of m))
+  pub goes : Goes m m' (cond (is_kept w.floor w.ranges before p.1)
+      (placed (finished m.options) m.target (making_of m) p.1) (making_of m))
   pub before_is : before' ≡ Some (bare p.1)
   pub left : Honest → left'.placed ≡ rest

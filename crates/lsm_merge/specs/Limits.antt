@@ -8,13 +8,16 @@ use Rattle.lsm_table.specs.declared.table_options.TableOptions.{TableOptions}
 use Rattle.lsm_merge.specs.declared.merge_fault.InputFault.TheVariants.{Read, OutOfOrder}
 use Rattle.lsm_merge.specs.declared.merge_fault.OutputFault.TheVariants.{TooLarge, Shelf}
 use Rattle.lsm_merge.specs.declared.merge_fault.MergeFault.{MergeFault}
-use Rattle.lsm_merge.specs.declared.merge_fault.MergeFault.TheVariants.{OutOfMemory, ReadFailed, PutFailed, UnknownTicket, NumbersSpent}
+use Rattle.lsm_merge.specs.declared.merge_fault.MergeFault.TheVariants.{OutOfMemory, ReadFailed}
+use Rattle.lsm_merge.specs.declared.merge_fault.MergeFault.TheVariants.{PutFailed, UnknownTicket}
+use Rattle.lsm_merge.specs.declared.merge_fault.MergeFault.TheVariants.{NumbersSpent}
 
--- No table has these entries: with the last one a data block passes the limit, or the index block does, or the table's index block does
--- in the end.
+-- No table has these entries: with the last one a data block passes the limit, or the index block
+-- does, or the table's index block does in the end.
 abbrev pub HasNoTable : TableOptions → List Entry → Type 0
 HasNoTable options es =
-    ((front : List Entry) × (last : Entry) × (es ≡ front ++ last ∷ []) × PassesLimit options front last)
+    ((front : List Entry) × (last : Entry) × (es ≡ front ++ last ∷ [])
+    × PassesLimit options front last)
     ⊎ (2 ^ 32 ≤ length (index_block options.restart_interval (groups_by options es)))
 
 -- Of some of the entries, in order, there is no table.

@@ -1,4 +1,5 @@
--- The refusals of a merge: their numbers and names, and what stands behind them (this project's rule).
+-- The refusals of a merge: their numbers and names, and what stands behind them (this project's
+-- rule).
 use Rattle.std.specs.Prelude.{ℕ, List, codes}
 use Rattle.lsm_block.specs.declared.build_fault.BuildFault.{BuildFault}
 use Rattle.lsm_block.specs.declared.build_fault.BuildFault.TheVariants as build
@@ -16,7 +17,9 @@ use Rattle.lsm_merge.specs.declared.merge_fault.InputFault.TheVariants.{Read, Ou
 use Rattle.lsm_merge.specs.declared.merge_fault.OutputFault.{OutputFault}
 use Rattle.lsm_merge.specs.declared.merge_fault.OutputFault.TheVariants.{TooLarge, Shelf}
 use Rattle.lsm_merge.specs.declared.merge_fault.MergeFault.{MergeFault}
-use Rattle.lsm_merge.specs.declared.merge_fault.MergeFault.TheVariants.{OutOfMemory, ReadFailed, PutFailed, UnknownTicket, NumbersSpent}
+use Rattle.lsm_merge.specs.declared.merge_fault.MergeFault.TheVariants.{OutOfMemory, ReadFailed}
+use Rattle.lsm_merge.specs.declared.merge_fault.MergeFault.TheVariants.{PutFailed, UnknownTicket}
+use Rattle.lsm_merge.specs.declared.merge_fault.MergeFault.TheVariants.{NumbersSpent}
 
 abbrev pub input_number : InputFault → ℕ
 input_number (Read fault) = read_numbers.number_of fault

@@ -1,7 +1,9 @@
 -- The refusals of a source of numbers: their numbers and names (this project's rule).
 use Rattle.std.specs.Prelude.{◌≡◌, ℕ, List, codes}
 use Rattle.lsm_merge.specs.declared.number_source.NumberFault.{NumberFault}
-use Rattle.lsm_merge.specs.declared.number_source.NumberFault.TheVariants.{OutOfMemory, UnknownTicket, NumbersSpent}
+use Rattle.lsm_merge.specs.declared.number_source.NumberFault.TheVariants.{OutOfMemory}
+use Rattle.lsm_merge.specs.declared.number_source.NumberFault.TheVariants.{UnknownTicket}
+use Rattle.lsm_merge.specs.declared.number_source.NumberFault.TheVariants.{NumbersSpent}
 
 abbrev pub number_of : NumberFault → ℕ
 number_of OutOfMemory = 1

@@ -65,7 +65,8 @@ pub record Goes (old new : Made) (making : Making) : Type 0 where
   pub is : making_of new ≡ making
 
 -- a table of the output's entries is put under its number, written with its sizes
-pub record IsPut (output : Unfinished) (tables tables' : List Table) (put put' : List ℕ) : Type 0 where
+pub record IsPut (output : Unfinished) (tables tables' : List Table) (put put' : List ℕ)
+    : Type 0 where
   pub table : Table
   pub whole : IsWhole table
   pub entries : entries_in table.image ≡ output.entries

@@ -16,16 +16,17 @@ use Rattle.lsm_merge.specs.Inputs.{entries_of_tables, numbers_of}
 use Rattle.lsm_merge.specs.Outputs.{Made, entries_of_last, putting_all}
 use Rattle.lsm_merge.specs.Work.{IsBuilt, Work, contents_of, finished, job_of, puts_of}
 
--- With some more behind them they hold the kept entries of the job's inputs, merged and cut: so they are the first of the tables that
--- its merge makes.
+-- With some more behind them they hold the kept entries of the job's inputs, merged and cut: so
+-- they are the first of the tables that its merge makes.
 pub record AreFirstOf (w : Work) (contents : List (List Entry)) : Type 0 where
   pub merged : List Entry
   pub merges : IsMerge merged (all_entries (job_of w).inputs)
   pub more : List (List Entry)
   pub is : IsMerged w.floor w.ranges (finished w.table) w.target_size merged (contents ++ more)
 
--- The shelf was told to put these tables one after another, under these numbers. Each has an entry, and is byte for byte what the
--- builder makes of its entries with the job's sizes. (Of one whose record found no memory the index tells nothing.)
+-- The shelf was told to put these tables one after another, under these numbers. Each has an entry,
+-- and is byte for byte what the builder makes of its entries with the job's sizes. (Of one whose
+-- record found no memory the index tells nothing.)
 pub record PutsBefore (Honest : Type 0) (w : Work) (numbers : List ℕ) (was is : Told) : Type 0 where
   pub tables : List Table
   pub numbers_are : numbers_of tables ≡ numbers
@@ -33,18 +34,24 @@ pub record PutsBefore (Honest : Type 0) (w : Work) (numbers : List ℕ) (was is 
   pub whole : (t : Table) → Has tables t → IsWhole t
   pub built : (t : Table) → Has tables t → IsBuilt w.table t
   -- over an honest shelf they hold entries of the inputs alone
-  pub from : Honest → (e : Entry) → Has (entries_of_tables tables) e → Has (all_entries (job_of w).inputs) e
-  -- and where the inputs stand in order and no two of their entries have one internal key, they are the first that the merge makes
-  pub first : Honest → StandInOrder w → (HasTwins (all_entries (job_of w).inputs) → ⊥) → (tables ≡ []) ⊎ AreFirstOf w (contents_of tables)
+  pub from : Honest → (e : Entry) → Has (entries_of_tables tables) e
+      → Has (all_entries (job_of w).inputs) e
+  -- and where the inputs stand in order and no two of their entries have one internal key, they are
+  -- the first that the merge makes
+  pub first : Honest → StandInOrder w → (HasTwins (all_entries (job_of w).inputs) → ⊥)
+      → (tables ≡ []) ⊎ AreFirstOf w (contents_of tables)
 
 -- ---- in a step
 
 -- nothing was put; or this image, under this number
 abbrev pub PutsPerhaps : ℕ → List ℕ → List ℕ → List ℕ → Told → Told → Type 0
-PutsPerhaps number image old new was is = ((new ≡ old) × Becomes was is) ⊎ ((new ≡ old ++ number ∷ []) × Becomes (putting number image was) is)
+PutsPerhaps number image old new was is =
+    ((new ≡ old) × Becomes was is)
+    ⊎ ((new ≡ old ++ number ∷ []) × Becomes (putting number image was) is)
 
 -- No table was put; or, when it was time for that, the one of these entries.
-pub record PutsOne (options : TableOptions) (es : List Entry) (Time : Type 0) (old new : List ℕ) (was is : Told) : Type 0 where
+pub record PutsOne (options : TableOptions) (es : List Entry) (Time : Type 0) (old new : List ℕ)
+    (was is : Told) : Type 0 where
   pub tables : List Table
   pub grown : new ≡ old ++ numbers_of tables
   pub told : Becomes (putting_all (puts_of tables) was) is

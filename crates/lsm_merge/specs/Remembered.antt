@@ -16,7 +16,8 @@ pub record Streaming : Type 0 where
 -- an entry by its key, if its user key is there
 abbrev pub entry_passed : Option UserKey → ℕ → Kind → Option Entry
 entry_passed None seq kind = None
-entry_passed (Some user) seq kind = Some (record { user = user; seq = seq; kind = kind; value = [] })
+entry_passed (Some user) seq kind =
+    Some (record { user = user; seq = seq; kind = kind; value = [] })
 
 -- how a user key, if there is one, stands to another one
 abbrev pub order_to : Option UserKey → UserKey → Option Ordering

@@ -18,8 +18,10 @@ pub record Listed : Type 0 where
 -- the range is that of the entries, which ascend
 pub record IsRangeOf (entries : List Entry) (range : Range) : Type 0 where
   pub ascending : IsAscending entries
-  pub first : (e : Entry) × (rest : List Entry) × (entries ≡ e ∷ rest) × (internal_key e ≡ range.smallest)
-  pub last : (front : List Entry) × (e : Entry) × (entries ≡ front ++ e ∷ []) × (internal_key e ≡ range.largest)
+  pub first : (e : Entry) × (rest : List Entry) × (entries ≡ e ∷ rest)
+      × (internal_key e ≡ range.smallest)
+  pub last : (front : List Entry) × (e : Entry) × (entries ≡ front ++ e ∷ [])
+      × (internal_key e ≡ range.largest)
 
 abbrev pub ranges_of : List Listed → List Range
 ranges_of [] = []
@@ -27,7 +29,13 @@ ranges_of (t ∷ ts) = t.range ∷ ranges_of ts
 
 -- a listed table as a file of a level
 abbrev pub file_at : ℕ → Listed → File
-file_at level t = record { level = level; number = t.number; low = t.range.smallest.user; high = t.range.largest.user; entries = t.entries }
+file_at level t = record {
+  level = level;
+  number = t.number;
+  low = t.range.smallest.user;
+  high = t.range.largest.user;
+  entries = t.entries;
+}
 
 abbrev pub files_at : ℕ → List Listed → List File
 files_at level [] = []
@@ -51,10 +59,14 @@ level_in (xs ∷ levels) (suc n) = level_in levels n
 -- What is judged of the tables of all levels: each by itself, those of a level from 1 on together,
 -- of which no two ranges meet in internal keys, and all entries, which stand in `placed` with the
 -- depths of their files.
-pub record IsJudged (levels : List (List Listed)) (depth : File → ℕ) (placed : List Placed) : Type 0 where
+pub record IsJudged (levels : List (List Listed)) (depth : File → ℕ) (placed : List Placed)
+    : Type 0 where
   pub ranges : (n : ℕ) (t : Listed) → Has (level_in levels n) t → IsRangeOf t.entries t.range
-  pub numbers : (F G : File) → Has (files_from 0 levels) F → Has (files_from 0 levels) G → F.number ≡ G.number → F ≡ G
+  pub numbers : (F G : File) → Has (files_from 0 levels) F → Has (files_from 0 levels) G
+      → F.number ≡ G.number → F ≡ G
   pub apart : (n : ℕ) → 1 ≤ n → EachPair (λ a b. MeetInKeys a b → ⊥) (ranges_of (level_in levels n))
-  pub depths : (F G : File) → Has (files_from 0 levels) F → Has (files_from 0 levels) G → Shallower F G → depth F < depth G
-  pub all : (F : File) (e : Entry) → Has (files_from 0 levels) F → Has F.entries e → Has placed (depth F, e)
+  pub depths : (F G : File) → Has (files_from 0 levels) F → Has (files_from 0 levels) G
+      → Shallower F G → depth F < depth G
+  pub all : (F : File) (e : Entry) → Has (files_from 0 levels) F → Has F.entries e
+      → Has placed (depth F, e)
   pub ages : IsAgeOrder placed

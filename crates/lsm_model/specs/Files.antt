@@ -64,5 +64,6 @@ pub record IsLawful (v : List File) : Type 0 where
   pub numbers : (F G : File) → Has v F → Has v G → F.number ≡ G.number → F ≡ G
   pub in_order : (F G : File) → Has v F → Has v G → F.level ≡ G.level → 1 ≤ F.level
       → (F.number ≡ G.number → ⊥) → InOrder F G
-  pub depth : (F G : File) (x y : Entry) → Has v F → Has v G → Shallower F G → Has F.entries x → Has G.entries y
+  pub depth : (F G : File) (x y : Entry) → Has v F → Has v G → Shallower F G → Has F.entries x
+      → Has G.entries y
       → x.user ≡ y.user → y.seq < x.seq

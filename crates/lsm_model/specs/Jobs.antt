@@ -40,12 +40,15 @@ pub record IsOpenIn (v : List File) (job : Job) : Type 0 where
   pub levels : (F : File) → Has job.inputs F → (F.level ≡ job.level) ⊎ (F.level ≡ suc job.level)
   pub hull : (F : File) → Has job.inputs F → UserLe job.low F.low × UserLe F.high job.high
   -- no other file of the output level meets the hull
-  pub alone : (F : File) → Has v F → F.level ≡ suc job.level → Meets F job.low job.high → Has job.inputs F
+  pub alone : (F : File) → Has v F → F.level ≡ suc job.level → Meets F job.low job.high
+      → Has job.inputs F
   -- what else the level above the output has of an input's key is newer
-  pub newer : (F G : File) (x y : Entry) → Has v F → F.level ≡ job.level → is_input job F ≡ false → Has job.inputs G
+  pub newer : (F G : File) (x y : Entry) → Has v F → F.level ≡ job.level → is_input job F ≡ false
+      → Has job.inputs G
       → Has F.entries x → Has G.entries y → x.user ≡ y.user → y.seq < x.seq
   -- what lies two or more levels below the job's has an input's key only where a range covers it
-  pub below : (F G : File) (x y : Entry) → Has v F → suc (suc job.level) ≤ F.level → Has job.inputs G
+  pub below : (F G : File) (x y : Entry) → Has v F → suc (suc job.level) ≤ F.level
+      → Has job.inputs G
       → Has F.entries x → Has G.entries y → x.user ≡ y.user → covers job.ranges y.user ≡ true
 
 -- reads go on from the job's floor

@@ -19,7 +19,8 @@ covers ranges k = list_any (λ r. user_le r.0 k && user_le k r.1) ranges
 
 -- an entry of the list with the user key of e stands before it, with a sequence at most the floor
 abbrev pub IsHidden : List Entry → ℕ → Entry → Type 0
-IsHidden es floor e = (x : Entry) × Has es x × (x.user ≡ e.user) × (stamp e < stamp x) × (x.seq ≤ floor)
+IsHidden es floor e = (x : Entry) × Has es x × (x.user ≡ e.user) × (stamp e < stamp x)
+    × (x.seq ≤ floor)
 
 -- e is a deletion with a sequence at most the floor, and its user key lies in no range
 pub record IsVoid (floor : ℕ) (ranges : List (UserKey × UserKey)) (e : Entry) : Type 0 where
@@ -29,7 +30,8 @@ pub record IsVoid (floor : ℕ) (ranges : List (UserKey × UserKey)) (e : Entry)
 
 -- the test of IsHidden
 abbrev pub is_hidden : List Entry → ℕ → Entry → Bool
-is_hidden es floor e = list_any (λ y. bytes_eq y.user e.user && (nat_lt (stamp e) (stamp y) && nat_le y.seq floor)) es
+is_hidden es floor e = list_any (λ y.
+    bytes_eq y.user e.user && (nat_lt (stamp e) (stamp y) && nat_le y.seq floor)) es
 
 -- the test of IsVoid
 abbrev pub is_void : ℕ → List (UserKey × UserKey) → Entry → Bool
@@ -37,4 +39,5 @@ is_void floor ranges e = is_deletion e.kind && (nat_le e.seq floor && not (cover
 
 -- the entries that are neither hidden nor void
 abbrev pub kept_entries : List Entry → ℕ → List (UserKey × UserKey) → List Entry
-kept_entries es floor ranges = filter (λ e. not (is_hidden es floor e) && not (is_void floor ranges e)) es
+kept_entries es floor ranges =
+    filter (λ e. not (is_hidden es floor e) && not (is_void floor ranges e)) es

@@ -19,15 +19,19 @@ pub record Books (s : Plain) : Type 0 where
   pub below_next : (F : File) → Has s.files F → F.number < s.next
   -- a drawn number is below the next, no file's, and drawn by one ticket
   pub drawn_below : (a : Live) (n : ℕ) → Has s.live a → Has a.drawn n → n < s.next
-  pub drawn_fresh : (a : Live) (n : ℕ) (F : File) → Has s.live a → Has a.drawn n → Has s.files F → F.number ≡ n → ⊥
-  pub drawn_apart : (a b : Live) (n : ℕ) → Has s.live a → Has s.live b → Has a.drawn n → Has b.drawn n → a.job.ticket ≡ b.job.ticket
+  pub drawn_fresh : (a : Live) (n : ℕ) (F : File) → Has s.live a → Has a.drawn n → Has s.files F
+      → F.number ≡ n → ⊥
+  pub drawn_apart : (a b : Live) (n : ℕ) → Has s.live a → Has s.live b → Has a.drawn n
+      → Has b.drawn n → a.job.ticket ≡ b.job.ticket
   -- the inputs of a live job are files of the version, at its level and the next
   pub inputs : (a : Live) (F : File) → Has s.live a → Has a.job.inputs F → Has s.files F
-  pub levels : (a : Live) (F : File) → Has s.live a → Has a.job.inputs F → (F.level ≡ a.job.level) ⊎ (F.level ≡ suc a.job.level)
+  pub levels : (a : Live) (F : File) → Has s.live a → Has a.job.inputs F
+      → (F.level ≡ a.job.level) ⊎ (F.level ≡ suc a.job.level)
   -- live jobs have different tickets below the next one, and no two conflict
   pub tickets : (a : Live) → Has s.live a → a.job.ticket < s.next_ticket
   pub one_each : (a b : Live) → Has s.live a → Has s.live b → a.job.ticket ≡ b.job.ticket → a ≡ b
-  pub clear : (a b : Live) → Has s.live a → Has s.live b → (a.job.ticket ≡ b.job.ticket → ⊥) → Conflicts a.job b.job → ⊥
+  pub clear : (a b : Live) → Has s.live a → Has s.live b → (a.job.ticket ≡ b.job.ticket → ⊥)
+      → Conflicts a.job b.job → ⊥
   pub floors : (a : Live) → Has s.live a → FloorHolds s.last s.snapshots a.job
   -- snapshots rise, up to the last sequence and below the next id
   pub rising : AreRising s.snapshots

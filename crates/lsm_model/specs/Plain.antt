@@ -1,6 +1,7 @@
--- The store as a plain machine: what it holds, and what each of its events makes of that (levels and
--- snapshots of LevelDB's `doc/impl.md`; several compactions at a time are this project's).
-use Rattle.std.specs.Prelude.{◌≡◌, ℕ, suc, ◌<◌, ◌≤◌, List, [], ◌∷◌, ◌++◌, ◌⊎◌, ◌==◌, not, map, if◌then◌else◌}
+-- The store as a plain machine: what it holds, and what each of its events makes of that (levels
+-- and snapshots of LevelDB's `doc/impl.md`; several compactions at a time are this project's).
+use Rattle.std.specs.Prelude.{◌≡◌, ℕ, suc, ◌<◌, ◌≤◌, List, [], ◌∷◌, ◌++◌, ◌⊎◌, ◌==◌, not, map}
+use Rattle.std.specs.Prelude.{if◌then◌else◌}
 use Rattle.std.specs.List.{filter}
 use Rattle.lsm_codec.specs.Lists.{Has}
 use Rattle.lsm_codec.specs.Entries.{Entry}
@@ -68,15 +69,25 @@ pub record Ingests (s : Plain) (es : List Entry) (t : Plain) : Type 0 where
   pub added : Has files file
 
 abbrev pub TakesSnapshot : Plain → Plain → Type 0
-TakesSnapshot s t = t ≡ record s { snapshots = s.snapshots ++ (s.next_id, s.last) ∷ []; next_id = suc s.next_id }
+TakesSnapshot s t = t ≡ record s {
+  snapshots = s.snapshots ++ (s.next_id, s.last)
+      ∷ [];
+  next_id = suc s.next_id;
+}
 
 abbrev pub Releases : Plain → ℕ → Plain → Type 0
 Releases s id t = t ≡ record s { snapshots = without_snapshot id s.snapshots }
 
 -- The job is that of a plan; its inputs are files of the version, at its level and the next, and it
--- conflicts with no live one. Under the premise the plan is the closed one from some starting files.
-pub record Reserves (Honest : Type 0) (s : Plain) (plan : Plan) (job : Job) (t : Plain) : Type 0 where
-  pub is : t ≡ record s { live = s.live ++ record { job = job; drawn = [] } ∷ []; next_ticket = suc s.next_ticket }
+-- conflicts with no live one. Under the premise the plan is the closed one from some starting
+-- files.
+pub record Reserves (Honest : Type 0) (s : Plain) (plan : Plan) (job : Job) (t : Plain)
+    : Type 0 where
+  pub is : t ≡ record s {
+    live = s.live ++ record { job = job; drawn = [] }
+        ∷ [];
+    next_ticket = suc s.next_ticket;
+  }
   pub is_job : IsJobOf s.files plan job
   pub inputs : (F : File) → Has job.inputs F → Has s.files F
   pub levels : (F : File) → Has job.inputs F → (F.level ≡ job.level) ⊎ (F.level ≡ suc job.level)
@@ -101,7 +112,8 @@ pub record IsMerged (job : Job) (outs : List File) : Type 0 where
 -- what is known of a result without the premise: outputs under rising numbers that the job drew, or
 -- its one input
 abbrev pub IsBooked : Live → List File → Type 0
-IsBooked a outs = (NumbersRise outs × ((F : File) → Has outs F → Has a.drawn F.number)) ⊎ IsMove a.job outs
+IsBooked a outs = (NumbersRise outs × ((F : File) → Has outs F → Has a.drawn F.number))
+    ⊎ IsMove a.job outs
 
 -- what a finished job hands in under the premise
 abbrev pub IsResult : Job → List File → Type 0
@@ -133,4 +145,12 @@ IsReadable s q = (q ≡ s.last) ⊎ ((p : ℕ × ℕ) × Has s.snapshots p × (p
 
 -- no files, no snapshots and no jobs; the manifest has the number 1, so 2 is the next
 abbrev pub created : Plain
-created = record { files = []; last = 0; next = 2; next_id = 1; next_ticket = 1; snapshots = []; live = [] }
+created = record {
+  files = [];
+  last = 0;
+  next = 2;
+  next_id = 1;
+  next_ticket = 1;
+  snapshots = [];
+  live = [];
+}

@@ -10,7 +10,8 @@ use Rattle.lsm_model.specs.Jobs.{Job}
 -- user keys
 pub data IsLinked (v : List File) (level : ℕ) (Start : File → Type 0) : File → Type 0 where
   starting : (F : File) → Has v F → F.level ≡ level → Start F → IsLinked v level Start F
-  meeting : (F G : File) → IsLinked v level Start F → Has v G → G.level ≡ level → Meets G F.low F.high → IsLinked v level Start G
+  meeting : (F G : File) → IsLinked v level Start F → Has v G → G.level ≡ level
+      → Meets G F.low F.high → IsLinked v level Start G
 
 -- low and high are the least and the greatest user key of the files
 pub record Spans (files : List File) (low high : UserKey) : Type 0 where
@@ -50,8 +51,10 @@ pub record IsClosed (v : List File) (Start : File → Type 0) (plan : Plan) : Ty
   pub from : UserKey
   pub to : UserKey
   pub range : Spans plan.upper from to
-  pub lower_from : (F : File) → Has plan.lower F → IsLinked v (suc plan.level) (λ G. Meets G from to) F
-  pub lower_all : (F : File) → IsLinked v (suc plan.level) (λ G. Meets G from to) F → Has plan.lower F
+  pub lower_from : (F : File) → Has plan.lower F
+      → IsLinked v (suc plan.level) (λ G. Meets G from to) F
+  pub lower_all : (F : File) → IsLinked v (suc plan.level) (λ G. Meets G from to) F
+      → Has plan.lower F
   pub hull : Spans (plan.upper ++ plan.lower) plan.low plan.high
 
 -- the job is the plan's, and its ranges are just those of the files two or more levels below
@@ -60,5 +63,7 @@ pub record IsJobOf (v : List File) (plan : Plan) (job : Job) : Type 0 where
   pub inputs : job.inputs ≡ plan.upper ++ plan.lower
   pub low : job.low ≡ plan.low
   pub high : job.high ≡ plan.high
-  pub ranges : (F : File) → Has v F → suc (suc plan.level) ≤ F.level → Has job.ranges (F.low, F.high)
-  pub ranges_from : (r : UserKey × UserKey) → Has job.ranges r → (F : File) × Has v F × (suc (suc plan.level) ≤ F.level) × ((F.low, F.high) ≡ r)
+  pub ranges : (F : File) → Has v F → suc (suc plan.level) ≤ F.level
+      → Has job.ranges (F.low, F.high)
+  pub ranges_from : (r : UserKey × UserKey) → Has job.ranges r
+      → (F : File) × Has v F × (suc (suc plan.level) ≤ F.level) × ((F.low, F.high) ≡ r)

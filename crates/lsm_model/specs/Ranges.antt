@@ -52,7 +52,8 @@ IsLaidOut ranges Apart = EachPair (λ a b. ShareUsers a b → ⊥) ranges
 -- ---- how the code judges: each range against the next one
 
 abbrev pub next_layout : Range → Range → Layout
-next_layout a b = cond (key_le b.smallest a.largest) Overlap (cond (user_le b.smallest.user a.largest.user) Shared Apart)
+next_layout a b = cond (key_le b.smallest a.largest) Overlap
+    (cond (user_le b.smallest.user a.largest.user) Shared Apart)
 
 abbrev pub worse : Layout → Layout → Layout
 worse Overlap m = Overlap

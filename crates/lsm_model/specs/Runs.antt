@@ -6,7 +6,8 @@ use Rattle.lsm_codec.specs.Entries.{Entry, answer}
 use Rattle.lsm_model.specs.Files.{OneEach, all_entries}
 use Rattle.lsm_model.specs.Jobs.{Job}
 use Rattle.lsm_model.specs.Plans.{Plan}
-use Rattle.lsm_model.specs.Plain.{Cancels, Draws, Ingests, Installs, IsReadable, Plain, Releases, Reserves, Spends, TakesSnapshot}
+use Rattle.lsm_model.specs.Plain.{Cancels, Draws, Ingests, Installs, IsReadable, Plain, Releases}
+use Rattle.lsm_model.specs.Plain.{Reserves, Spends, TakesSnapshot}
 
 pub data Event : Type 0 where
   Ingest : (entries : List Entry) → Event
@@ -50,10 +51,11 @@ ingested (Nothing ∷ events) es = ingested events es
 
 -- every read that is promised gives what it gives over the entries es
 abbrev pub ReadsAs : Plain → List Entry → Type 0
-ReadsAs s es = (k : UserKey) (q : ℕ) → IsReadable s q → answer (all_entries s.files) k q ≡ answer es k q
+ReadsAs s es = (k : UserKey) (q : ℕ) → IsReadable s q
+    → answer (all_entries s.files) k q ≡ answer es k q
 
--- The entries es are a history of the store: none is above the last sequence, no two have one user key, sequence
--- and kind, and every read that is promised gives what it gives over them.
+-- The entries es are a history of the store: none is above the last sequence, no two have one user
+-- key, sequence and kind, and every read that is promised gives what it gives over them.
 pub record Agrees (s : Plain) (es : List Entry) : Type 0 where
   pub upto : (e : Entry) → Has es e → e.seq ≤ s.last
   pub one : OneEach es

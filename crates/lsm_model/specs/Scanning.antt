@@ -1,6 +1,7 @@
 -- What a scan shows: each user key with its answer, in order (LevelDB's `doc/impl.md` and
 -- `include/leveldb/db.h`, iterators).
-use Rattle.std.specs.Prelude.{◌≡◌, ℕ, Bool, false, ◌||◌, not, cond, List, [], ◌∷◌, Option, Some, None, nat_le}
+use Rattle.std.specs.Prelude.{◌≡◌, ℕ, Bool, false, ◌||◌, not, cond, List, [], ◌∷◌, Option, Some}
+use Rattle.std.specs.Prelude.{None, nat_le}
 use Rattle.std.specs.Str.{bytes_eq}
 use Rattle.lsm_codec.specs.declared.kind.Kind.{Kind}
 use Rattle.lsm_codec.specs.declared.kind.Kind.TheVariants.{Deletion, Value}
@@ -42,7 +43,8 @@ put_pair Value p ps = p ∷ ps
 -- what is shown of the entries that are left, where `told` is the user key that was answered last
 abbrev pub pairs_of : ℕ → Option UserKey → List Entry → List Pair
 pairs_of s told [] = []
-pairs_of s told (e ∷ es) = cond (is_passed s told e) (pairs_of s told es) (put_pair e.kind (e.user, e.value) (pairs_of s (Some e.user) es))
+pairs_of s told (e ∷ es) = cond (is_passed s told e) (pairs_of s told es)
+    (put_pair e.kind (e.user, e.value) (pairs_of s (Some e.user) es))
 
 -- there is a first entry, and nothing is shown for it
 abbrev pub is_head_passed : ℕ → Option UserKey → List Entry → Bool

@@ -1,5 +1,6 @@
 -- What a merge streams, and how its entries are cut into outputs.
-use Rattle.std.specs.Prelude.{◌≡◌, ℕ, ◌<◌, Bool, false, ◌&&◌, not, cond, List, [], ◌∷◌, ◌++◌, Option, Some, None, nat_le}
+use Rattle.std.specs.Prelude.{◌≡◌, ℕ, ◌<◌, Bool, false, ◌&&◌, not, cond, List, [], ◌∷◌, ◌++◌}
+use Rattle.std.specs.Prelude.{Option, Some, None, nat_le}
 use Rattle.std.specs.Str.{bytes_eq}
 use Rattle.lsm_codec.specs.Lists.{Has}
 use Rattle.lsm_codec.specs.Keys.{UserKey}
@@ -27,7 +28,9 @@ is_shadowed floor (Some p) e = bytes_eq p.user e.user && nat_le p.seq floor
 abbrev pub streamed : ℕ → List (UserKey × UserKey) → Option Entry → List Entry → List Entry
 streamed floor ranges before [] = []
 streamed floor ranges before (e ∷ es) =
-    cond (not (is_shadowed floor before e) && not (is_void floor ranges e)) (e ∷ streamed floor ranges (Some e) es) (streamed floor ranges (Some e) es)
+    cond (not (is_shadowed floor before e)
+    && not (is_void floor ranges e)) (e
+    ∷ streamed floor ranges (Some e) es) (streamed floor ranges (Some e) es)
 
 -- the entries begin and end at the file's range
 pub record Ends (F : File) : Type 0 where

@@ -1,5 +1,7 @@
--- Which compaction is chosen (after LevelDB's `doc/impl.md`, "Compactions"; the order in which candidates are tried is this project's).
-use Rattle.std.specs.Prelude.{◌≡◌, ℕ, ◌*◌, ◌<◌, ◌≤◌, Bool, true, false, List, [], ◌∷◌, Option, Some, None, slice_get, slice_index_or, ◌⊎◌}
+-- Which compaction is chosen (after LevelDB's `doc/impl.md`, "Compactions"; the order in which
+-- candidates are tried is this project's).
+use Rattle.std.specs.Prelude.{◌≡◌, ℕ, ◌*◌, ◌<◌, ◌≤◌, Bool, true, false, List, [], ◌∷◌, Option, Some}
+use Rattle.std.specs.Prelude.{None, slice_get, slice_index_or, ◌⊎◌}
 use Rattle.std.specs.Ordering.{nat_cmp, ordering_then, is_gt}
 use Rattle.std.specs.Cmp.Lexicographic.{slice_cmp}
 use Rattle.std.specs.declared.cmp.Ordering.{Ordering}
@@ -27,7 +29,8 @@ AreEqual p q = p.0 * q.1 ≡ q.0 * p.1
 
 -- the bytes of internal keys: user keys ascending, of one user key the newest first
 abbrev pub bytes_cmp : List ℕ → List ℕ → Ordering
-bytes_cmp a b = ordering_then (slice_cmp nat_cmp (user_part a) (user_part b)) (nat_cmp (packed_part b) (packed_part a))
+bytes_cmp a b = ordering_then (slice_cmp nat_cmp (user_part a) (user_part b))
+    (nat_cmp (packed_part b) (packed_part a))
 
 -- the table's largest key is beyond the pointer, or there is none
 abbrev pub is_beyond : Option (List ℕ) → Table → Bool
@@ -59,17 +62,21 @@ pub record IsCandidate (v : Levels) (rs : List Reserved) (c : Candidate) : Type 
 
 -- the greater score first, the lower level on a tie
 abbrev pub IsLevelBefore : Levels → List Reserved → ℕ → ℕ → Type 0
-IsLevelBefore v rs l m = IsGreaterScore (score v rs l) (score v rs m) ⊎ (AreEqual (score v rs l) (score v rs m) × (l < m))
+IsLevelBefore v rs l m = IsGreaterScore (score v rs l) (score v rs m)
+    ⊎ (AreEqual (score v rs l) (score v rs m) × (l < m))
 
 -- in a level those beyond its pointer first, then the others, both in the level's order
 abbrev pub IsTableBefore : Levels → Candidate → Candidate → Type 0
 IsTableBefore v c d =
-    ((is_beyond (pointer_at v c.level) c.table ≡ true) × (is_beyond (pointer_at v d.level) d.table ≡ false))
-    ⊎ ((is_beyond (pointer_at v c.level) c.table ≡ is_beyond (pointer_at v d.level) d.table) × (c.index < d.index))
+    ((is_beyond (pointer_at v c.level) c.table ≡ true)
+    × (is_beyond (pointer_at v d.level) d.table ≡ false))
+    ⊎ ((is_beyond (pointer_at v c.level) c.table ≡ is_beyond (pointer_at v d.level) d.table)
+    × (c.index < d.index))
 
 -- c is tried before d
 abbrev pub IsTriedBefore : Levels → List Reserved → Candidate → Candidate → Type 0
-IsTriedBefore v rs c d = IsLevelBefore v rs c.level d.level ⊎ ((c.level ≡ d.level) × IsTableBefore v c d)
+IsTriedBefore v rs c d = IsLevelBefore v rs c.level d.level
+    ⊎ ((c.level ≡ d.level) × IsTableBefore v c d)
 
 -- the plan that starts from the candidate's table
 pub record IsPlanOf (v : Levels) (c : Candidate) (p : TablePlan) : Type 0 where
@@ -82,7 +89,8 @@ IsBlocked v rs c = (p : TablePlan) × IsPlanOf v c p × IsHeldUp p rs
 
 -- ---- the choice
 
--- The plan of the candidate that conflicts with no live job, while every candidate that is tried before it does.
+-- The plan of the candidate that conflicts with no live job, while every candidate that is tried
+-- before it does.
 pub record IsChoice (v : Levels) (rs : List Reserved) (p : TablePlan) : Type 0 where
   pub start : Candidate
   pub candidate : IsCandidate v rs start
@@ -96,35 +104,43 @@ HasNoChoice v rs = (c : Candidate) → IsCandidate v rs c → IsBlocked v rs c
 
 -- the plan that starts from a table of a level conflicts with a live job
 abbrev pub IsBlockedAt : Levels → List Reserved → ℕ → Table → Type 0
-IsBlockedAt v rs level t = (p : TablePlan) × (p.level ≡ level) × IsPlanFrom v (Has (file_of level t ∷ [])) p × IsHeldUp p rs
+IsBlockedAt v rs level t = (p : TablePlan) × (p.level ≡ level)
+    × IsPlanFrom v (Has (file_of level t ∷ [])) p × IsHeldUp p rs
 
--- ---- how the code tries them: level by level, and in a level one side of the pointer after the other
+-- ---- how the code tries them: level by level, and in a level one side of the pointer after the
+-- other
 
 -- a free table of that level on that side of its pointer
-pub record IsOnSide (v : Levels) (rs : List Reserved) (level : ℕ) (beyond : Bool) (c : Candidate) : Type 0 where
+pub record IsOnSide (v : Levels) (rs : List Reserved) (level : ℕ) (beyond : Bool) (c : Candidate)
+    : Type 0 where
   pub level_is : c.level ≡ level
   pub free : IsFree v rs c
   pub side : is_beyond (pointer_at v level) c.table ≡ beyond
 
 abbrev pub AllBlockedBeside : Levels → List Reserved → ℕ → Bool → Type 0
-AllBlockedBeside v rs level beyond = (c : Candidate) → IsOnSide v rs level beyond c → IsBlocked v rs c
+AllBlockedBeside v rs level beyond =
+    (c : Candidate) → IsOnSide v rs level beyond c → IsBlocked v rs c
 
 -- the plan of the first free table on that side that conflicts with no live job
-pub record IsFirstClear (v : Levels) (rs : List Reserved) (level : ℕ) (beyond : Bool) (p : TablePlan) : Type 0 where
+pub record IsFirstClear (v : Levels) (rs : List Reserved) (level : ℕ) (beyond : Bool)
+    (p : TablePlan) : Type 0 where
   pub start : Candidate
   pub on_side : IsOnSide v rs level beyond start
   pub planned : IsPlanOf v start p
   pub clear : IsClear p rs
-  pub first : (c : Candidate) → IsOnSide v rs level beyond c → c.index < start.index → IsBlocked v rs c
+  pub first : (c : Candidate) → IsOnSide v rs level beyond c → c.index < start.index
+      → IsBlocked v rs c
 
 abbrev pub AllBlocked : Levels → List Reserved → ℕ → Type 0
 AllBlocked v rs level = (c : Candidate) → c.level ≡ level → IsFree v rs c → IsBlocked v rs c
 
 -- the plan of the first free table of the level that conflicts with no live job
-pub record IsLevelChoice (v : Levels) (rs : List Reserved) (level : ℕ) (p : TablePlan) : Type 0 where
+pub record IsLevelChoice (v : Levels) (rs : List Reserved) (level : ℕ) (p : TablePlan)
+    : Type 0 where
   pub start : Candidate
   pub level_is : start.level ≡ level
   pub free : IsFree v rs start
   pub planned : IsPlanOf v start p
   pub clear : IsClear p rs
-  pub first : (c : Candidate) → c.level ≡ level → IsFree v rs c → IsTableBefore v c start → IsBlocked v rs c
+  pub first : (c : Candidate) → c.level ≡ level → IsFree v rs c → IsTableBefore v c start
+      → IsBlocked v rs c

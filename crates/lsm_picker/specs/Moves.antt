@@ -1,11 +1,12 @@
--- Which compactions only move a file (LevelDB's `doc/impl.md`, "Compactions", and `Compaction::IsTrivialMove`).
+-- Which compactions only move a file (LevelDB's `doc/impl.md`, "Compactions", and
+-- `Compaction::IsTrivialMove`).
 use Rattle.std.specs.Prelude.{◌≡◌, ℕ, suc, ◌*◌, ◌≤◌, [], length}
 use Rattle.lsm_version.specs.Versions.{Levels}
 use Rattle.lsm_picker.specs.TablePlans.{TablePlan, tables_over}
 use Rattle.lsm_table.specs.Registry.{bytes_of}
 
--- One input, none at the next level, and at most ten target sizes of files that meet the hull two levels down; no file is there where
--- that level is above 6.
+-- One input, none at the next level, and at most ten target sizes of files that meet the hull two
+-- levels down; no file is there where that level is above 6.
 pub record IsMovable (v : Levels) (p : TablePlan) (target_size : ℕ) : Type 0 where
   pub one : length p.upper ≡ 1
   pub none : p.lower ≡ []

@@ -1,5 +1,7 @@
--- Live jobs, as far as a choice has to know them, and what conflicts with them (this project's rule; LevelDB has one job at a time).
-use Rattle.std.specs.Prelude.{◌≡◌, ℕ, ◌≤◌, Bool, true, false, ◌&&◌, ◌||◌, ◌==◌, List, Option, Some, None, map, ◌⊎◌}
+-- Live jobs, as far as a choice has to know them, and what conflicts with them (this project's
+-- rule; LevelDB has one job at a time).
+use Rattle.std.specs.Prelude.{◌≡◌, ℕ, ◌≤◌, Bool, true, false, ◌&&◌, ◌||◌, ◌==◌, List, Option, Some}
+use Rattle.std.specs.Prelude.{None, map, ◌⊎◌}
 use Rattle.std.specs.List.{list_any}
 use Rattle.lsm_codec.specs.Keys.{UserKey, user_le}
 use Rattle.lsm_codec.specs.Lists.{Has}
@@ -17,7 +19,14 @@ pub record Reserved : Type 0 where
 
 -- what is known of a job
 abbrev pub reserved_of : Job → Reserved
-reserved_of job = record { ticket = job.ticket; level = job.level; inputs = map (λ F. F.number) job.inputs; low = job.low; high = job.high }
+reserved_of job = record {
+  ticket = job.ticket;
+  level = job.level;
+  inputs = map (λ F.
+      F.number) job.inputs;
+  low = job.low;
+  high = job.high;
+}
 
 -- the number is that of an input
 abbrev pub has_input : Reserved → ℕ → Bool
@@ -58,4 +67,5 @@ pub record IsLeastConflict (p : TablePlan) (rs : List Reserved) (ticket : ℕ) :
 -- the lesser of the ticket and another one, if there is one
 abbrev pub IsLesserTicket : Option ℕ → ℕ → ℕ → Type 0
 IsLesserTicket None ticket least = least ≡ ticket
-IsLesserTicket (Some other) ticket least = ((least ≡ other) × (other ≤ ticket)) ⊎ ((least ≡ ticket) × (ticket ≤ other))
+IsLesserTicket (Some other) ticket least =
+    ((least ≡ other) × (other ≤ ticket)) ⊎ ((least ≡ ticket) × (ticket ≤ other))

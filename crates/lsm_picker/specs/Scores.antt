@@ -1,5 +1,5 @@
--- How much a level wants to be compacted (LevelDB's `doc/impl.md`, "Compactions", and `VersionSet::Finalize`; that the inputs of live
--- jobs are not counted is this project's rule).
+-- How much a level wants to be compacted (LevelDB's `doc/impl.md`, "Compactions", and
+-- `VersionSet::Finalize`; that the inputs of live jobs are not counted is this project's rule).
 use Rattle.std.specs.Prelude.{ℕ, zero, suc, ◌-◌, ◌*◌, ◌^◌, not, List, length}
 use Rattle.std.specs.List.{filter}
 use Rattle.lsm_table.specs.Registry.{Table, bytes_of}
@@ -10,7 +10,8 @@ use Rattle.lsm_picker.specs.Reservations.{Reserved, is_taken}
 abbrev pub free_tables : List Reserved → List Table → List Table
 free_tables rs ts = filter (λ t. not (is_taken rs t)) ts
 
--- what a level may hold: four files at level 0, ten megabytes at level 1, and at each further level ten times as much
+-- what a level may hold: four files at level 0, ten megabytes at level 1, and at each further level
+-- ten times as much
 abbrev pub limit : ℕ → ℕ
 limit zero = 4
 limit (suc n) = 10485760 * 10 ^ n

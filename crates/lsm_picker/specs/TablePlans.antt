@@ -10,8 +10,8 @@ use Rattle.lsm_model.specs.Plans.{IsClosed, IsLinked, Plan, job_from}
 use Rattle.lsm_version.specs.Overlap.{meets}
 use Rattle.lsm_version.specs.Versions.{Levels, files, files_of, level_in}
 
--- the tables that a compaction of that level would take there and at the next level, and the least and the greatest user key of all
--- of them: the hull
+-- the tables that a compaction of that level would take there and at the next level, and the least
+-- and the greatest user key of all of them: the hull
 pub record TablePlan : Type 0 where
   pub level : ℕ
   pub upper : List Table
@@ -24,7 +24,14 @@ inputs_of p = p.upper ++ p.lower
 
 -- the plan as files
 abbrev pub plan_of : TablePlan → Plan
-plan_of p = record { level = p.level; upper = files_of p.level p.upper; lower = files_of (suc p.level) p.lower; low = p.low; high = p.high }
+plan_of p = record {
+  level = p.level;
+  upper = files_of p.level p.upper;
+  lower = files_of
+      (suc p.level) p.lower;
+  low = p.low;
+  high = p.high;
+}
 
 -- the job that takes the plan's tables
 abbrev pub job_of : TablePlan → ℕ → ℕ → List (UserKey × UserKey) → Bool → Job
@@ -35,7 +42,8 @@ abbrev pub ArePicked : List Table → List Table → Type 0
 ArePicked us ts = (pick : Table → Bool) × (us ≡ filter pick ts)
 
 -- exactly the tables of the level that the starting files reach there, in the level's order
-pub record AreLinked (v : Levels) (level : ℕ) (Start : File → Type 0) (us : List Table) : Type 0 where
+pub record AreLinked (v : Levels) (level : ℕ) (Start : File → Type 0) (us : List Table)
+    : Type 0 where
   pub only : (F : File) → Has (files_of level us) F → IsLinked (files v) level Start F
   pub whole : (F : File) → IsLinked (files v) level Start F → Has (files_of level us) F
   pub order : ArePicked us (level_in v.tables level)

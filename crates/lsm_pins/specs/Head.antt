@@ -1,4 +1,5 @@
--- The head word of a board: which version is current, in which slot it lies, and how many pins were made of it. This project's rule.
+-- The head word of a board: which version is current, in which slot it lies, and how many pins were
+-- made of it. This project's rule.
 use Rattle.std.specs.Prelude.{ℕ, ◌+◌, ◌*◌, ◌/◌, ◌%◌, ◌^◌}
 
 -- the slot in the 6 highest bits, the id in the next 28, the count in the 30 lowest

@@ -1,5 +1,6 @@
 -- What the publisher keeps of each slot. This project's rule.
-use Rattle.std.specs.Prelude.{◌≡◌, ℕ, ◌+◌, ◌-◌, Option, Some, None, List, ◌∷◌, map, replicate, slice_get, slice_index_or, slice_set}
+use Rattle.std.specs.Prelude.{◌≡◌, ℕ, ◌+◌, ◌-◌, Option, Some, None, List, ◌∷◌, map, replicate}
+use Rattle.std.specs.Prelude.{slice_get, slice_index_or, slice_set}
 use Rattle.lsm_pins.specs.declared.slot_record.SlotRecord.{SlotRecord}
 
 abbrev pub slot_record : Option ℕ → ℕ → SlotRecord
@@ -32,4 +33,6 @@ freed_records records slot = slice_set records slot (record (record_at records s
 -- the slot `old` retires with `count` more pins in its total, and the slot `new` has the id
 abbrev pub published_records : List SlotRecord → ℕ → ℕ → ℕ → ℕ → List SlotRecord
 published_records records old count new id =
-    slice_set (slice_set records old (record (record_at records old) { total = (record_at records old).total + count })) new (record (record_at records new) { id = Some id })
+    slice_set (slice_set records old
+    (record (record_at records old) { total = (record_at records old).total + count })) new
+    (record (record_at records new) { id = Some id })

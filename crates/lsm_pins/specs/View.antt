@@ -1,8 +1,11 @@
--- What a seat at the board knows, and what each kind of step leaves it knowing. This project's rule.
-use Rattle.std.specs.Prelude.{◌≡◌, ℕ, ◌+◌, ◌-◌, ◌==◌, Bool, true, false, cond, Option, Some, None, List, [], ◌∷◌, length, slice_get, not, ◌&&◌}
+-- What a seat at the board knows, and what each kind of step leaves it knowing. This project's
+-- rule.
+use Rattle.std.specs.Prelude.{◌≡◌, ℕ, ◌+◌, ◌-◌, ◌==◌, Bool, true, false, cond, Option, Some, None}
+use Rattle.std.specs.Prelude.{List, [], ◌∷◌, length, slice_get, not, ◌&&◌}
 use Rattle.lsm_pins.specs.declared.view.View.{View}
 use Rattle.lsm_pins.specs.declared.rule.Start.{Start}
-use Rattle.lsm_pins.specs.SlotRecord.{record_at, ids_of, first_records, freed_records, published_records}
+use Rattle.lsm_pins.specs.SlotRecord.{record_at, ids_of, first_records, freed_records}
+use Rattle.lsm_pins.specs.SlotRecord.{published_records}
 
 -- The public view of a board's slots
 
@@ -68,7 +71,13 @@ after_making slots id readers = record (first_view (start_of slots id)) { parts 
 
 -- a pin that found this id and slot
 abbrev pub pinned_view : View → ℕ → ℕ → View
-pinned_view v id slot = record v { id = id; slot = slot; count = pins_of id v + 1; held = Some (id, slot) }
+pinned_view v id slot = record v {
+  id = id;
+  slot = slot;
+  count = pins_of id v
+      + 1;
+  held = Some (id, slot);
+}
 
 -- the pin was given back
 abbrev pub unpinned_view : View → View
@@ -78,17 +87,31 @@ unpinned_view v = record v { held = None }
 abbrev pub learnt_view : View → ℕ → ℕ → View
 learnt_view v id slot = record v { id = id; slot = slot; count = pins_of id v }
 
--- the slot is not the current one, and the word found, its pins given back, is the number of all that were made of it
+-- the slot is not the current one, and the word found, its pins given back, is the number of all
+-- that were made of it
 abbrev pub is_unheld : View → ℕ → ℕ → Bool
 is_unheld v slot found = not (slot == v.slot) && (found == (record_at v.records slot).total)
 
 -- a look at the slot that found this word
 abbrev pub looked_view : View → ℕ → ℕ → View
-looked_view v slot found = record v { looks = slot ∷ v.looks; found = found; records = cond (is_unheld v slot found) (freed_records v.records slot) v.records }
+looked_view v slot found = record v {
+  looks = slot
+      ∷ v.looks;
+  found = found;
+  records = cond (is_unheld v slot found) (freed_records v.records slot)
+      v.records;
+}
 
 -- a publication in the slot, whose swap found this count of pins of the version before it
 abbrev pub published_view : View → ℕ → ℕ → View
-published_view v slot count = record v { id = v.id + 1; slot = slot; told_id = v.id + 1; records = published_records v.records v.slot count slot (v.id + 1); found = count }
+published_view v slot count = record v {
+  id = v.id + 1;
+  slot = slot;
+  told_id = v.id
+      + 1;
+  records = published_records v.records v.slot count slot (v.id + 1);
+  found = count;
+}
 
 -- Views cut in two and joined
 

@@ -1,5 +1,5 @@
--- Depths of files as numbers (LevelDB's `doc/impl.md`; each file of level 0 is a depth of its own, the greatest number first, and the
--- levels from 1 on follow).
+-- Depths of files as numbers (LevelDB's `doc/impl.md`; each file of level 0 is a depth of its own,
+-- the greatest number first, and the levels from 1 on follow).
 use Rattle.std.specs.Prelude.{ℕ, zero, suc, ◌+◌, List, length, map, nat_lt}
 use Rattle.std.specs.List.{count_by}
 use Rattle.std.specs.List.Sorted.{IsNonDecreasing, IsPermutation}

@@ -1,6 +1,8 @@
--- The sources of a merge of all levels: each table of level 0 by itself, and the tables of a deeper level one after another (LevelDB's
--- `doc/impl.md`, "Levels": the files of a level from 1 on lie in order).
-use Rattle.std.specs.Prelude.{◌≡◌, ◌⊎◌, ℕ, ◌<◌, ◌≤◌, ◌==◌, Bool, false, cond, List, [], ◌∷◌, ◌++◌, Option, Some, None, map}
+-- The sources of a merge of all levels: each table of level 0 by itself, and the tables of a deeper
+-- level one after another (LevelDB's `doc/impl.md`, "Levels": the files of a level from 1 on lie in
+-- order).
+use Rattle.std.specs.Prelude.{◌≡◌, ◌⊎◌, ℕ, ◌<◌, ◌≤◌, ◌==◌, Bool, false, cond, List, [], ◌∷◌, ◌++◌}
+use Rattle.std.specs.Prelude.{Option, Some, None, map}
 use Rattle.std.specs.List.{flat_map}
 use Rattle.lsm_codec.specs.Lists.{Has}
 use Rattle.lsm_codec.specs.Keys.{UserKey, UserLe}
@@ -18,18 +20,23 @@ pub record AreMergeable (levels : List (List Table)) : Type 0 where
   pub whole : (n : ℕ) (t : Table) → Has (level_in levels n) t → IsWhole t
   pub deeper : (n : ℕ) → 1 ≤ n → IsSoundLevel n (level_in levels n)
 
--- These lists in order have just the entries of the files of which `P` tells, each at its file's depth, where these are the tables of
--- level 0.
-pub record AreRunsOf (shallow : List Table) (P : File → Type 0) (runs : List (List Placed)) : Type 0 where
-  pub from : (l : List Placed) (p : Placed) → Has runs l → Has l p → (F : File) × P F × Has F.entries p.1 × (p.0 ≡ depth_of shallow F)
-  pub all : (F : File) (e : Entry) → P F → Has F.entries e → (l : List Placed) × Has runs l × Has l (depth_of shallow F, e)
+-- These lists in order have just the entries of the files of which `P` tells, each at its file's
+-- depth, where these are the tables of level 0.
+pub record AreRunsOf (shallow : List Table) (P : File → Type 0) (runs : List (List Placed))
+    : Type 0 where
+  pub from : (l : List Placed) (p : Placed) → Has runs l → Has l p
+      → (F : File) × P F × Has F.entries p.1 × (p.0 ≡ depth_of shallow F)
+  pub all : (F : File) (e : Entry) → P F → Has F.entries e
+      → (l : List Placed) × Has runs l × Has l (depth_of shallow F, e)
   pub ordered : AreOrdered runs
 
 -- the same, of the entries alone whose user key is at or past this one
-pub record AreRunsFrom (user : UserKey) (shallow : List Table) (P : File → Type 0) (runs : List (List Placed)) : Type 0 where
+pub record AreRunsFrom (user : UserKey) (shallow : List Table) (P : File
+    → Type 0) (runs : List (List Placed)) : Type 0 where
   pub from : (l : List Placed) (p : Placed) → Has runs l → Has l p
       → (F : File) × P F × Has F.entries p.1 × UserLe user p.1.user × (p.0 ≡ depth_of shallow F)
-  pub all : (F : File) (e : Entry) → P F → Has F.entries e → UserLe user e.user → (l : List Placed) × Has runs l × Has l (depth_of shallow F, e)
+  pub all : (F : File) (e : Entry) → P F → Has F.entries e → UserLe user e.user
+      → (l : List Placed) × Has runs l × Has l (depth_of shallow F, e)
   pub ordered : AreOrdered runs
 
 -- ---- files that are named
@@ -61,12 +68,15 @@ abbrev pub run_of : ℕ → List Entry → List (List Placed)
 run_of depth [] = []
 run_of depth (e ∷ es) = placed_at depth (e ∷ es) ∷ []
 
--- One source more at this depth: in order the entries of the tables whose user key is at or past this one. It is none where there are no
--- such entries.
-pub record AddsRun (user : UserKey) (depth : ℕ) (ts : List Table) (old new : List (List Placed)) : Type 0 where
+-- One source more at this depth: in order the entries of the tables whose user key is at or past
+-- this one. It is none where there are no such entries.
+pub record AddsRun (user : UserKey) (depth : ℕ) (ts : List Table) (old new : List (List Placed))
+    : Type 0 where
   pub entries : List Entry
-  pub from : (e : Entry) → Has entries e → (t : Table) × Has ts t × Has (entries_in t.image) e × UserLe user e.user
-  pub all : (t : Table) (e : Entry) → Has ts t → Has (entries_in t.image) e → UserLe user e.user → Has entries e
+  pub from : (e : Entry) → Has entries e
+      → (t : Table) × Has ts t × Has (entries_in t.image) e × UserLe user e.user
+  pub all : (t : Table) (e : Entry) → Has ts t → Has (entries_in t.image) e → UserLe user e.user
+      → Has entries e
   pub sorted : IsSorted entries
   pub grown : new ≡ old ++ run_of depth entries
 

@@ -14,7 +14,8 @@ abbrev pub NamesOne : (ℕ → Type 0) → Option ℕ → ReadFault → Type 0
 NamesOne P None fault = IsWant fault
 NamesOne P (Some number) fault = P number
 
--- The file has a number of which, with the fault, `P` tells; or none is named, and it is no fault of the shelf.
+-- The file has a number of which, with the fault, `P` tells; or none is named, and it is no fault
+-- of the shelf.
 abbrev pub IsOfFile : (ℕ → ReadFault → Type 0) → Option ℕ → ReadFault → Type 0
 IsOfFile P None (Shelf fault) = ⊥
 IsOfFile P None (Table fault) = Unit {0}

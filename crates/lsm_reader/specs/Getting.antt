@@ -38,22 +38,26 @@ stepped_on body rest = or_later (but_first rest.here) (first_entered body rest.i
 
 -- the same, but where no entry is left the place stays
 abbrev pub stepped_or_stays : List ℕ → Rest → Result (List Entry) TableFault
-stepped_or_stays body rest = or_later (but_first rest.here) (entered_or_stays body rest.here rest.index)
+stepped_or_stays body rest = or_later (but_first rest.here)
+    (entered_or_stays body rest.here rest.index)
 
 -- of the block that the first of these index entries names, what is not below the key
 abbrev pub sought_there : InternalKey → List ℕ → List Entry → Result (List Entry) TableFault
-sought_there key body index = block_named body (value_of_first index) >>= λ es. Ok (not_below key es)
+sought_there key body index = block_named body (value_of_first index) >>= λ es.
+    Ok (not_below key es)
 
 -- Of the blocks that index entries name, the first that has an entry at or after the key: its
 -- entries from there on. None is passed over: the first that is no block is the fault.
 unfoldable pub first_named : InternalKey → List ℕ → List Entry → Result (List Entry) TableFault
 first_named key body [] = Ok []
-first_named key body (i ∷ index) = block_named body i.value >>= λ es. or_later (not_below key es) (first_named key body index)
+first_named key body (i ∷ index) =
+    block_named body i.value >>= λ es. or_later (not_below key es) (first_named key body index)
 
 -- what a read finds in a table whose index block has these entries
 abbrev pub got_by : List ℕ → UserKey → ℕ → List Entry → Result (Option (Option (List ℕ))) TableFault
 got_by body k seq index =
-    first_named (read_key k (min seq (2 ^ 56 - 1))) body (not_below (read_key k (min seq (2 ^ 56 - 1))) index)
+    first_named (read_key k (min seq (2 ^ 56 - 1))) body
+    (not_below (read_key k (min seq (2 ^ 56 - 1))) index)
     >>= λ es. Ok (found_in (of_user k es))
 
 -- What a read of a user key at a sequence finds in an image, or the first fault on its way: of the

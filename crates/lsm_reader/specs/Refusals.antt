@@ -6,7 +6,8 @@ use Rattle.lsm_table.specs.declared.read_fault.ReadFault.{ReadFault}
 use Rattle.lsm_table.specs.declared.read_fault.ReadFault.TheVariants.{Shelf, Table}
 
 -- It refused, with this fault, to give some bytes of the image of this number.
-pub record ReadRefused (Refuses : Asked → ShelfFault → Type 0) (number : ℕ) (fault : ShelfFault) : Type 0 where
+pub record ReadRefused (Refuses : Asked → ShelfFault → Type 0) (number : ℕ) (fault : ShelfFault)
+    : Type 0 where
   pub offset : ℕ
   pub len : ℕ
   pub refused : Refuses (ReadAt number offset len) fault

@@ -1,8 +1,13 @@
--- Commands as lines: a name and then its words, where those for bytes are of one form. Scripts: one command a line, in hex. This project's rule.
-use Rattle.std.specs.Prelude.{◌≡◌, ℕ, ◌-◌, ◌^◌, ◌<◌, ◌≤◌, ⊤, List, [], ◌∷◌, length, take, get_or, codes, None, Some}
+-- Commands as lines: a name and then its words, where those for bytes are of one form. Scripts: one
+-- command a line, in hex. This project's rule.
+use Rattle.std.specs.Prelude.{◌≡◌, ℕ, ◌-◌, ◌^◌, ◌<◌, ◌≤◌, ⊤, List, [], ◌∷◌, length, take, get_or}
+use Rattle.std.specs.Prelude.{codes, None, Some}
 use Rattle.lsm_text.specs.EntryList.{lines_of}
 use Rattle.lsm_script.specs.declared.command.Command.{Command}
-use Rattle.lsm_script.specs.declared.command.Command.TheVariants.{Ingest, Get, Snapshot, Release, Reserve, ReserveRange, Merge, Install, Cancel, Pin, Unpin, Collect, List as Listing}
+use Rattle.lsm_script.specs.declared.command.Command.TheVariants.{Ingest, Get, Snapshot, Release}
+use Rattle.lsm_script.specs.declared.command.Command.TheVariants.{Reserve, ReserveRange, Merge}
+use Rattle.lsm_script.specs.declared.command.Command.TheVariants.{Install, Cancel, Pin, Unpin}
+use Rattle.lsm_script.specs.declared.command.Command.TheVariants.{Collect, List as Listing}
 use Rattle.lsm_script.specs.declared.script_text.ScriptFault.{ScriptFault}
 use Rattle.lsm_script.specs.declared.script_text.ScriptFault.TheVariants.{BadLine, OutOfMemory}
 use Rattle.lsm_text.specs.declared.form.Form.{Form}
@@ -14,7 +19,8 @@ use Rattle.lsm_script.specs.Words.{words_of}
 
 -- a name and a number that is not above `most`
 abbrev pub IsNumbered : List ℕ → ℕ → List (List ℕ) → ℕ → Type 0
-IsNumbered name most words n = (word : List ℕ) × (words ≡ name ∷ word ∷ []) × IsNumberWord most word n
+IsNumbered name most words n =
+    (word : List ℕ) × (words ≡ name ∷ word ∷ []) × IsNumberWord most word n
 
 -- the greatest id, ticket or sequence
 abbrev pub most : ℕ
@@ -22,14 +28,19 @@ most = 2 ^ 64 - 1
 
 -- the words ask for the command
 abbrev pub IsCommand : Form → List (List ℕ) → Command → Type 0
-IsCommand form words (Ingest writes) = (keys : List (List ℕ)) × (words ≡ codes "ingest" ∷ keys) × AreWriteLines form keys writes
-IsCommand form words (Get key None) = (k : List ℕ) × (words ≡ codes "get" ∷ k ∷ []) × IsWord form k key
-IsCommand form words (Get key (Some id)) = (k : List ℕ) × (i : List ℕ) × (words ≡ codes "get" ∷ k ∷ i ∷ []) × IsWord form k key × IsNumberWord most i id
+IsCommand form words (Ingest writes) =
+    (keys : List (List ℕ)) × (words ≡ codes "ingest" ∷ keys) × AreWriteLines form keys writes
+IsCommand form words (Get key None) =
+    (k : List ℕ) × (words ≡ codes "get" ∷ k ∷ []) × IsWord form k key
+IsCommand form words (Get key (Some id)) =
+    (k : List ℕ) × (i : List ℕ) × (words ≡ codes "get" ∷ k ∷ i ∷ []) × IsWord form k key
+    × IsNumberWord most i id
 IsCommand form words Snapshot = words ≡ codes "snapshot" ∷ []
 IsCommand form words (Release id) = IsNumbered (codes "release") most words id
 IsCommand form words Reserve = words ≡ codes "reserve" ∷ []
 IsCommand form words (ReserveRange level from to) =
-    (l : List ℕ) × (f : List ℕ) × (t : List ℕ) × (words ≡ codes "reserve" ∷ l ∷ f ∷ t ∷ []) × IsNumberWord (2 ^ 8 - 1) l level × IsWord form f from × IsWord form t to
+    (l : List ℕ) × (f : List ℕ) × (t : List ℕ) × (words ≡ codes "reserve" ∷ l ∷ f ∷ t ∷ [])
+    × IsNumberWord (2 ^ 8 - 1) l level × IsWord form f from × IsWord form t to
 IsCommand form words (Merge ticket) = IsNumbered (codes "merge") most words ticket
 IsCommand form words (Install ticket) = IsNumbered (codes "install") most words ticket
 IsCommand form words (Cancel ticket) = IsNumbered (codes "cancel") most words ticket

@@ -30,15 +30,16 @@ GivesNumber old ticket new (Err e) = (new ≡ old) × IsNumberless ticket old e
 -- these numbers were drawn under the ticket, the last first
 abbrev pub AreDrawn : ℕ → List ℕ → Held → Held → Type 0
 AreDrawn ticket [] old new = new ≡ old
-AreDrawn ticket (n ∷ ns) old new = (mid : Held) × AreDrawn ticket ns old mid × DrawsOne ticket n mid new
+AreDrawn ticket (n ∷ ns) old new =
+    (mid : Held) × AreDrawn ticket ns old mid × DrawsOne ticket n mid new
 
 -- these numbers were drawn, each under its ticket, the last first
 abbrev pub ArePairsDrawn : List (ℕ × ℕ) → Held → Held → Type 0
 ArePairsDrawn [] old new = new ≡ old
 ArePairsDrawn (p ∷ ps) old new = (mid : Held) × ArePairsDrawn ps old mid × DrawsOne p.0 p.1 mid new
 
--- What a source of numbers has: a state, the numbers it gave and the numbers of its refusals, and the tickets that it was asked
--- for, each the last first.
+-- What a source of numbers has: a state, the numbers it gave and the numbers of its refusals, and
+-- the tickets that it was asked for, each the last first.
 pub record Source (X : Type 0) : Type 0 where
   pub state : X
   pub drew : List ℕ
@@ -46,21 +47,28 @@ pub record Source (X : Type 0) : Type 0 where
   pub asked : List ℕ
 
 -- what holds after an answer
-abbrev pub After : Result ℕ NumberFault → ℕ → (List ℕ → List ℕ → List ℕ → Type 0) → List ℕ → List ℕ → List ℕ → Type 0
+abbrev pub After : Result ℕ NumberFault → ℕ → (List ℕ → List ℕ → List ℕ → Type 0) → List ℕ → List ℕ
+    → List ℕ → Type 0
 After (Ok n) ticket holds drew refused asked = holds (n ∷ drew) refused (ticket ∷ asked)
-After (Err e) ticket holds drew refused asked = holds drew (number_of e ∷ refused) (ticket ∷ asked) × IsOfTicket e ticket
+After (Err e) ticket holds drew refused asked =
+    holds drew (number_of e ∷ refused) (ticket ∷ asked) × IsOfTicket e ticket
 
 -- each answer keeps what holds
-abbrev pub Keeps : {X : Type 0} → (X → ℕ → X → Result ℕ NumberFault → Type 0) → (X → List ℕ → List ℕ → List ℕ → Type 0) → Type 0
-Keeps {X = X} gives holds = (x y : X) (t : ℕ) (r : Result ℕ NumberFault) (drew refused asked : List ℕ) → t < 2 ^ 64 → holds x drew refused asked → gives x t y r → After r t (holds y) drew refused asked
+abbrev pub Keeps : {X : Type 0} → (X → ℕ → X → Result ℕ NumberFault → Type 0)
+    → (X → List ℕ → List ℕ → List ℕ → Type 0) → Type 0
+Keeps {X = X} gives holds = (x y : X) (t : ℕ) (r : Result ℕ NumberFault)
+    (drew refused asked : List ℕ) → t < 2 ^ 64 → holds x drew refused asked → gives x t y r
+    → After r t (holds y) drew refused asked
 
 -- a source has a state, of which it holds, and each answer keeps it
-pub record IsSource {X : Type 0} (holds : X → List ℕ → List ℕ → List ℕ → Type 0) (gives : X → ℕ → X → Result ℕ NumberFault → Type 0) (s : Source X) : Type 0 where
+pub record IsSource {X : Type 0} (holds : X → List ℕ → List ℕ → List ℕ → Type 0) (gives : X → ℕ → X
+    → Result ℕ NumberFault → Type 0) (s : Source X) : Type 0 where
   pub fact : holds s.state s.drew s.refused s.asked
   pub keeps : Keeps gives holds
 
--- The state came from this one, by drawing just these numbers. Where it refused for an unknown ticket, one for which it was asked is not
--- live; where it had no number left, the next one is the last.
+-- The state came from this one, by drawing just these numbers. Where it refused for an unknown
+-- ticket, one for which it was asked is not live; where it had no number left, the next one is the
+-- last.
 pub record HasDrawn (start : Held) (s : Source Held) : Type 0 where
   pub pairs : List (ℕ × ℕ)
   pub drawn : ArePairsDrawn pairs start s.state
@@ -71,7 +79,8 @@ pub record HasDrawn (start : Held) (s : Source Held) : Type 0 where
 
 -- that, as a merge picks it
 abbrev pub Drawn : Held → Held → List ℕ → List ℕ → List ℕ → Type 0
-Drawn start h drew refused asked = HasDrawn start record { state = h; drew = drew; refused = refused; asked = asked }
+Drawn start h drew refused asked =
+    HasDrawn start record { state = h; drew = drew; refused = refused; asked = asked }
 
 -- the state's refusal of a number, as a source answers it
 abbrev pub refusal_of : StateFault → NumberFault

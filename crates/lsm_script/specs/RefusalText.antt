@@ -3,7 +3,9 @@ use Rattle.std.specs.Prelude.{ℕ, List, ◌++◌, Option, None, Some}
 use Rattle.lsm_text.specs.FaultText.{field_text, read_field, refusal_text, shelf_field}
 use Rattle.lsm_merge.specs.MergeFault as merge
 use Rattle.lsm_merge.specs.declared.merge_fault.MergeFault.{MergeFault}
-use Rattle.lsm_merge.specs.declared.merge_fault.MergeFault.TheVariants.{OutOfMemory, ReadFailed, PutFailed, UnknownTicket, NumbersSpent}
+use Rattle.lsm_merge.specs.declared.merge_fault.MergeFault.TheVariants.{OutOfMemory, ReadFailed}
+use Rattle.lsm_merge.specs.declared.merge_fault.MergeFault.TheVariants.{PutFailed, UnknownTicket}
+use Rattle.lsm_merge.specs.declared.merge_fault.MergeFault.TheVariants.{NumbersSpent}
 use Rattle.lsm_state.specs.StateFault as state
 use Rattle.lsm_state.specs.declared.state_fault.StateFault.{StateFault}
 use Rattle.lsm_state.specs.declared.state_fault.StateFault.TheVariants as state_faults
@@ -56,7 +58,8 @@ merge_cause NumbersSpent = None
 
 -- its number and name, what it names, and what stands behind it
 abbrev pub merge_text : MergeFault → List ℕ
-merge_text fault = refusal_text (merge.number_of fault) (merge.name_of fault) (merge_field fault) ++ field_text (merge_cause fault)
+merge_text fault = refusal_text (merge.number_of fault) (merge.name_of fault) (merge_field fault)
+    ++ field_text (merge_cause fault)
 
 -- ---- of a command
 

@@ -1,5 +1,5 @@
--- What is printed of replies: a line a reply, and for a list of files a line each and `end`. Keys and values stand in a form. This project's
--- rule.
+-- What is printed of replies: a line a reply, and for a list of files a line each and `end`. Keys
+-- and values stand in a form. This project's rule.
 use Rattle.std.specs.Prelude.{ℕ, List, [], ◌∷◌, ◌++◌, codes, decimal}
 use Rattle.std.specs.List.{flat_map}
 use Rattle.lsm_manifest.specs.declared.file_meta.FileMeta.{FileMeta}
@@ -10,7 +10,10 @@ use Rattle.lsm_text.specs.declared.form.Form.TheVariants.{Hex}
 use Rattle.lsm_state.specs.declared.ingest.Ingested.{Ingested as Numbers}
 use Rattle.lsm_script.specs.RefusalText.{refused_text}
 use Rattle.lsm_script.specs.declared.reply.Reply.{Reply}
-use Rattle.lsm_script.specs.declared.reply.Reply.TheVariants.{Ingested, Value, Absent, Snapshot, Released, Job, Move, NoJob, Merged, Installed, Cancelled, Pinned, Unpinned, Removed, Files, Refused}
+use Rattle.lsm_script.specs.declared.reply.Reply.TheVariants.{Ingested, Value, Absent, Snapshot}
+use Rattle.lsm_script.specs.declared.reply.Reply.TheVariants.{Released, Job, Move, NoJob, Merged}
+use Rattle.lsm_script.specs.declared.reply.Reply.TheVariants.{Installed, Cancelled, Pinned}
+use Rattle.lsm_script.specs.declared.reply.Reply.TheVariants.{Unpinned, Removed, Files, Refused}
 use Rattle.lsm_script.specs.declared.reply.Reserved.{Reserved}
 
 -- ---- replies, each without its newline
@@ -29,15 +32,19 @@ two_numbers first m second n = first ++ (decimal m ++ (second ++ decimal n))
 
 -- `file N first F last L`
 unfoldable pub ingested_text : Numbers → List ℕ
-ingested_text r = two_numbers (codes "file ") r.file (codes " first ") r.first ++ (codes " last " ++ decimal r.last)
+ingested_text r = two_numbers (codes "file ") r.file (codes " first ") r.first
+    ++ (codes " last " ++ decimal r.last)
 
 -- `job T level L inputs N N ..`, and for a move `move T level L input N`
 unfoldable pub reserved_text : List ℕ → List ℕ → Reserved → List ℕ
-reserved_text what inputs r = two_numbers what r.ticket (codes " level ") r.level ++ (inputs ++ numbers_text r.inputs)
+reserved_text what inputs r = two_numbers what r.ticket (codes " level ") r.level
+    ++ (inputs ++ numbers_text r.inputs)
 
 -- `NUMBER SIZE SMALLEST LARGEST`, the last two as `KEY@SEQ+` or `KEY@SEQ-`
 unfoldable pub file_words_in : Form → FileMeta → List ℕ
-file_words_in form f = decimal f.number ++ (32 ∷ (decimal f.size ++ (32 ∷ (key_word_in form f.smallest ++ (32 ∷ key_word_in form f.largest)))))
+file_words_in form f = decimal f.number
+    ++ (32 ∷ (decimal f.size ++ (32
+    ∷ (key_word_in form f.smallest ++ (32 ∷ key_word_in form f.largest)))))
 
 -- the same behind the level
 unfoldable pub listed_line : Form → ℕ × FileMeta → List ℕ

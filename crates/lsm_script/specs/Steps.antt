@@ -1,14 +1,22 @@
--- One command after another on a state and its shelf, with the jobs and the results that a script has (this project's rule).
+-- One command after another on a state and its shelf, with the jobs and the results that a script
+-- has (this project's rule).
 use Rattle.std.specs.Prelude.{◌≡◌, List, []}
 use Rattle.lsm_shelf.specs.Told.{Told}
 use Rattle.lsm_merge.specs.Work.{Done, Work}
 use Rattle.lsm_state.specs.Held.{Held}
-use Rattle.lsm_script.specs.Replies.{IsCancelReply, IsCollectReply, IsGetReply, IsIngestReply, IsInstallReply, IsListReply, IsMergeReply, IsPinReply, IsRangeReply, IsReleaseReply, IsReserveReply, IsSnapshotReply, IsUnpinReply}
+use Rattle.lsm_script.specs.Replies.{IsCancelReply, IsCollectReply, IsGetReply, IsIngestReply}
+use Rattle.lsm_script.specs.Replies.{IsInstallReply, IsListReply, IsMergeReply, IsPinReply}
+use Rattle.lsm_script.specs.Replies.{IsRangeReply, IsReleaseReply, IsReserveReply, IsSnapshotReply}
+use Rattle.lsm_script.specs.Replies.{IsUnpinReply}
 use Rattle.lsm_script.specs.declared.command.Command.{Command}
-use Rattle.lsm_script.specs.declared.command.Command.TheVariants.{Ingest, Get, Snapshot, Release, Reserve, ReserveRange, Merge, Install, Cancel, Pin, Unpin, Collect, List as Listing}
+use Rattle.lsm_script.specs.declared.command.Command.TheVariants.{Ingest, Get, Snapshot, Release}
+use Rattle.lsm_script.specs.declared.command.Command.TheVariants.{Reserve, ReserveRange, Merge}
+use Rattle.lsm_script.specs.declared.command.Command.TheVariants.{Install, Cancel, Pin, Unpin}
+use Rattle.lsm_script.specs.declared.command.Command.TheVariants.{Collect, List as Listing}
 use Rattle.lsm_script.specs.declared.reply.Reply.{Reply}
 
--- a state, what its shelf was told, and the script's jobs and results, each in the order in which they came
+-- a state, what its shelf was told, and the script's jobs and results, each in the order in which
+-- they came
 pub record Stage : Type 0 where
   pub state : Held
   pub told : Told
@@ -37,18 +45,29 @@ KeepsAll s t = (t.jobs ≡ s.jobs) × (t.results ≡ s.results)
 
 abbrev pub IsStep : Type 0 → Command → Reply → Stage → Stage → Type 0
 IsStep honest (Ingest ws) r s t = KeepsAll s t × IsIngestReply ws r s.state t.state s.told t.told
-IsStep honest (Get key at) r s t = KeepsAll s t × (t.state ≡ s.state) × IsGetReply honest key at r s.state s.told t.told
+IsStep honest (Get key at) r s t =
+    KeepsAll s t × (t.state ≡ s.state) × IsGetReply honest key at r s.state s.told t.told
 IsStep honest Snapshot r s t = KeepsAll s t × (t.told ≡ s.told) × IsSnapshotReply r s.state t.state
-IsStep honest (Release id) r s t = KeepsAll s t × (t.told ≡ s.told) × IsReleaseReply id r s.state t.state
-IsStep honest Reserve r s t = (t.results ≡ s.results) × (t.told ≡ s.told) × IsReserveReply honest r s.state t.state s.jobs t.jobs
-IsStep honest (ReserveRange level from to) r s t = (t.results ≡ s.results) × (t.told ≡ s.told) × IsRangeReply honest level from to r s.state t.state s.jobs t.jobs
-IsStep honest (Merge ticket) r s t = IsMergeReply honest ticket r s.state t.state s.jobs t.jobs s.results t.results s.told t.told
-IsStep honest (Install ticket) r s t = (t.jobs ≡ s.jobs) × IsInstallReply honest ticket r s.state t.state s.results t.results s.told t.told
-IsStep honest (Cancel ticket) r s t = KeepsAll s t × (t.told ≡ s.told) × IsCancelReply ticket r s.state t.state
+IsStep honest (Release id) r s t =
+    KeepsAll s t × (t.told ≡ s.told) × IsReleaseReply id r s.state t.state
+IsStep honest Reserve r s t = (t.results ≡ s.results) × (t.told ≡ s.told)
+    × IsReserveReply honest r s.state t.state s.jobs t.jobs
+IsStep honest (ReserveRange level from to) r s t =
+    (t.results ≡ s.results) × (t.told ≡ s.told)
+    × IsRangeReply honest level from to r s.state t.state s.jobs t.jobs
+IsStep honest (Merge ticket) r s t =
+    IsMergeReply honest ticket r s.state t.state s.jobs t.jobs s.results t.results s.told t.told
+IsStep honest (Install ticket) r s t =
+    (t.jobs ≡ s.jobs) × IsInstallReply honest ticket r s.state t.state s.results t.results s.told
+    t.told
+IsStep honest (Cancel ticket) r s t =
+    KeepsAll s t × (t.told ≡ s.told) × IsCancelReply ticket r s.state t.state
 IsStep honest Pin r s t = KeepsAll s t × (t.told ≡ s.told) × IsPinReply r s.state t.state
-IsStep honest (Unpin id) r s t = KeepsAll s t × (t.told ≡ s.told) × IsUnpinReply id r s.state t.state
+IsStep honest (Unpin id) r s t =
+    KeepsAll s t × (t.told ≡ s.told) × IsUnpinReply id r s.state t.state
 IsStep honest Collect r s t = KeepsAll s t × IsCollectReply r s.state t.state s.told t.told
-IsStep honest Listing r s t = KeepsAll s t × (t.told ≡ s.told) × (t.state ≡ s.state) × IsListReply r s.state
+IsStep honest Listing r s t = KeepsAll s t × (t.told ≡ s.told) × (t.state ≡ s.state)
+    × IsListReply r s.state
 
 -- such a step, before which the shelf may have been told more, by others who only read
 abbrev pub IsLaterStep : Type 0 → Command → Reply → Stage → Stage → Type 0

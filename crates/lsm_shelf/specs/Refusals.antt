@@ -1,7 +1,9 @@
 -- Which refusals a call of a shelf may have (this project's rule).
 use Rattle.lsm_shelf.specs.declared.shelf_fault.ShelfFault.{ShelfFault}
-use Rattle.lsm_shelf.specs.declared.shelf_fault.ShelfFault.TheVariants.{OutOfMemory, Device, Missing, Taken}
-use Rattle.lsm_shelf.specs.Asked.{Asked, Put, ReadAt, Load, Remove, ListTables, ReadManifest, StartManifest, AppendManifest}
+use Rattle.lsm_shelf.specs.declared.shelf_fault.ShelfFault.TheVariants.{OutOfMemory, Device}
+use Rattle.lsm_shelf.specs.declared.shelf_fault.ShelfFault.TheVariants.{Missing, Taken}
+use Rattle.lsm_shelf.specs.Asked.{Asked, Put, ReadAt, Load, Remove, ListTables, ReadManifest}
+use Rattle.lsm_shelf.specs.Asked.{StartManifest, AppendManifest}
 use Rattle.lsm_shelf.specs.Told.{NotTaken, NotNamed, NotDevice, TakenIs}
 
 -- the kinds of refusal that a call may have, whatever the shelf

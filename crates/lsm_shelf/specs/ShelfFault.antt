@@ -1,7 +1,8 @@
 -- The refusals of a shelf: their numbers and names in docs/FORMATS.md (this project's rule).
 use Rattle.std.specs.Prelude.{ℕ, List, codes}
 use Rattle.lsm_shelf.specs.declared.shelf_fault.ShelfFault.{ShelfFault}
-use Rattle.lsm_shelf.specs.declared.shelf_fault.ShelfFault.TheVariants.{OutOfMemory, Device, Missing, Taken}
+use Rattle.lsm_shelf.specs.declared.shelf_fault.ShelfFault.TheVariants.{OutOfMemory, Device}
+use Rattle.lsm_shelf.specs.declared.shelf_fault.ShelfFault.TheVariants.{Missing, Taken}
 
 abbrev pub number_of : ShelfFault → ℕ
 number_of OutOfMemory = 1

@@ -1,9 +1,11 @@
 -- What contracts see of a shelf's value, and what a call leaves of it (this project's rule).
-use Rattle.std.specs.Prelude.{◌≡◌, ℕ, ◌+◌, ◌-◌, ◌^◌, ◌≤◌, min, List, [], ◌∷◌, ◌++◌, Option, None, Some, Result, Ok, Err}
+use Rattle.std.specs.Prelude.{◌≡◌, ℕ, ◌+◌, ◌-◌, ◌^◌, ◌≤◌, min, List, [], ◌∷◌, ◌++◌, Option, None}
+use Rattle.std.specs.Prelude.{Some, Result, Ok, Err}
 pub use Rattle.lsm_shelf.specs.Place.{Place, in_memory, at_path}
 use Rattle.lsm_shelf.specs.Asked.{Asked, Put, Remove, StartManifest, AppendManifest}
 use Rattle.lsm_shelf.specs.declared.shelf_fault.ShelfFault.{ShelfFault}
-use Rattle.lsm_shelf.specs.declared.shelf_fault.ShelfFault.TheVariants.{OutOfMemory, Device, Missing, Taken}
+use Rattle.lsm_shelf.specs.declared.shelf_fault.ShelfFault.TheVariants.{OutOfMemory, Device}
+use Rattle.lsm_shelf.specs.declared.shelf_fault.ShelfFault.TheVariants.{Missing, Taken}
 
 -- a shelf's value, as its calls told it
 pub record Told : Type 0 where
@@ -37,7 +39,21 @@ pub record Told : Type 0 where
 
 -- a value to which nothing was told yet
 abbrev pub fresh : Place → Told
-fresh p = record { place = p; faults = 0; misses = 0; puts = []; gone = []; listed = None; manifest = None; sent = []; found = None; starts = []; written = []; forks = 0; made = [] }
+fresh p = record {
+  place = p;
+  faults = 0;
+  misses = 0;
+  puts = [];
+  gone = [];
+  listed = None;
+  manifest = None;
+  sent = [];
+  found = None;
+  starts = [];
+  written = [];
+  forks = 0;
+  made = [];
+}
 
 -- the second is the first, but for counts, which do not fall
 pub record Becomes (old new : Told) : Type 0 where
@@ -87,7 +103,8 @@ appending bytes t = record t {
 
 -- it read the manifest, which has this number and these bytes
 abbrev pub finding : ℕ → List ℕ → Told → Told
-finding number bytes t = record t { manifest = Some number; sent = bytes; found = Some (number, bytes) }
+finding number bytes t = record t
+    { manifest = Some number; sent = bytes; found = Some (number, bytes) }
 
 -- it gave so many forks
 abbrev pub forking : ℕ → Told → Told

@@ -1,5 +1,7 @@
 -- The versions of a store, by the slots of its board of pins (this project's rule).
-use Rattle.std.specs.Prelude.{◌≡◌, ◌≢◌, ℕ, suc, ◌-◌, ◌≤◌, ◌<◌, ◌⊎◌, ◌==◌, if◌then◌else◌, Bool, false, List, [], ◌∷◌, ◌++◌, length, map, replicate, Option, Some, None, slice_get, slice_set}
+use Rattle.std.specs.Prelude.{◌≡◌, ◌≢◌, ℕ, suc, ◌-◌, ◌≤◌, ◌<◌, ◌⊎◌, ◌==◌, if◌then◌else◌, Bool}
+use Rattle.std.specs.Prelude.{false, List, [], ◌∷◌, ◌++◌, length, map, replicate, Option, Some}
+use Rattle.std.specs.Prelude.{None, slice_get, slice_set}
 use Rattle.lsm_version.specs.Versions.{Levels, numbers_in}
 use Rattle.lsm_pins.specs.Known.{Known}
 use Rattle.lsm_pins.specs.View.{HasId, slot_ids}
@@ -10,7 +12,8 @@ pub record Epoch : Type 0 where
   pub version : Levels
   pub pins : ℕ
 
--- the publisher's end of the board, the current version, and what is in each slot: nothing where it is free
+-- the publisher's end of the board, the current version, and what is in each slot: nothing where it
+-- is free
 pub record Slotted : Type 0 where
   pub board : Known
   pub version : Levels
@@ -30,19 +33,27 @@ abbrev pub id_of : Option Epoch → Option ℕ
 id_of None = None
 id_of (Some e) = Some e.id
 
--- The slots are the board's: each has the version of its id, the free ones have none, and the current one has the current version. No two
--- slots have one id, and none has a later one than the current.
+-- The slots are the board's: each has the version of its id, the free ones have none, and the
+-- current one has the current version. No two slots have one id, and none has a later one than the
+-- current.
 pub record AreSlots (s : Slotted) : Type 0 where
   pub ids : map id_of s.epochs ≡ slot_ids s.board.knows
   pub few : length s.epochs ≤ 64
   pub pins : ℕ
-  pub current : slice_get s.epochs (current_slot s) ≡ Some (Some record { id = current_id s; version = s.version; pins = pins })
+  pub current : slice_get s.epochs (current_slot s)
+      ≡ Some (Some record { id = current_id s; version = s.version; pins = pins })
   pub below : (i id : ℕ) → HasId s.board.knows i id → id ≤ current_id s
   pub one_each : (i j id : ℕ) → HasId s.board.knows i id → HasId s.board.knows j id → i ≡ j
 
 -- the slots of a new board: the version is current in slot 0
 abbrev pub first_slots : Known → ℕ → Levels → Slotted
-first_slots board slots version = record { board = board; version = version; epochs = Some record { id = board.knows.id; version = version; pins = 0 } ∷ replicate (slots - 1) None }
+first_slots board slots version =
+    record {
+      board = board;
+      version = version;
+      epochs = Some record
+          { id = board.knows.id; version = version; pins = 0 } ∷ replicate (slots - 1) None;
+    }
 
 -- ---- what is in a slot
 
@@ -106,7 +117,8 @@ pub record Looked (old new : Slotted) : Type 0 where
   pub slot : current_slot new ≡ current_slot old
   pub version : new.version ≡ old.version
   pub length : length new.epochs ≡ length old.epochs
-  pub each : (slot : ℕ) → (slice_get new.epochs slot ≡ slice_get old.epochs slot) ⊎ Freed old new slot
+  pub each : (slot : ℕ) → (slice_get new.epochs slot ≡ slice_get old.epochs slot)
+      ⊎ Freed old new slot
 
 -- ---- publications and pins
 
@@ -118,7 +130,8 @@ pub record Published (old new : Slotted) (version : Levels) : Type 0 where
   pub id : current_id new ≡ suc (current_id old)
   pub slot_is : current_slot new ≡ slot
   pub version_is : new.version ≡ version
-  pub epochs : new.epochs ≡ slice_set old.epochs slot (Some record { id = suc (current_id old); version = version; pins = 0 })
+  pub epochs : new.epochs ≡ slice_set old.epochs slot
+      (Some record { id = suc (current_id old); version = version; pins = 0 })
 
 -- The pins of the version of this id went from one count to another, and nothing else changed.
 pub record PinsMove (old new : Slotted) (id from to : ℕ) : Type 0 where
@@ -127,7 +140,9 @@ pub record PinsMove (old new : Slotted) (id from to : ℕ) : Type 0 where
   pub had : HasEpoch old slot epoch
   pub its : epoch.id ≡ id
   pub from_is : epoch.pins ≡ from
-  pub is : new ≡ record old { epochs = slice_set old.epochs slot (Some (record epoch { pins = to })) }
+  pub is : new ≡ record old {
+    epochs = slice_set old.epochs slot (Some (record epoch { pins = to }));
+  }
 
 -- ---- numbers
 

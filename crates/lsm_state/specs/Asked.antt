@@ -39,8 +39,11 @@ IngestRefused Refused h ws fault = PutRefused Refused h ws fault
 
 -- the write of the manifest by which a result is installed
 abbrev pub InstallRefused : (Asked → ShelfFault → Type 0) → Held → Done → ShelfFault → Type 0
-InstallRefused Refused h d fault = (change : Difference) × IsInstallChange d h.slots.version.last change × ChangeRefused Refused h change fault
+InstallRefused Refused h d fault =
+    (change : Difference) × IsInstallChange d h.slots.version.last change
+    × ChangeRefused Refused h change fault
 
 -- the listing of tables, or the removal of one that is not kept
 abbrev pub CollectRefused : (Asked → ShelfFault → Type 0) → Held → ShelfFault → Type 0
-CollectRefused Refused h fault = Refused ListTables fault ⊎ ((n : ℕ) × (IsKeptNumber h n → ⊥) × Refused (Remove n) fault)
+CollectRefused Refused h fault =
+    Refused ListTables fault ⊎ ((n : ℕ) × (IsKeptNumber h n → ⊥) × Refused (Remove n) fault)

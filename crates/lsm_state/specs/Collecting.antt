@@ -1,5 +1,6 @@
 -- What is kept of the tables on the shelf, and what a collect removes (this project's rule).
-use Rattle.std.specs.Prelude.{◌≡◌, ℕ, ◌⊎◌, ◌↔◌, Bool, true, false, List, [], ◌∷◌, ◌++◌, map, not, ◌==◌, Err}
+use Rattle.std.specs.Prelude.{◌≡◌, ℕ, ◌⊎◌, ◌↔◌, Bool, true, false, List, [], ◌∷◌, ◌++◌, map, not}
+use Rattle.std.specs.Prelude.{◌==◌, Err}
 use Rattle.std.specs.List.{filter, list_any}
 use Rattle.lsm_codec.specs.Lists.{Has}
 use Rattle.lsm_model.specs.Files.{File}
@@ -19,7 +20,8 @@ use Rattle.lsm_state.specs.declared.state_fault.StateFault.TheVariants.{Halted, 
 
 -- a version that has a slot names the number, or a live job has drawn it
 abbrev pub IsKeptNumber : Held → ℕ → Type 0
-IsKeptNumber h n = ((slot : ℕ) × (e : Epoch) × (F : File) × HasEpoch h.slots slot e × Has (files e.version) F × (F.number ≡ n))
+IsKeptNumber h n = ((slot : ℕ) × (e : Epoch) × (F : File) × HasEpoch h.slots slot e
+    × Has (files e.version) F × (F.number ≡ n))
     ⊎ ((b : Booked) × Has h.live b × Has b.drawn n)
 
 abbrev pub is_in : List ℕ → ℕ → Bool
@@ -45,20 +47,26 @@ pub record AreCollected (h : Held) (removed : List ℕ) (was is : Told) : Type 0
   pub removed_are : removed ≡ outside kept listed
   pub told : Becomes (removing_all removed (listing listed was)) is
 
--- The removal of numbers stopped: those at the front were removed, and the next one was perhaps asked for.
+-- The removal of numbers stopped: those at the front were removed, and the next one was perhaps
+-- asked for.
 pub record IsStopped (ns removed : List ℕ) (was is : Told) : Type 0 where
   pub back : List ℕ
   pub parts : ns ≡ removed ++ back
-  pub asked : Becomes (removing_all removed was) is ⊎ ((n : ℕ) × (rest : List ℕ) × (back ≡ n ∷ rest) × Becomes (removing_all (removed ++ n ∷ []) was) is)
+  pub asked : Becomes (removing_all removed was) is
+      ⊎ ((n : ℕ) × (rest : List ℕ) × (back ≡ n ∷ rest)
+      × Becomes (removing_all (removed ++ n ∷ []) was) is)
 
--- No table was removed, since the numbers were not known; or the removal of those that are not kept stopped.
+-- No table was removed, since the numbers were not known; or the removal of those that are not kept
+-- stopped.
 abbrev pub StoppedEarly : Held → List ℕ → Told → Told → Type 0
 StoppedEarly h removed was is = ((removed ≡ []) × Becomes was is)
-    ⊎ ((listed : List ℕ) × (kept : List ℕ) × ((n : ℕ) → Has kept n ↔ IsKeptNumber h n) × IsStopped (outside kept listed) removed (listing listed was) is)
+    ⊎ ((listed : List ℕ) × (kept : List ℕ) × ((n : ℕ) → Has kept n ↔ IsKeptNumber h n)
+    × IsStopped (outside kept listed) removed (listing listed was) is)
 
 -- no table went but those of the list, and nothing else was changed
 abbrev pub TellsAll : List ℕ → Told → Told → Type 0
-TellsAll removed was is = (is.gone ≡ going removed was.gone) × (is.made ≡ going (removals_of removed) was.made)
+TellsAll removed was is = (is.gone ≡ going removed was.gone)
+    × (is.made ≡ going (removals_of removed) was.made)
 
 -- the shelf was refused memory
 abbrev pub IsRefusedMemory : ShelfFault → Type 0
@@ -77,7 +85,8 @@ IsMemoryOrShelf OutOfMemory was is = Unit {0}
 IsMemoryOrShelf (Shelf fault) was is = Counted fault was is
 IsMemoryOrShelf e was is = ⊥
 
--- What a refused call counted: a refusal of the shelf, which is no `Taken`, just once, and else nothing.
+-- What a refused call counted: a refusal of the shelf, which is no `Taken`, just once, and else
+-- nothing.
 abbrev pub IsCountedOnce : StateFault → Told → Told → Type 0
 IsCountedOnce OutOfMemory was is = SameCounts was is
 IsCountedOnce Halted was is = SameCounts was is
@@ -91,5 +100,7 @@ pub record HasLookedAround (old new : Held) : Type 0 where
 
 -- Why a collect is refused: the state is halted, and nothing was done; else it stopped early.
 abbrev pub IsCollectRefusal : Held → Held → StateFault → List ℕ → Told → Told → Type 0
-IsCollectRefusal old new e removed was is = ((e ≡ Halted) × (old.halted ≡ true) × (new ≡ old) × (removed ≡ []) × Becomes was is)
-    ⊎ ((old.halted ≡ false) × HasLookedAround old new × StoppedEarly new removed was is × IsMemoryOrShelf e was is)
+IsCollectRefusal old new e removed was is =
+    ((e ≡ Halted) × (old.halted ≡ true) × (new ≡ old) × (removed ≡ []) × Becomes was is)
+    ⊎ ((old.halted ≡ false) × HasLookedAround old new × StoppedEarly new removed was is
+    × IsMemoryOrShelf e was is)

@@ -9,7 +9,8 @@ use Rattle.lsm_slots.specs.Slots.{Epoch, HasEpoch, Slotted, current_id}
 abbrev pub edition : ℕ → Levels → Edition
 edition id v = record { id = id; tables = numbers_in v }
 
--- Each version in a slot is listed under its id. No id is above the current one, and none stands for two.
+-- Each version in a slot is listed under its id. No id is above the current one, and none stands
+-- for two.
 pub record AreEditions (s : Slotted) (editions : List Edition) : Type 0 where
   pub each : (slot : ℕ) (e : Epoch) → HasEpoch s slot e → Has editions (edition e.id e.version)
   pub upto : (x : Edition) → Has editions x → x.id ≤ current_id s

@@ -31,7 +31,8 @@ pub record Held : Type 0 where
   pub halted : Bool
   -- the pinners that were not taken yet
   pub pinners : List Known
-  -- all that ever came in, the latest batch first, and behind it what the version held that was opened
+  -- all that ever came in, the latest batch first, and behind it what the version held that was
+  -- opened
   pub history : List Entry
 
 -- a state as the plain machine has it
@@ -46,18 +47,21 @@ plain h = record {
   live = lives_of h.live;
 }
 
--- The manifest held records the current version; after its records stands nothing, unless the state is halted.
+-- The manifest held records the current version; after its records stands nothing, unless the state
+-- is halted.
 abbrev pub IsJournaled : Held → Type 0
-IsJournaled h = (rest : ℕ) × IsRecorded rest h.journal h.slots.version h.next × (h.halted ≡ false → rest ≡ 0)
+IsJournaled h = (rest : ℕ) × IsRecorded rest h.journal h.slots.version h.next
+    × (h.halted ≡ false → rest ≡ 0)
 
 -- the version has the inputs of the job, as tables, at its level and the next
 pub record HasInputs (v : Levels) (w : Work) : Type 0 where
   pub upper : (t : Table) → Has w.upper t → Has (level_in v.tables w.level) t
   pub lower : (t : Table) → Has w.lower t → Has (level_in v.tables (suc w.level)) t
 
--- The law of a state: it keeps the machine's, its manifest records its version, each number of a version in a slot is below the next, the
--- pinners not yet taken are at the board and hold nothing, and the inputs of live jobs are tables of the version. Over an honest shelf every
--- read that is promised, at the last sequence or a live snapshot's, gives what it gives over the whole history.
+-- The law of a state: it keeps the machine's, its manifest records its version, each number of a
+-- version in a slot is below the next, the pinners not yet taken are at the board and hold nothing,
+-- and the inputs of live jobs are tables of the version. Over an honest shelf every read that is
+-- promised, at the last sequence or a live snapshot's, gives what it gives over the whole history.
 pub record IsLawfulState (Honest : Type 0) (board : TableId) (h : Held) : Type 0 where
   pub law : Law Honest (plain h)
   pub journaled : IsJournaled h

@@ -1,6 +1,7 @@
--- What an ingest leaves of a state, and why it is refused (this project's rule; LevelDB writes a level 0 table in
--- `DBImpl::WriteLevel0Table`).
-use Rattle.std.specs.Prelude.{◌≡◌, ℕ, suc, ◌+◌, ◌^◌, ◌<◌, ◌≤◌, ◌⊎◌, false, true, if◌then◌else◌, List, [], ◌∷◌, length, None}
+-- What an ingest leaves of a state, and why it is refused (this project's rule; LevelDB writes a
+-- level 0 table in `DBImpl::WriteLevel0Table`).
+use Rattle.std.specs.Prelude.{◌≡◌, ℕ, suc, ◌+◌, ◌^◌, ◌<◌, ◌≤◌, ◌⊎◌, false, true, if◌then◌else◌}
+use Rattle.std.specs.Prelude.{List, [], ◌∷◌, length, None}
 use Rattle.lsm_codec.specs.Entries.{Entry}
 use Rattle.lsm_shelf.specs.Told.{Told, Becomes, putting}
 use Rattle.lsm_block.specs.declared.build_fault.BuildFault.{BuildFault}
@@ -18,13 +19,18 @@ use Rattle.lsm_batch.specs.declared.batch_fault.BatchFault.TheVariants as batch
 use Rattle.lsm_batch.specs.declared.write.Write.{Write}
 use Rattle.lsm_batch.specs.Batches.{IsBatch, IsBatchRefusal, entries_from}
 use Rattle.lsm_batch.specs.Images.{IsPutRefusal, PassesTable}
-use Rattle.lsm_state.specs.Changing.{ChangesVersion, HasSlot, IsChangeRefusal, IsSlotRefusal, Sought}
+use Rattle.lsm_state.specs.Changing.{ChangesVersion, HasSlot, IsChangeRefusal, IsSlotRefusal}
+use Rattle.lsm_state.specs.Changing.{Sought}
 use Rattle.lsm_state.specs.Collecting.{SameCounts}
 use Rattle.lsm_state.specs.Held.{Held}
 use Rattle.lsm_state.specs.Options.{sizes_of}
 use Rattle.lsm_state.specs.declared.ingest.Ingested.{Ingested}
 use Rattle.lsm_state.specs.declared.state_fault.StateFault.{StateFault}
-use Rattle.lsm_state.specs.declared.state_fault.StateFault.TheVariants.{EmptyBatch, Halted, KeyOrder, LevelZeroFull, NumbersSpent, OutOfMemory, SequencesSpent, Shelf, TooLarge}
+use Rattle.lsm_state.specs.declared.state_fault.StateFault.TheVariants.{EmptyBatch, Halted}
+use Rattle.lsm_state.specs.declared.state_fault.StateFault.TheVariants.{KeyOrder, LevelZeroFull}
+use Rattle.lsm_state.specs.declared.state_fault.StateFault.TheVariants.{NumbersSpent, OutOfMemory}
+use Rattle.lsm_state.specs.declared.state_fault.StateFault.TheVariants.{SequencesSpent, Shelf}
+use Rattle.lsm_state.specs.declared.state_fault.StateFault.TheVariants.{TooLarge}
 
 -- ---- what comes in
 
@@ -60,8 +66,9 @@ with_slots h s = record h { slots = s }
 abbrev pub with_number : Held → Slotted → Held
 with_number h s = record h { slots = s; next = suc h.next }
 
--- The batch came in: slots were looked at, where none was free; its table, with its image, was put under the next number; and the version has it at level 0
--- from then on, with a greater last sequence. Just its entries came into the history.
+-- The batch came in: slots were looked at, where none was free; its table, with its image, was put
+-- under the next number; and the version has it at level 0 from then on, with a greater last
+-- sequence. Just its entries came into the history.
 pub record Ingests (old new : Held) (ws : List Write) (r : Ingested) (was is : Told) : Type 0 where
   pub file : r.file ≡ old.next
   pub first : r.first ≡ suc old.slots.version.last
@@ -72,7 +79,8 @@ pub record Ingests (old new : Held) (ws : List Write) (r : Ingested) (was is : T
   pub is_table : IsTableOf (entries_of old ws) old.next table
   pub mid : Told
   pub put : Becomes (putting old.next table.image was) mid
-  pub changes : ChangesVersion (with_number old slots) new (coming_in table (last_of old ws)) None (entries_of old ws) mid is
+  pub changes : ChangesVersion (with_number old slots) new (coming_in table (last_of old ws)) None
+      (entries_of old ws) mid is
   -- the table is written with the options' sizes
   pub bytes : table.image ≡ table_bytes_of old ws
 
@@ -105,7 +113,8 @@ pub record IsWelcome (h : Held) (ws : List Write) : Type 0 where
   pub sequences : HasSequences h ws
   pub numbers : HasNumbers h
 
--- What does, in this order: the state is halted; the batch is none; level 0 is full; sequences; numbers.
+-- What does, in this order: the state is halted; the batch is none; level 0 is full; sequences;
+-- numbers.
 abbrev pub IsEarlyRefusal : Held → List Write → StateFault → Type 0
 IsEarlyRefusal h ws Halted = h.halted ≡ true
 IsEarlyRefusal h ws EmptyBatch = (h.halted ≡ false) × IsBatchRefusal ws batch.EmptyBatch
@@ -113,14 +122,16 @@ IsEarlyRefusal h ws TooLarge = (h.halted ≡ false) × IsBatchRefusal ws batch.T
 IsEarlyRefusal h ws (KeyOrder place) = (h.halted ≡ false) × IsBatchRefusal ws (batch.KeyOrder place)
 IsEarlyRefusal h ws LevelZeroFull = Takes h ws × (12 ≤ length (level_in h.slots.version.tables 0))
 IsEarlyRefusal h ws SequencesSpent = Takes h ws × HasRoom h × (2 ^ 56 ≤ last_of h ws)
-IsEarlyRefusal h ws NumbersSpent = Takes h ws × HasRoom h × HasSequences h ws × (2 ^ 64 ≤ h.next + numbers_needed h)
+IsEarlyRefusal h ws NumbersSpent =
+    Takes h ws × HasRoom h × HasSequences h ws × (2 ^ 64 ≤ h.next + numbers_needed h)
 IsEarlyRefusal h ws e = ⊥
 
 -- ---- refusals after that
 
 -- no slot: looks were made, and nothing else was done
 abbrev pub LacksSlot : Held → Held → StateFault → Told → Told → Type 0
-LacksSlot old new e was is = (new ≡ with_slots old new.slots) × Sought old.slots new.slots × IsSlotRefusal old.slots new.slots e × (is ≡ was)
+LacksSlot old new e was is = (new ≡ with_slots old new.slots) × Sought old.slots new.slots
+    × IsSlotRefusal old.slots new.slots e × (is ≡ was)
 
 -- the table was not built: memory was wanted, or a block would pass 2^32 - 1 bytes
 abbrev pub IsBuildRefusal : TableOptions → List Entry → StateFault → Type 0
@@ -129,7 +140,9 @@ IsBuildRefusal sizes es TooLarge = PassesTable sizes es
 IsBuildRefusal sizes es e = ⊥
 
 abbrev pub FailsToBuild : Held → Held → List Write → StateFault → Told → Told → Type 0
-FailsToBuild old new ws e was is = (new ≡ with_slots old new.slots) × IsBuildRefusal (sizes_of old.options) (entries_of old ws) e × (is ≡ was)
+FailsToBuild old new ws e was is =
+    (new ≡ with_slots old new.slots) × IsBuildRefusal (sizes_of old.options) (entries_of old ws) e
+    × (is ≡ was)
 
 -- the table of this image was not put, or its record found no memory
 abbrev pub IsPutFault : ℕ → List ℕ → StateFault → Told → Told → Type 0
@@ -137,20 +150,26 @@ IsPutFault number image (Shelf fault) was is = IsPutRefusal number image fault w
 IsPutFault number image e was is = ⊥
 
 abbrev pub FailsToPut : Held → Held → List Write → StateFault → Told → Told → Type 0
-FailsToPut old new ws e was is = (new ≡ with_number old new.slots) × IsPutFault old.next (table_bytes_of old ws) e was is
+FailsToPut old new ws e was is =
+    (new ≡ with_number old new.slots) × IsPutFault old.next (table_bytes_of old ws) e was is
 
 -- the batch's table was put, and then the change was refused
 abbrev pub FailsToChange : Held → Held → List Write → StateFault → Told → Told → Type 0
-FailsToChange old new ws e was is = (mid : Told) × Becomes (putting old.next (table_bytes_of old ws) was) mid × SameCounts was mid × IsChangeRefusal (with_number old new.slots) new e mid is
+FailsToChange old new ws e was is =
+    (mid : Told) × Becomes (putting old.next (table_bytes_of old ws) was) mid × SameCounts was mid
+    × IsChangeRefusal (with_number old new.slots) new e mid is
     × Becomes mid is
 
--- Why an ingest is refused, and what it leaves. What can be tested first comes first, and leaves all as it was; then a slot is looked for; then,
--- where one is free and an id is left, the table is built. From its put on the number is spent.
+-- Why an ingest is refused, and what it leaves. What can be tested first comes first, and leaves
+-- all as it was; then a slot is looked for; then, where one is free and an id is left, the table is
+-- built. From its put on the number is spent.
 abbrev pub IsIngestRefusal : Held → Held → List Write → StateFault → Told → Told → Type 0
 IsIngestRefusal old new ws e was is =
     (IsEarlyRefusal old ws e × (new ≡ old) × (is ≡ was))
-    ⊎ (IsWelcome old ws × (LacksSlot old new e was is ⊎ (Sought old.slots new.slots × HasSlot new.slots
-    × (FailsToBuild old new ws e was is ⊎ (FailsToPut old new ws e was is ⊎ FailsToChange old new ws e was is)))))
+    ⊎ (IsWelcome old ws × (LacksSlot old new e was is
+    ⊎ (Sought old.slots new.slots × HasSlot new.slots
+    × (FailsToBuild old new ws e was is
+    ⊎ (FailsToPut old new ws e was is ⊎ FailsToChange old new ws e was is)))))
 
 -- ---- names of refusals
 

@@ -1,4 +1,5 @@
--- What a state is made with, and a new one (this project's rule; the first manifest is LevelDB's `DBImpl::NewDB`).
+-- What a state is made with, and a new one (this project's rule; the first manifest is LevelDB's
+-- `DBImpl::NewDB`).
 use Rattle.std.specs.Prelude.{◌≡◌, ℕ, ◌+◌, false, List, []}
 use Rattle.std.specs.List.{All}
 use Rattle.atomic_table.specs.Seated.{TableId}
@@ -13,7 +14,8 @@ use Rattle.lsm_state.specs.Held.{Held}
 use Rattle.lsm_state.specs.declared.options.Options.{Options}
 
 -- The ends of a board that was just made, with the slots and the readers of the options.
-pub record IsNewBoard (board : TableId) (o : Options) (publisher : Known) (pinners : List Known) : Type 0 where
+pub record IsNewBoard (board : TableId) (o : Options) (publisher : Known) (pinners : List Known)
+    : Type 0 where
   pub id : ℕ
   pub here : publisher.board ≡ board
   pub made : publisher.knows ≡ after_making o.versions id o.readers
@@ -23,7 +25,8 @@ pub record IsNewBoard (board : TableId) (o : Options) (publisher : Known) (pinne
 abbrev pub IsNewHistory : TableId → NewHistory → Type 0
 IsNewHistory id history = history.table.shared.table_id ≡ id
 
--- no table, no snapshot, no job, and nothing came in; the manifest has this number, and the next number is one more
+-- no table, no snapshot, no job, and nothing came in; the manifest has this number, and the next
+-- number is one more
 abbrev pub created_state_under : ℕ → Options → Known → List Known → Held
 created_state_under number o publisher pinners = record {
   options = o;

@@ -1,4 +1,5 @@
--- What a state is when its database is opened, and why it is not (that a new manifest begins each time is this project's rule).
+-- What a state is when its database is opened, and why it is not (that a new manifest begins each
+-- time is this project's rule).
 use Rattle.std.specs.Prelude.{◌≡◌, ℕ, ◌+◌, ◌-◌, ◌^◌, ◌<◌, ◌⊎◌, Bool, List, []}
 use Rattle.lsm_pins.specs.Known.{Known}
 use Rattle.lsm_shelf.specs.Asked.{Asked}
@@ -13,11 +14,12 @@ use Rattle.lsm_journal.specs.Sending.{RollsOver, started_by}
 use Rattle.lsm_state.specs.Held.{Held}
 use Rattle.lsm_state.specs.declared.options.Options.{Options}
 use Rattle.lsm_journal.specs.declared.open_fault.OpenFault.{OpenFault}
-use Rattle.lsm_journal.specs.declared.open_fault.OpenFault.TheVariants.{OutOfMemory, Shelf, Recover, Check, NumbersSpent}
+use Rattle.lsm_journal.specs.declared.open_fault.OpenFault.TheVariants.{OutOfMemory, Shelf, Recover}
+use Rattle.lsm_journal.specs.declared.open_fault.OpenFault.TheVariants.{Check, NumbersSpent}
 pub use Rattle.lsm_journal.specs.Finding.{IsFound, IsFindRefusal, IsReadOnce}
 
--- A state of this version and this manifest: the version in the first slot, no snapshot, no job. Its history begins with all that the version
--- holds.
+-- A state of this version and this manifest: the version in the first slot, no snapshot, no job.
+-- Its history begins with all that the version holds.
 abbrev pub opened_state : Options → Known → List Known → Levels → HeldManifest → ℕ → Bool → Held
 opened_state o publisher pinners version journal next halted = record {
   options = o;
@@ -32,9 +34,10 @@ opened_state o publisher pinners version journal next halted = record {
   history = all_entries (files version);
 }
 
--- The manifest that was found records the version. The manifest held is a new one, whose one edit spells it, and has the number that was
--- next; both are what the shelf was sent.
-pub record IsBegun (Honest : Type 0) (limit : ℕ) (h : HeldManifest) (v : Levels) (next : ℕ) (was is : Told) : Type 0 where
+-- The manifest that was found records the version. The manifest held is a new one, whose one edit
+-- spells it, and has the number that was next; both are what the shelf was sent.
+pub record IsBegun (Honest : Type 0) (limit : ℕ) (h : HeldManifest) (v : Levels) (next : ℕ)
+    (was is : Told) : Type 0 where
   pub before : HeldManifest
   pub rest : ℕ
   pub number : ℕ
@@ -47,7 +50,8 @@ pub record IsBegun (Honest : Type 0) (limit : ℕ) (h : HeldManifest) (v : Level
 -- ---- refusals
 
 -- The new manifest was refused by the shelf, or for want of memory.
-pub record IsUnstarted (Refused : Asked → ShelfFault → Type 0) (Honest : Type 0) (limit : ℕ) (e : ShelfFault) (was is : Told) : Type 0 where
+pub record IsUnstarted (Refused : Asked → ShelfFault
+    → Type 0) (Honest : Type 0) (limit : ℕ) (e : ShelfFault) (was is : Told) : Type 0 where
   pub held : HeldManifest
   pub version : Levels
   pub rest : ℕ
@@ -66,7 +70,8 @@ pub record IsNumberless (Honest : Type 0) (limit : ℕ) (was is : Told) : Type 0
   pub found : IsFound Honest limit held version rest (2 ^ 64 - 1) was is
 
 -- Why no new manifest begins where all was read.
-abbrev pub IsStartRefusal : (Asked → ShelfFault → Type 0) → Type 0 → ℕ → OpenFault → Told → Told → Type 0
+abbrev pub IsStartRefusal : (Asked → ShelfFault → Type 0) → Type 0 → ℕ → OpenFault → Told → Told
+    → Type 0
 IsStartRefusal Refused Honest limit (Shelf e) was is = IsUnstarted Refused Honest limit e was is
 IsStartRefusal Refused Honest limit NumbersSpent was is = IsNumberless Honest limit was is
 IsStartRefusal Refused Honest limit (Recover e) was is = ⊥
@@ -74,5 +79,7 @@ IsStartRefusal Refused Honest limit (Check e) was is = ⊥
 IsStartRefusal Refused Honest limit OutOfMemory was is = ⊥
 
 -- Why no database is opened: it could not be read; or no new manifest could begin.
-abbrev pub IsOpenRefusal : (ℕ → List ℕ → Type 0) → (Asked → ShelfFault → Type 0) → Type 0 → ℕ → OpenFault → Told → Told → Type 0
-IsOpenRefusal Stored Refused Honest limit e was is = IsFindRefusal Stored Refused Honest e was is ⊎ IsStartRefusal Refused Honest limit e was is
+abbrev pub IsOpenRefusal : (ℕ → List ℕ → Type 0) → (Asked → ShelfFault → Type 0) → Type 0 → ℕ
+    → OpenFault → Told → Told → Type 0
+IsOpenRefusal Stored Refused Honest limit e was is =
+    IsFindRefusal Stored Refused Honest e was is ⊎ IsStartRefusal Refused Honest limit e was is

@@ -18,9 +18,11 @@ abbrev pub IsUnknown : Held → Option ℕ → StateFault → Type 0
 IsUnknown h None e = ⊥
 IsUnknown h (Some id) e = (e ≡ UnknownSnapshot id) × (HasId h.snapshots.taken id → ⊥)
 
--- The snapshot is unknown, or a table could not be read, where the snapshot is known; a refusal of the shelf comes with a count that rose.
+-- The snapshot is unknown, or a table could not be read, where the snapshot is known; a refusal of
+-- the shelf comes with a count that rose.
 abbrev pub IsReadRefusal : Held → Option ℕ → Told → Told → StateFault → Type 0
-IsReadRefusal h at was is (Read fault) = ((seq : ℕ) × IsSequence h at seq) × ReadCounted fault was is
+IsReadRefusal h at was is (Read fault) =
+    ((seq : ℕ) × IsSequence h at seq) × ReadCounted fault was is
 IsReadRefusal h at was is e = IsUnknown h at e
 
 -- over an honest shelf no bytes are wrong

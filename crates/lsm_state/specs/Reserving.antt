@@ -1,5 +1,5 @@
--- Reservations: what a job gets at its moment, and why there is none (LevelDB's `doc/impl.md`, "Compactions"; several jobs at a time are
--- this project's).
+-- Reservations: what a job gets at its moment, and why there is none (LevelDB's `doc/impl.md`,
+-- "Compactions"; several jobs at a time are this project's).
 use Rattle.std.specs.Prelude.{◌≡◌, ℕ, suc, ◌-◌, ◌^◌, ◌<◌, ◌≤◌, true, false, List, [], ◌∷◌, ◌++◌}
 use Rattle.lsm_codec.specs.Keys.{UserKey}
 use Rattle.lsm_codec.specs.Lists.{Has}
@@ -18,14 +18,15 @@ use Rattle.lsm_live.specs.Reserving.{reserved_jobs}
 use Rattle.lsm_state.specs.Held.{Held, plain}
 use Rattle.lsm_state.specs.Options.{sizes_of}
 use Rattle.lsm_state.specs.declared.state_fault.StateFault.{StateFault}
-use Rattle.lsm_state.specs.declared.state_fault.StateFault.TheVariants.{BadLevel, Conflict, Halted, NumbersSpent, OutOfMemory}
+use Rattle.lsm_state.specs.declared.state_fault.StateFault.TheVariants.{BadLevel, Conflict, Halted}
+use Rattle.lsm_state.specs.declared.state_fault.StateFault.TheVariants.{NumbersSpent, OutOfMemory}
 
 -- the plan of a job: its level, its tables there and at the next level, and its hull
 abbrev pub plan_in : Work → TablePlan
 plan_in w = record { level = w.level; upper = w.upper; lower = w.lower; low = w.low; high = w.high }
 
--- What a job gets at its reservation: the next ticket, the oldest live snapshot's sequence or the last one as its floor, the ranges of the
--- files two or more levels below, and the state's sizes.
+-- What a job gets at its reservation: the next ticket, the oldest live snapshot's sequence or the
+-- last one as its floor, the ranges of the files two or more levels below, and the state's sizes.
 pub record IsOfMoment (h : Held) (w : Work) : Type 0 where
   pub ticket : w.ticket ≡ h.next_ticket
   pub floor : w.floor ≡ floor_of h.slots.version.last h.snapshots.taken
@@ -39,17 +40,19 @@ reserved w h = record h { live = h.live ++ new_booked w ∷ []; next_ticket = su
 
 -- the reservation is an event of the plain machine
 abbrev pub IsReserving : Type 0 → Held → Work → Held → Type 0
-IsReserving honest old w new = Reserves honest (plain old) (plan_of (plan_in w)) (job_of w) (plain new)
+IsReserving honest old w new =
+    Reserves honest (plain old) (plan_of (plan_in w)) (job_of w) (plain new)
 
--- The inputs of each level from 1 on stand one after another, and no two entries of all inputs have one internal key. So a merge of them over
--- an honest shelf is never refused as out of order.
+-- The inputs of each level from 1 on stand one after another, and no two entries of all inputs have
+-- one internal key. So a merge of them over an honest shelf is never refused as out of order.
 pub record HasOrderedInputs (w : Work) : Type 0 where
   pub order : StandInOrder w
   pub single : HasTwins (all_entries (job_of w).inputs) → ⊥
 
 -- the plan is closed, from some starting files
 abbrev pub IsClosedPlan : Held → TablePlan → Type 0
-IsClosedPlan h p = (starts : List Rattle.lsm_model.specs.Files.File) × IsPlanFrom h.slots.version (Has starts) p
+IsClosedPlan h p = (starts : List Rattle.lsm_model.specs.Files.File)
+    × IsPlanFrom h.slots.version (Has starts) p
 
 -- a refusal of a range plan, as the state answers it
 abbrev pub plan_refusal : PlanFault → StateFault
@@ -62,10 +65,12 @@ plan_refusal (planned.BadLevel level) = BadLevel level
 abbrev pub IsChosen : Held → TablePlan → Type 0
 IsChosen h p = IsChoice h.slots.version (reserved_jobs h.live) p
 
--- Why there is no chosen job: the state is halted; or there is one, but its ticket would be 2^64 - 1; or memory was refused.
+-- Why there is no chosen job: the state is halted; or there is one, but its ticket would be 2^64 -
+-- 1; or memory was refused.
 abbrev pub IsReserveRefusal : Type 0 → Held → StateFault → Type 0
 IsReserveRefusal honest h Halted = h.halted ≡ true
-IsReserveRefusal honest h NumbersSpent = (h.halted ≡ false) × (h.next_ticket ≡ 2 ^ 64 - 1) × (honest → (p : TablePlan) × IsChosen h p)
+IsReserveRefusal honest h NumbersSpent =
+    (h.halted ≡ false) × (h.next_ticket ≡ 2 ^ 64 - 1) × (honest → (p : TablePlan) × IsChosen h p)
 IsReserveRefusal honest h OutOfMemory = h.halted ≡ false
 IsReserveRefusal honest h e = ⊥
 
@@ -73,20 +78,26 @@ IsReserveRefusal honest h e = ⊥
 
 -- the closed plan of the files of the level that meet the range
 abbrev pub IsRangePlan : Held → ℕ → UserKey → UserKey → TablePlan → Type 0
-IsRangePlan h level from to p = IsPlanFrom h.slots.version (Has (files_over h.slots.version level from to)) p
+IsRangePlan h level from to p =
+    IsPlanFrom h.slots.version (Has (files_over h.slots.version level from to)) p
 
--- Whatever the shelf is: the plan is one of the level, of tables that stand there and at the next level.
+-- Whatever the shelf is: the plan is one of the level, of tables that stand there and at the next
+-- level.
 abbrev pub IsPlanAt : Held → ℕ → TablePlan → Type 0
 IsPlanAt h level p = (p.level ≡ level) × StandsIn h.slots.version p
 
--- Why there is no job of a range: the state is halted; or the level is above 5; or the plan conflicts with a live job, the least ticket of
--- which is named; or it conflicts with none, but its ticket would be 2^64 - 1; or memory was refused.
+-- Why there is no job of a range: the state is halted; or the level is above 5; or the plan
+-- conflicts with a live job, the least ticket of which is named; or it conflicts with none, but its
+-- ticket would be 2^64 - 1; or memory was refused.
 abbrev pub IsRangeRefusal : Type 0 → Held → ℕ → UserKey → UserKey → StateFault → Type 0
 IsRangeRefusal honest h level from to Halted = h.halted ≡ true
 IsRangeRefusal honest h level from to (BadLevel n) = (h.halted ≡ false) × (n ≡ level) × (5 < level)
 IsRangeRefusal honest h level from to (Conflict ticket) = (h.halted ≡ false) × (level ≤ 5)
-    × ((p : TablePlan) × (honest → IsRangePlan h level from to p) × IsLeastConflict p (reserved_jobs h.live) ticket × IsPlanAt h level p)
-IsRangeRefusal honest h level from to NumbersSpent = (h.halted ≡ false) × (level ≤ 5) × (h.next_ticket ≡ 2 ^ 64 - 1)
-    × ((p : TablePlan) × (honest → IsRangePlan h level from to p) × IsClear p (reserved_jobs h.live) × IsPlanAt h level p)
+    × ((p : TablePlan) × (honest → IsRangePlan h level from to p)
+    × IsLeastConflict p (reserved_jobs h.live) ticket × IsPlanAt h level p)
+IsRangeRefusal honest h level from to NumbersSpent =
+    (h.halted ≡ false) × (level ≤ 5) × (h.next_ticket ≡ 2 ^ 64 - 1)
+    × ((p : TablePlan) × (honest → IsRangePlan h level from to p) × IsClear p (reserved_jobs h.live)
+    × IsPlanAt h level p)
 IsRangeRefusal honest h level from to OutOfMemory = (h.halted ≡ false) × (level ≤ 5)
 IsRangeRefusal honest h level from to e = ⊥

@@ -3,7 +3,15 @@ use Rattle.std.specs.Prelude.{ℕ, List, codes}
 use Rattle.lsm_shelf.specs.ShelfFault as shelf
 use Rattle.lsm_table.specs.ReadFault as read
 use Rattle.lsm_state.specs.declared.state_fault.StateFault.{StateFault}
-use Rattle.lsm_state.specs.declared.state_fault.StateFault.TheVariants.{OutOfMemory, Shelf, Read, BadLevel, EmptyBatch, KeyOrder, TooLarge, LevelZeroFull, SequencesSpent, Halted, UnknownSnapshot, Conflict, UnknownTicket, NumbersSpent, Stale, SlotsHeld, VersionsSpent, PinsSpent}
+use Rattle.lsm_state.specs.declared.state_fault.StateFault.TheVariants.{OutOfMemory, Shelf, Read}
+use Rattle.lsm_state.specs.declared.state_fault.StateFault.TheVariants.{BadLevel, EmptyBatch}
+use Rattle.lsm_state.specs.declared.state_fault.StateFault.TheVariants.{KeyOrder, TooLarge}
+use Rattle.lsm_state.specs.declared.state_fault.StateFault.TheVariants.{LevelZeroFull}
+use Rattle.lsm_state.specs.declared.state_fault.StateFault.TheVariants.{SequencesSpent, Halted}
+use Rattle.lsm_state.specs.declared.state_fault.StateFault.TheVariants.{UnknownSnapshot, Conflict}
+use Rattle.lsm_state.specs.declared.state_fault.StateFault.TheVariants.{UnknownTicket, NumbersSpent}
+use Rattle.lsm_state.specs.declared.state_fault.StateFault.TheVariants.{Stale, SlotsHeld}
+use Rattle.lsm_state.specs.declared.state_fault.StateFault.TheVariants.{VersionsSpent, PinsSpent}
 
 abbrev pub number_of : StateFault → ℕ
 number_of OutOfMemory = 1

@@ -29,7 +29,11 @@ with_number n w = record { calls = w.calls; front = n ∷ w.front }
 
 abbrev pub words_in : List ℕ → Words
 words_in [] = record { calls = []; front = [] }
-words_in (zero ∷ ns) = record { calls = call_of (words_in ns).front ++ (words_in ns).calls; front = [] }
+words_in (zero ∷ ns) = record {
+  calls = call_of (words_in ns).front
+      ++ (words_in ns).calls;
+  front = [];
+}
 words_in (suc zero ∷ ns) = record { calls = (words_in ns).calls; front = [] }
 words_in (suc (suc n) ∷ ns) = with_number n (words_in ns)
 

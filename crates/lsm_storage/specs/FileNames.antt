@@ -1,5 +1,6 @@
 -- The names of a database's files (LevelDB's `doc/impl.md`: sorted tables, manifest, current).
-use Rattle.std.specs.Prelude.{◌≡◌, ℕ, ◌-◌, ◌<◌, ◌^◌, List, [], ◌∷◌, ◌++◌, length, replicate, codes, decimal, Option, Some}
+use Rattle.std.specs.Prelude.{◌≡◌, ℕ, ◌-◌, ◌<◌, ◌^◌, List, [], ◌∷◌, ◌++◌, length, replicate, codes}
+use Rattle.std.specs.Prelude.{decimal, Option, Some}
 
 -- a number in decimal, with zeros in front to at least six digits
 abbrev pub padded : ℕ → List ℕ
@@ -20,4 +21,5 @@ current_text n = manifest_name n ++ 10 ∷ []
 
 -- the number, or none, of which the text is the spelling
 abbrev pub IsNumberOf : (spell : ℕ → List ℕ) (text : List ℕ) → Option ℕ → Type 0
-IsNumberOf spell text o = (n : ℕ) → (o ≡ Some n → text ≡ spell n) × (n < 2 ^ 64 → text ≡ spell n → o ≡ Some n)
+IsNumberOf spell text o = (n : ℕ)
+    → (o ≡ Some n → text ≡ spell n) × (n < 2 ^ 64 → text ≡ spell n → o ≡ Some n)

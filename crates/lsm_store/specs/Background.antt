@@ -21,12 +21,14 @@ pub record BringsIn (was is : Held) (ws : List Write) (r : Ingested) (t u : Told
   pub welcome : IsWelcome was ws
   pub ingests : Ingests was is ws r t u
   pub event : machine.Ingests (plain was) (entries_of was ws) (plain is)
-  pub entries : (e : Entry) → Has (all_entries (files is.slots.version)) e ↔ (Has (entries_of was ws) e ⊎ Has (all_entries (files was.slots.version)) e)
+  pub entries : (e : Entry) → Has (all_entries (files is.slots.version)) e
+      ↔ (Has (entries_of was ws) e ⊎ Has (all_entries (files was.slots.version)) e)
   pub history : is.history ≡ entries_of was ws ++ was.history
   pub counts : SameCounts t u
 
 -- One ingest was refused: the same.
-pub record KeepsOut (Refused : Asked → ShelfFault → Type 0) (was is : Held) (ws : List Write) (e : StateFault) (t u : Told) : Type 0 where
+pub record KeepsOut (Refused : Asked → ShelfFault
+    → Type 0) (was is : Held) (ws : List Write) (e : StateFault) (t u : Told) : Type 0 where
   pub refusal : IsIngestRefusal was is ws e t u
   pub asked : OnShelf (IngestRefused Refused was ws) e
   pub event : machine.Spends (plain was) (plain is)
@@ -40,12 +42,18 @@ IsIngestStep Refused ws was is =
 
 -- each such step keeps the fact
 abbrev pub IsKeptByIngest : (Asked → ShelfFault → Type 0) → List Write → (Held → Type 0) → Type 0
-IsKeptByIngest Refused ws keeps = (was is : Held) → IsIngestStep Refused ws was is → keeps was → keeps is
+IsKeptByIngest Refused ws keeps =
+    (was is : Held) → IsIngestStep Refused ws was is → keeps was → keeps is
 
--- The batch came in at one taking of the lock, where the fact held; beside the answer stands the history that it left.
-abbrev pub IsBroughtIn : (Held → Type 0) → List Write → (Ingested × List Entry) → Told → Told → Type 0
-IsBroughtIn keeps ws r t u = (was : Held) × (is : Held) × ∥ keeps was ∥₁ × BringsIn was is ws r.0 t u × (r.1 ≡ is.history)
+-- The batch came in at one taking of the lock, where the fact held; beside the answer stands the
+-- history that it left.
+abbrev pub IsBroughtIn : (Held → Type 0) → List Write → (Ingested × List Entry) → Told → Told
+    → Type 0
+IsBroughtIn keeps ws r t u = (was : Held) × (is : Held) × ∥ keeps was ∥₁
+    × BringsIn was is ws r.0 t u × (r.1 ≡ is.history)
 
 -- It was refused at one taking of the lock, where the fact held.
-abbrev pub IsKeptOut : (Asked → ShelfFault → Type 0) → (Held → Type 0) → List Write → StateFault → Told → Told → Type 0
-IsKeptOut Refused keeps ws e t u = (was : Held) × (is : Held) × ∥ keeps was ∥₁ × KeepsOut Refused was is ws e t u
+abbrev pub IsKeptOut : (Asked → ShelfFault → Type 0) → (Held → Type 0) → List Write → StateFault
+    → Told → Told → Type 0
+IsKeptOut Refused keeps ws e t u =
+    (was : Held) × (is : Held) × ∥ keeps was ∥₁ × KeepsOut Refused was is ws e t u

@@ -1,7 +1,9 @@
 -- What workers leave of a state, and which facts of it they keep (this project's rule).
-use Rattle.std.specs.Prelude.{◌≡◌, ℕ, suc, ◌+◌, ◌==◌, if◌then◌else◌, List, [], ◌∷◌, Option, None, Some, sum_by}
+use Rattle.std.specs.Prelude.{◌≡◌, ℕ, suc, ◌+◌, ◌==◌, if◌then◌else◌, List, [], ◌∷◌, Option, None}
+use Rattle.std.specs.Prelude.{Some, sum_by}
 use Rattle.lsm_codec.specs.Lists.{Has}
-use Rattle.lsm_model.specs.Runs.{Event, Ingest, Snapshot, Release, Reserve, Cancel, Draw, Install, Spend, Nothing, Run}
+use Rattle.lsm_model.specs.Runs.{Event, Ingest, Snapshot, Release, Reserve, Cancel, Draw, Install}
+use Rattle.lsm_model.specs.Runs.{Spend, Nothing, Run}
 use Rattle.lsm_pins.specs.Known.{Known}
 use Rattle.lsm_slots.specs.Slots.{Epoch, Slotted, current_id}
 use Rattle.lsm_state.specs.Held.{Held, plain}
@@ -28,8 +30,8 @@ IsOfWorkers (Install ticket) = Unit {0}
 IsOfWorkers Spend = Unit {0}
 IsOfWorkers Nothing = Unit {0}
 
--- What was found of a state stays: all that came in, the last sequence, the snapshots and the pins under the lock; and over an honest shelf
--- each read that is promised gives what it gave.
+-- What was found of a state stays: all that came in, the last sequence, the snapshots and the pins
+-- under the lock; and over an honest shelf each read that is promised gives what it gave.
 pub record IsAsFound (Honest : Type 0) (found h : Held) : Type 0 where
   pub history : h.history ≡ found.history
   pub last : h.slots.version.last ≡ found.slots.version.last
@@ -50,20 +52,22 @@ installs_in (Install ticket ∷ events) = suc (installs_in events)
 installs_in (Spend ∷ events) = installs_in events
 installs_in (Nothing ∷ events) = installs_in events
 
--- On the plain machine the state was reached by reservations, cancels, draws of numbers, installs and spent numbers alone. Each install made
--- a version current, under the next id.
+-- On the plain machine the state was reached by reservations, cancels, draws of numbers, installs
+-- and spent numbers alone. Each install made a version current, under the next id.
 pub record IsWorkersRun (Honest : Type 0) (was is : Held) : Type 0 where
   pub events : List Event
   pub only : (e : Event) → Has events e → IsOfWorkers e
   pub run : Run Honest (plain was) events (plain is)
   pub ids : current_id is.slots ≡ current_id was.slots + installs_in events
 
--- What workers leave of a state that was found: it was reached by what workers do, and what was found stays.
+-- What workers leave of a state that was found: it was reached by what workers do, and what was
+-- found stays.
 pub record IsLeftByWorkers (Honest : Type 0) (found h : Held) : Type 0 where
   pub reached : ∥ IsWorkersRun Honest found h ∥₁
   pub as_found : IsAsFound Honest found h
 
--- What one taking of the lock by a worker leaves. On the plain machine it is a run of what workers do; and what was found stays.
+-- What one taking of the lock by a worker leaves. On the plain machine it is a run of what workers
+-- do; and what was found stays.
 pub record IsCompactingStep (Honest : Type 0) (was is : Held) : Type 0 where
   pub run : IsWorkersRun Honest was is
   pub options : is.options ≡ was.options
@@ -72,13 +76,16 @@ pub record IsCompactingStep (Honest : Type 0) (was is : Held) : Type 0 where
 
 -- each such step keeps the fact
 abbrev pub IsKeptByCompaction : Type 0 → (Held → Type 0) → Type 0
-IsKeptByCompaction Honest keeps = (was is : Held) → IsCompactingStep Honest was is → keeps was → keeps is
+IsKeptByCompaction Honest keeps =
+    (was is : Held) → IsCompactingStep Honest was is → keeps was → keeps is
 
 -- an end of the board by which this id is the current one
 pub record KnowsCurrent (id : ℕ) : Type 0 where
   pub end : Known
   pub current : end.knows.id ≡ id
 
--- the state that goes into a store: its pinners were taken, and its end of the board has learnt more, under the same current id
+-- the state that goes into a store: its pinners were taken, and its end of the board has learnt
+-- more, under the same current id
 abbrev pub IsSeated : Held → Held → Type 0
-IsSeated was is = (board : KnowsCurrent (current_id was.slots)) × (is ≡ record was { pinners = []; slots = record was.slots { board = board.end } })
+IsSeated was is = (board : KnowsCurrent (current_id was.slots))
+    × (is ≡ record was { pinners = []; slots = record was.slots { board = board.end } })

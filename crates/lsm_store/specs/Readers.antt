@@ -12,9 +12,9 @@ use Rattle.lsm_store.specs.Promised.{AnswersAll, IsPromisedAt, snapshot_sequence
 use Rattle.lsm_store.specs.declared.begin_fault.BeginFault.{BeginFault}
 use Rattle.lsm_store.specs.declared.begin_fault.BeginFault.TheVariants.{Moved, PinsSpent}
 
--- What contracts see of a reader and of a view: the version that it has learnt and its id, its end of the board, and what the shelf
--- told by which it reads; all that had come in when it learnt the version, the latest first, and the sequences of the snapshots that were
--- live then.
+-- What contracts see of a reader and of a view: the version that it has learnt and its id, its end
+-- of the board, and what the shelf told by which it reads; all that had come in when it learnt the
+-- version, the latest first, and the sequences of the snapshots that were live then.
 pub record Learnt : Type 0 where
   pub id : ℕ
   pub version : Levels
@@ -47,7 +47,10 @@ IsPinning v = (slot : ℕ) × (v.pinner.knows.held ≡ Some (v.id, slot))
 
 -- its pin found this id and slot
 abbrev pub pinned : ℕ → ℕ → Learnt → Learnt
-pinned id slot r = record r { pinner = record r.pinner { knows = pinned_view r.pinner.knows id slot } }
+pinned id slot r = record r {
+  pinner = record r.pinner
+      { knows = pinned_view r.pinner.knows id slot };
+}
 
 -- its pin was given back
 abbrev pub unpinned : Learnt → Learnt
@@ -55,11 +58,18 @@ unpinned r = record r { pinner = record r.pinner { knows = unpinned_view r.pinne
 
 -- it was told what the publisher knows
 abbrev pub informed : Held → Learnt → Learnt
-informed h r = record r { pinner = record r.pinner { knows = told_view r.pinner.knows h.slots.board.knows } }
+informed h r = record r {
+  pinner = record r.pinner
+      { knows = told_view r.pinner.knows h.slots.board.knows };
+}
 
--- an end of the board that learns the current id and slot of the state, and is told what the publisher knows
+-- an end of the board that learns the current id and slot of the state, and is told what the
+-- publisher knows
 abbrev pub learning : Held → Known → Known
-learning h p = record p { knows = learnt_view (told_view p.knows h.slots.board.knows) (current_id h.slots) (current_slot h.slots) }
+learning h p = record p {
+  knows = learnt_view (told_view p.knows h.slots.board.knows)
+      (current_id h.slots) (current_slot h.slots);
+}
 
 -- it learnt the current version of the state, all that has come in, and which snapshots are live
 abbrev pub refreshed : Held → Learnt → Learnt
@@ -75,14 +85,15 @@ refreshed h r = record r {
 abbrev pub IsBegun : Learnt → Learnt → Type 0
 IsBegun r v = (slot : ℕ) × (v ≡ pinned r.id slot r)
 
--- `Moved`: one step found a later version than the one learnt, and none before one that was seen; its pin was given back. `PinsSpent`: all
--- pins of the id seen last were made, and no step was.
+-- `Moved`: one step found a later version than the one learnt, and none before one that was seen;
+-- its pin was given back. `PinsSpent`: all pins of the id seen last were made, and no step was.
 abbrev pub IsRefused : Learnt → Learnt → BeginFault → Type 0
-IsRefused r back (Moved id) = (r.id < id) × (r.pinner.knows.id ≤ id) × ((slot : ℕ) × (back ≡ unpinned (pinned id slot r)))
+IsRefused r back (Moved id) = (r.id < id) × (r.pinner.knows.id ≤ id)
+    × ((slot : ℕ) × (back ≡ unpinned (pinned id slot r)))
 IsRefused r back PinsSpent = (r.pinner.knows.count ≡ 2 ^ 24) × (back ≡ r)
 
--- These are the numbers of the tables of the view's version; and a version of just these tables is the one that the state has in the slot that
--- the view's pin holds, under the view's id.
+-- These are the numbers of the tables of the view's version; and a version of just these tables is
+-- the one that the state has in the slot that the view's pin holds, under the view's id.
 pub record IsMet (v : Learnt) (h : Held) (numbers : List ℕ) : Type 0 where
   pub slot : ℕ
   pub epoch : Epoch
@@ -120,7 +131,8 @@ known_at h place = record {
 abbrev pub learning_all : Held → KnownVersion → KnownVersion
 learning_all h d = record (known_at h d.told.place) { told = d.told }
 
--- the reader with this end of the board: it has learnt the current version and all that has come in, and nothing was told by its shelf yet
+-- the reader with this end of the board: it has learnt the current version and all that has come
+-- in, and nothing was told by its shelf yet
 abbrev pub seated : Held → Place → Known → Learnt
 seated h place p = record {
   id = current_id h.slots;

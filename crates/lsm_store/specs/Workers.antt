@@ -2,7 +2,9 @@
 use Rattle.std.specs.Prelude.{◌≡◌, ℕ, Option, None, Some}
 use Rattle.lsm_merge.specs.Inputs.{IsReadable}
 use Rattle.lsm_state.specs.declared.state_fault.StateFault.{StateFault}
-use Rattle.lsm_state.specs.declared.state_fault.StateFault.TheVariants.{OutOfMemory, Shelf, Halted, NumbersSpent, Stale, SlotsHeld, VersionsSpent}
+use Rattle.lsm_state.specs.declared.state_fault.StateFault.TheVariants.{OutOfMemory, Shelf, Halted}
+use Rattle.lsm_state.specs.declared.state_fault.StateFault.TheVariants.{NumbersSpent, Stale}
+use Rattle.lsm_state.specs.declared.state_fault.StateFault.TheVariants.{SlotsHeld, VersionsSpent}
 use Rattle.lsm_store.specs.declared.worker_end.WorkerEnd.{WorkerEnd}
 use Rattle.lsm_store.specs.declared.worker_fault.WorkerFault.{WorkerFault}
 use Rattle.lsm_store.specs.declared.worker_fault.WorkerFault.TheVariants.{NoThread, State, Merge}
@@ -25,14 +27,15 @@ IsOfInstalling SlotsHeld = Unit {0}
 IsOfInstalling VersionsSpent = Unit {0}
 IsOfInstalling e = ⊥
 
--- What ends one compaction: a refusal of its reservation or its install, or one of its merge, which over an honest shelf is not that the
--- bytes of an input are at fault.
+-- What ends one compaction: a refusal of its reservation or its install, or one of its merge, which
+-- over an honest shelf is not that the bytes of an input are at fault.
 abbrev pub IsOfTurn : Type 0 → WorkerFault → Type 0
 IsOfTurn honest NoThread = ⊥
 IsOfTurn honest (State fault) = IsOfInstalling fault
 IsOfTurn honest (Merge fault) = honest → IsReadable fault
 
--- What a worker answers: a worker without a thread has installed nothing; another ended where nothing was left, or by such a refusal.
+-- What a worker answers: a worker without a thread has installed nothing; another ended where
+-- nothing was left, or by such a refusal.
 abbrev pub IsEndOf : Type 0 → ℕ → Option WorkerFault → Type 0
 IsEndOf honest installed None = Unit {0}
 IsEndOf honest installed (Some NoThread) = installed ≡ 0

@@ -1,5 +1,7 @@
--- What a worker does with its shelf, and what its shelf was told when it ends (this project's rule).
-use Rattle.std.specs.Prelude.{◌≡◌, ℕ, zero, suc, ◌-◌, ◌^◌, ◌≤◌, min, ◌⊎◌, List, [], ◌∷◌, ◌++◌, Option, None, Some}
+-- What a worker does with its shelf, and what its shelf was told when it ends (this project's
+-- rule).
+use Rattle.std.specs.Prelude.{◌≡◌, ℕ, zero, suc, ◌-◌, ◌^◌, ◌≤◌, min, ◌⊎◌, List, [], ◌∷◌, ◌++◌}
+use Rattle.std.specs.Prelude.{Option, None, Some}
 use Rattle.lsm_codec.specs.Lists.{Has}
 use Rattle.lsm_shelf.specs.Asked.{Asked, Put, StartManifest, AppendManifest}
 use Rattle.lsm_shelf.specs.Told.{Told, Becomes, Counted}
@@ -26,7 +28,8 @@ use Rattle.lsm_store.specs.declared.worker_fault.WorkerFault.TheVariants.{NoThre
 
 -- ---- one compaction
 
--- A job was finished. The shelf was told to put just its outputs, in their order, and of a move nothing.
+-- A job was finished. The shelf was told to put just its outputs, in their order, and of a move
+-- nothing.
 pub record IsMerged (Honest : Type 0) (d : Done) (was is : Told) : Type 0 where
   pub finished : IsFinished Honest d
   pub told : Becomes (putting_all (puts_by d) was) is
@@ -54,7 +57,8 @@ pub record IsTurn (Honest : Type 0) (keeps : Held → Type 0) (was is : Told) : 
 -- so many compactions, one after another
 abbrev pub Turns : Type 0 → (Held → Type 0) → ℕ → Told → Told → Type 0
 Turns Honest keeps zero was is = is ≡ was
-Turns Honest keeps (suc count) was is = (mid : Told) × Turns Honest keeps count was mid × IsTurn Honest keeps mid is
+Turns Honest keeps (suc count) was is =
+    (mid : Told) × Turns Honest keeps count was mid × IsTurn Honest keeps mid is
 
 -- ---- what ends a worker
 
@@ -67,53 +71,66 @@ pub record IsUnmerged (Honest : Type 0) (e : MergeFault) (was is : Told) : Type 
   pub ticket : NamesTicket e work.ticket
   pub readable : Honest → IsReadable e
 
--- The state refused to install the result, and the shelf wrote nothing. Where it was the shelf, other than for want of memory, it refused the
--- write of the manifest.
-pub record LeavesOut (Refused : Asked → ShelfFault → Type 0) (old new : Held) (d : Done) (e : StateFault) (was is : Told) : Type 0 where
+-- The state refused to install the result, and the shelf wrote nothing. Where it was the shelf,
+-- other than for want of memory, it refused the write of the manifest.
+pub record LeavesOut (Refused : Asked → ShelfFault
+    → Type 0) (old new : Held) (d : Done) (e : StateFault) (was is : Told) : Type 0 where
   pub refusal : IsInstallRefusal old new d e was is
   pub asked : OnShelf (InstallRefused Refused old d) e
   pub unsent : Becomes was is
 
 -- So it was at one taking of the lock, where the fact held.
-pub record IsUntaken (Refused : Asked → ShelfFault → Type 0) (keeps : Held → Type 0) (d : Done) (e : StateFault) (was is : Told) : Type 0 where
+pub record IsUntaken (Refused : Asked → ShelfFault → Type 0) (keeps : Held
+    → Type 0) (d : Done) (e : StateFault) (was is : Told) : Type 0 where
   pub old : Held
   pub new : Held
   pub kept : ∥ keeps old ∥₁
   pub leaves : LeavesOut Refused old new d e was is
 
--- The state refused: a reservation, and the shelf was asked for nothing; or the install of a job that was finished.
-abbrev pub IsRefusedBy : Type 0 → (Asked → ShelfFault → Type 0) → (Held → Type 0) → StateFault → Told → Told → Type 0
+-- The state refused: a reservation, and the shelf was asked for nothing; or the install of a job
+-- that was finished.
+abbrev pub IsRefusedBy : Type 0 → (Asked → ShelfFault → Type 0) → (Held → Type 0) → StateFault
+    → Told → Told → Type 0
 IsRefusedBy Honest Refused keeps e was is =
-    (IsOfReserving e × (is ≡ was)) ⊎ ((d : Done) × (put : Told) × IsMerged Honest d was put × IsUntaken Refused keeps d e put is)
+    (IsOfReserving e × (is ≡ was))
+    ⊎ ((d : Done) × (put : Told) × IsMerged Honest d was put
+    × IsUntaken Refused keeps d e put is)
 
--- Why a worker with a thread ended, after its last compaction: nothing was left to reserve; or a compaction was refused.
-abbrev pub IsLast : Type 0 → (Asked → ShelfFault → Type 0) → (Held → Type 0) → Option WorkerFault → Told → Told → Type 0
+-- Why a worker with a thread ended, after its last compaction: nothing was left to reserve; or a
+-- compaction was refused.
+abbrev pub IsLast : Type 0 → (Asked → ShelfFault → Type 0) → (Held → Type 0) → Option WorkerFault
+    → Told → Told → Type 0
 IsLast Honest Refused keeps None was is = is ≡ was
 IsLast Honest Refused keeps (Some NoThread) was is = ⊥
-IsLast Honest Refused keeps (Some (State fault)) was is = IsRefusedBy Honest Refused keeps fault was is
+IsLast Honest Refused keeps (Some (State fault)) was is =
+    IsRefusedBy Honest Refused keeps fault was is
 IsLast Honest Refused keeps (Some (Merge fault)) was is = IsUnmerged Honest fault was is
 
--- A worker ended with this shelf: it did as many compactions as it says, one after another, and then what ended it; and its shelf was
--- told no more.
-pub record IsWorked (Honest : Type 0) (Refused : Asked → ShelfFault → Type 0) (keeps : Held → Type 0) (given : Told) (e : WorkerEnd) (back : Told) : Type 0 where
+-- A worker ended with this shelf: it did as many compactions as it says, one after another, and
+-- then what ended it; and its shelf was told no more.
+pub record IsWorked (Honest : Type 0) (Refused : Asked → ShelfFault → Type 0) (keeps : Held
+    → Type 0) (given : Told) (e : WorkerEnd) (back : Told) : Type 0 where
   pub turns : ℕ
   pub counted : e.installed ≡ min turns (2 ^ 64 - 1)
   pub mid : Told
   pub done : Turns Honest keeps turns given mid
   pub last : IsLast Honest Refused keeps e.fault mid back
 
--- What comes back of a shelf that was given to a worker: nothing where its thread could not be made, and it has done nothing; else the
--- shelf that it ended with.
-abbrev pub IsReturned : Type 0 → (Asked → ShelfFault → Type 0) → (Held → Type 0) → Told → WorkerEnd → Option Told → Type 0
+-- What comes back of a shelf that was given to a worker: nothing where its thread could not be
+-- made, and it has done nothing; else the shelf that it ended with.
+abbrev pub IsReturned : Type 0 → (Asked → ShelfFault → Type 0) → (Held → Type 0) → Told → WorkerEnd
+    → Option Told → Type 0
 IsReturned Honest Refused keeps given e None = (e.installed ≡ 0) × (e.fault ≡ Some NoThread)
 IsReturned Honest Refused keeps given e (Some back) = IsWorked Honest Refused keeps given e back
 
 -- of each shelf, in their order
-abbrev pub AreReturned : Type 0 → (Asked → ShelfFault → Type 0) → (Held → Type 0) → List Told → List (WorkerEnd × Option Told) → Type 0
+abbrev pub AreReturned : Type 0 → (Asked → ShelfFault → Type 0) → (Held → Type 0) → List Told
+    → List (WorkerEnd × Option Told) → Type 0
 AreReturned Honest Refused keeps [] [] = Unit {0}
 AreReturned Honest Refused keeps [] (r ∷ rs) = ⊥
 AreReturned Honest Refused keeps (t ∷ ts) [] = ⊥
-AreReturned Honest Refused keeps (t ∷ ts) (r ∷ rs) = IsReturned Honest Refused keeps t r.0 r.1 × AreReturned Honest Refused keeps ts rs
+AreReturned Honest Refused keeps (t ∷ ts) (r ∷ rs) =
+    IsReturned Honest Refused keeps t r.0 r.1 × AreReturned Honest Refused keeps ts rs
 
 -- ---- what follows
 
@@ -141,8 +158,8 @@ IsPutOrSent (StartManifest number bytes) = Unit {0}
 IsPutOrSent (AppendManifest bytes) = Unit {0}
 IsPutOrSent asked = ⊥
 
--- Tables were put and the manifest was written, and that is all: nothing was removed or listed, no manifest was read, and no fork was
--- given. Counts do not fall.
+-- Tables were put and the manifest was written, and that is all: nothing was removed or listed, no
+-- manifest was read, and no fork was given. Counts do not fall.
 pub record OnlyPutsAndSends (was is : Told) : Type 0 where
   pub place : is.place ≡ was.place
   pub gone : is.gone ≡ was.gone

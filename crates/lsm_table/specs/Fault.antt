@@ -3,7 +3,12 @@ use Rattle.std.specs.Prelude.{ℕ, List, codes}
 use Rattle.lsm_block.specs.declared.fault.BlockFault.{BlockFault}
 use Rattle.lsm_block.specs.declared.fault.BlockFault.TheVariants as block
 use Rattle.lsm_table.specs.declared.table_fault.TableFault.{TableFault}
-use Rattle.lsm_table.specs.declared.table_fault.TableFault.TheVariants.{OutOfMemory, BadRestarts, BadEntry, OutOfOrder, ShortFile, BadMagic, BadHandle, BadChecksum, Compressed, BadBlockType, BadIndex}
+use Rattle.lsm_table.specs.declared.table_fault.TableFault.TheVariants.{OutOfMemory, BadRestarts}
+use Rattle.lsm_table.specs.declared.table_fault.TableFault.TheVariants.{BadEntry, OutOfOrder}
+use Rattle.lsm_table.specs.declared.table_fault.TableFault.TheVariants.{ShortFile, BadMagic}
+use Rattle.lsm_table.specs.declared.table_fault.TableFault.TheVariants.{BadHandle, BadChecksum}
+use Rattle.lsm_table.specs.declared.table_fault.TableFault.TheVariants.{Compressed, BadBlockType}
+use Rattle.lsm_table.specs.declared.table_fault.TableFault.TheVariants.{BadIndex}
 
 abbrev pub number_of : TableFault → ℕ
 number_of OutOfMemory = 1

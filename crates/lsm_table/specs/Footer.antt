@@ -1,8 +1,10 @@
 -- The last 48 bytes of a table's file (LevelDB's `doc/table_format.md`, "footer").
-use Rattle.std.specs.Prelude.{◌≡◌, ℕ, ◌+◌, ◌-◌, nat_le, List, [], ◌∷◌, ◌++◌, length, take, drop, replicate, Result, Ok}
+use Rattle.std.specs.Prelude.{◌≡◌, ℕ, ◌+◌, ◌-◌, nat_le, List, [], ◌∷◌, ◌++◌, length, take, drop}
+use Rattle.std.specs.Prelude.{replicate, Result, Ok}
 use Rattle.std.specs.Str.{bytes_eq}
 use Rattle.lsm_table.specs.declared.table_fault.TableFault.{TableFault}
-use Rattle.lsm_table.specs.declared.table_fault.TableFault.TheVariants.{ShortFile, BadMagic, BadHandle}
+use Rattle.lsm_table.specs.declared.table_fault.TableFault.TheVariants.{ShortFile, BadMagic}
+use Rattle.lsm_table.specs.declared.table_fault.TableFault.TheVariants.{BadHandle}
 use Rattle.lsm_table.specs.declared.footer.Footer.{Footer}
 use Rattle.lsm_table.specs.Reading.{◌>>=◌, guarded}
 use Rattle.lsm_table.specs.Handle.{IsHandle, handle_text, handle_at}
@@ -40,7 +42,8 @@ body_of bytes = take (length bytes - 48) bytes
 unfoldable pub footer_at : List ℕ → Result Footer TableFault
 footer_at bytes =
     guarded (nat_le 48 (length bytes)) ShortFile
-    (guarded (bytes_eq (drop 40 (footer_of bytes)) magic) BadMagic (places_at (take 40 (footer_of bytes))))
+    (guarded (bytes_eq (drop 40 (footer_of bytes)) magic) BadMagic
+    (places_at (take 40 (footer_of bytes))))
 
 -- ---- writing
 

@@ -1,5 +1,6 @@
 -- A table that was checked, and what is left of it for a reader.
-use Rattle.std.specs.Prelude.{◌≡◌, ◌⊎◌, ℕ, List, [], ◌∷◌, ◌++◌, take, drop, Option, Some, None, Result, Ok, Err}
+use Rattle.std.specs.Prelude.{◌≡◌, ◌⊎◌, ℕ, List, [], ◌∷◌, ◌++◌, take, drop, Option, Some, None}
+use Rattle.std.specs.Prelude.{Result, Ok, Err}
 use Rattle.std.specs.List.{flat_map}
 use Rattle.lsm_codec.specs.Keys.{InternalKey}
 use Rattle.lsm_codec.specs.Entries.{Entry}
@@ -19,9 +20,10 @@ abbrev pub entries_or_none : Result (List Entry) TableFault → List Entry
 entries_or_none (Ok entries) = entries
 entries_or_none (Err fault) = []
 
--- The entries of the table that the bytes are, and none where they are no table. It is computed as a check reads a table, so that a
--- type can carry it. Nothing above uses how: `entries_are` says that these are the entries of every table (`IsTable`, to which there is
--- one list, `one_table`), and of bytes that are no table nothing is said.
+-- The entries of the table that the bytes are, and none where they are no table. It is computed as
+-- a check reads a table, so that a type can carry it. Nothing above uses how: `entries_are` says
+-- that these are the entries of every table (`IsTable`, to which there is one list, `one_table`),
+-- and of bytes that are no table nothing is said.
 unfoldable pub entries_in : List ℕ → List Entry
 entries_in bytes = entries_or_none (table_at bytes)
 
@@ -32,7 +34,8 @@ pub record HeldTable (file : List ℕ) (index : Handle) : Type 0 where
 
 -- the entries of the data block that an index entry names
 unfoldable pub entries_named : List ℕ → Entry → List Entry
-entries_named body i = entries_or_none (handle_at BadIndex i.value >>= λ handle. contents_at body handle.0 >>= λ contents. block_or (block_at contents))
+entries_named body i = entries_or_none (handle_at BadIndex i.value >>= λ handle.
+    contents_at body handle.0 >>= λ contents. block_or (block_at contents))
 
 -- What is left of a table: the rest of a data block, and the data blocks that these index entries
 -- name.
@@ -83,4 +86,5 @@ pub record Refused (old new : Walk) : Type 0 where
 -- value of the next entry, whose key is then the last.
 abbrev pub Steps : Walk → Walk → Option (List ℕ) → Type 0
 Steps old new None = (old.left ≡ []) × (new.left ≡ []) × (new.last ≡ old.last)
-Steps old new (Some value) = (key : InternalKey) × (new.last ≡ Some key) × (old.left ≡ entry_of key value ∷ new.left)
+Steps old new (Some value) = (key : InternalKey) × (new.last ≡ Some key)
+    × (old.left ≡ entry_of key value ∷ new.left)

@@ -15,5 +15,6 @@ comes_after (Some bound) key = is_lt (key_cmp bound key)
 -- that comes next, the other is one entry behind when its key is asked for, and else at the same
 -- place.
 pub record Judged (body : List ℕ) (index : HeldBlock) (before here : Position) : Type 0 where
-  pub left : settled (data_at body before.last (rest_of index here)) ≡ settled (data_at body None index.entries)
+  pub left : settled (data_at body before.last (rest_of index here))
+      ≡ settled (data_at body None index.entries)
   pub same : rest_of index before ≡ rest_of index here

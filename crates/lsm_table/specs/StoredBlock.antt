@@ -1,12 +1,14 @@
 -- A block as it stands in a table's file (LevelDB's `doc/table_format.md`: the contents, a type
 -- byte, and the masked CRC-32C of both).
-use Rattle.std.specs.Prelude.{◌≡◌, ℕ, ◌+◌, ◌==◌, nat_le, if◌then◌else◌, List, [], ◌∷◌, ◌++◌, length, take, drop, slice_index, Result, Ok}
+use Rattle.std.specs.Prelude.{◌≡◌, ℕ, ◌+◌, ◌==◌, nat_le, if◌then◌else◌, List, [], ◌∷◌, ◌++◌, length}
+use Rattle.std.specs.Prelude.{take, drop, slice_index, Result, Ok}
 use Rattle.std.specs.Str.{bytes_eq}
 use Rattle.std.specs.Int.{w32, to_le_bytes}
 use Rattle.lsm_codec.specs.Crc.{crc_of}
 use Rattle.lsm_codec.specs.Mask.{masked}
 use Rattle.lsm_table.specs.declared.table_fault.TableFault.{TableFault}
-use Rattle.lsm_table.specs.declared.table_fault.TableFault.TheVariants.{BadHandle, BadChecksum, Compressed, BadBlockType}
+use Rattle.lsm_table.specs.declared.table_fault.TableFault.TheVariants.{BadHandle, BadChecksum}
+use Rattle.lsm_table.specs.declared.table_fault.TableFault.TheVariants.{Compressed, BadBlockType}
 use Rattle.lsm_table.specs.declared.handle.Handle.{Handle}
 use Rattle.lsm_table.specs.Reading.{guarded}
 
@@ -40,7 +42,8 @@ kind_fault kind = if nat_le kind 2 then Compressed kind else BadBlockType kind
 unfoldable pub unsealed : ℕ → ℕ → List ℕ → Result (List ℕ) TableFault
 unsealed offset size text =
     guarded (bytes_eq (drop (size + 1) text) (seal (take (size + 1) text))) (BadChecksum offset)
-    (guarded (slice_index text size == 0) (kind_fault (slice_index text size)) (Ok (take size text)))
+    (guarded (slice_index text size
+    == 0) (kind_fault (slice_index text size)) (Ok (take size text)))
 
 -- the contents of the block at that handle
 unfoldable pub contents_at : List ℕ → Handle → Result (List ℕ) TableFault

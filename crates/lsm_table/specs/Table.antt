@@ -39,7 +39,8 @@ DataBlocks body bound [] (group ∷ groups) = ⊥
 DataBlocks body bound (i ∷ index) [] = ⊥
 DataBlocks body bound (i ∷ index) ([] ∷ groups) = ⊥
 DataBlocks body bound (i ∷ index) ((e ∷ es) ∷ groups) =
-    DataBlock body i.value (e ∷ es) × IsAfter bound e × (is_le (entry_cmp (last_of e es) i) ≡ true) × DataBlocks body (Some (internal_key i)) index groups
+    DataBlock body i.value (e ∷ es) × IsAfter bound e × (is_le (entry_cmp (last_of e es) i) ≡ true)
+    × DataBlocks body (Some (internal_key i)) index groups
 
 abbrev pub concat : List (List Entry) → List Entry
 concat groups = flat_map (λ group. group) groups

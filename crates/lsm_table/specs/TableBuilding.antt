@@ -1,7 +1,8 @@
 -- The bytes of a table that the builder makes of entries: which data blocks it closes, their index,
 -- and the whole file (LevelDB's `table/table_builder.cc`, without compression, filter and shortened
 -- separators).
-use Rattle.std.specs.Prelude.{◌≡◌, ℕ, ◌+◌, ◌^◌, ◌≤◌, ◌⊎◌, Bool, true, false, nat_le, List, [], ◌∷◌, ◌++◌, length}
+use Rattle.std.specs.Prelude.{◌≡◌, ℕ, ◌+◌, ◌^◌, ◌≤◌, ◌⊎◌, Bool, true, false, nat_le, List, [], ◌∷◌}
+use Rattle.std.specs.Prelude.{◌++◌, length}
 use Rattle.lsm_codec.specs.Entries.{Entry, internal_key}
 use Rattle.lsm_block.specs.Block.{entry_of}
 use Rattle.lsm_block.specs.Building.{block_bytes}
@@ -22,7 +23,8 @@ closed_first group later = record { closed = group ∷ later.closed; taken = lat
 
 -- A data block is full when its size, after an entry is added, reaches the block size.
 abbrev pub is_full : TableOptions → List Entry → Bool
-is_full options taken = nat_le options.block_size (length (block_bytes options.restart_interval taken))
+is_full options taken = nat_le options.block_size
+    (length (block_bytes options.restart_interval taken))
 
 abbrev pub close_if : Bool → (List Entry → Grouped) → List Entry → Grouped
 close_if true later taken = closed_first taken (later [])
@@ -32,7 +34,8 @@ close_if false later taken = later taken
 -- as it is full.
 unfoldable pub grouped : TableOptions → List Entry → List Entry → Grouped
 grouped options taken [] = record { closed = []; taken = taken }
-grouped options taken (e ∷ es) = close_if (is_full options (taken ++ e ∷ [])) (λ rest. grouped options rest es) (taken ++ e ∷ [])
+grouped options taken (e ∷ es) =
+    close_if (is_full options (taken ++ e ∷ [])) (λ rest. grouped options rest es) (taken ++ e ∷ [])
 
 -- the entries that are left make a block, where there are some
 abbrev pub last_group : List Entry → List (List Entry)
@@ -45,7 +48,8 @@ groups_of g = g.closed ++ last_group g.taken
 -- the data blocks one after another, each with its trailer
 unfoldable pub data_text : ℕ → List (List Entry) → List ℕ
 data_text interval [] = []
-data_text interval (group ∷ groups) = stored (block_bytes interval group) ++ data_text interval groups
+data_text interval (group ∷ groups) =
+    stored (block_bytes interval group) ++ data_text interval groups
 
 abbrev pub place : ℕ → List ℕ → Handle
 place offset contents = record { offset = offset; size = length contents }
@@ -66,7 +70,11 @@ index_of interval offset ((e ∷ es) ∷ groups) =
 abbrev pub file_of : List ℕ → List ℕ → List ℕ → List ℕ
 file_of front metaindex index =
     ((front ++ stored metaindex) ++ stored index)
-    ++ footer_text (record { metaindex = place (length front) metaindex; index = place (length (front ++ stored metaindex)) index })
+    ++ footer_text (record {
+      metaindex = place (length front) metaindex;
+      index = place
+          (length (front ++ stored metaindex)) index;
+    })
 
 -- the index block has a restart at each entry
 abbrev pub index_block : ℕ → List (List Entry) → List ℕ
@@ -74,7 +82,8 @@ index_block interval groups = block_bytes 1 (index_of interval 0 groups)
 
 -- the file of data blocks of these entries; the metaindex block is empty
 abbrev pub file_of_groups : ℕ → List (List Entry) → List ℕ
-file_of_groups interval groups = file_of (data_text interval groups) (block_bytes 1 []) (index_block interval groups)
+file_of_groups interval groups =
+    file_of (data_text interval groups) (block_bytes 1 []) (index_block interval groups)
 
 abbrev pub groups_by : TableOptions → List Entry → List (List Entry)
 groups_by options es = groups_of (grouped options [] es)
@@ -96,4 +105,6 @@ taken_with options es e = (grouped options [] es).taken ++ e ∷ []
 abbrev pub PassesLimit : TableOptions → List Entry → Entry → Type 0
 PassesLimit options es e =
     (2 ^ 32 ≤ length (block_bytes options.restart_interval (taken_with options es e)))
-    ⊎ ((is_full options (taken_with options es e) ≡ true) × (2 ^ 32 ≤ length (index_block options.restart_interval (groups_by options (es ++ e ∷ [])))))
+    ⊎ ((is_full options (taken_with options es e) ≡ true)
+    × (2 ^ 32 ≤ length (index_block options.restart_interval (groups_by options (es ++ e
+    ∷ [])))))

@@ -25,7 +25,8 @@ pub record IsPutAs (i : Imaged) (number : ℕ) (t : Table) : Type 0 where
   pub largest : t.largest ≡ i.largest
   pub image : t.image ≡ i.bytes
 
--- Why a put is refused, and what the shelf was told: nothing, or the table was put and its record found no memory.
+-- Why a put is refused, and what the shelf was told: nothing, or the table was put and its record
+-- found no memory.
 abbrev pub IsPutRefusal : ℕ → List ℕ → ShelfFault → Told → Told → Type 0
 IsPutRefusal number image fault was is = TakenIs number fault
     × CountedBy {T = Unit {0}} (Err fault) was is

@@ -1,6 +1,7 @@
 -- Reading a table: its footer, its index block, and then for each index entry its value, its data
 -- block and its keys; the entries, or the first fault in this order.
-use Rattle.std.specs.Prelude.{ℕ, ◌==◌, ◌&&◌, Bool, true, false, List, [], ◌∷◌, length, Option, Some, None, Result, Ok, Err}
+use Rattle.std.specs.Prelude.{ℕ, ◌==◌, ◌&&◌, Bool, true, false, List, [], ◌∷◌, length, Option, Some}
+use Rattle.std.specs.Prelude.{None, Result, Ok, Err}
 use Rattle.std.specs.Ordering.{is_lt, is_le}
 use Rattle.lsm_codec.specs.Keys.{InternalKey, key_cmp}
 use Rattle.lsm_codec.specs.Entries.{Entry, internal_key, entry_cmp}
@@ -38,7 +39,8 @@ data_block_at body bound i = do
   guarded (are_placed bound i entries) BadIndex (Ok entries)
 
 -- the data blocks of index entries
-unfoldable pub data_at : List ℕ → Option InternalKey → List Entry → Result (List (List Entry)) TableFault
+unfoldable pub data_at : List ℕ → Option InternalKey → List Entry
+    → Result (List (List Entry)) TableFault
 data_at body bound [] = Ok []
 data_at body bound (i ∷ index) = do
   entries ← data_block_at body bound i

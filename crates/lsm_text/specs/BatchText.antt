@@ -1,6 +1,7 @@
--- A batch as text: this project's rule. One key a line, `KEY=VALUE` for its new value or `KEY!` where it is deleted; KEY and VALUE are words
--- of one form, hex or text.
-use Rattle.std.specs.Prelude.{◌≡◌, ℕ, ◌-◌, ◌<◌, ◌≤◌, ⊤, List, [], ◌∷◌, ◌++◌, length, take, get_or, codes, Option, None, Some}
+-- A batch as text: this project's rule. One key a line, `KEY=VALUE` for its new value or `KEY!`
+-- where it is deleted; KEY and VALUE are words of one form, hex or text.
+use Rattle.std.specs.Prelude.{◌≡◌, ℕ, ◌-◌, ◌<◌, ◌≤◌, ⊤, List, [], ◌∷◌, ◌++◌, length, take, get_or}
+use Rattle.std.specs.Prelude.{codes, Option, None, Some}
 use Rattle.lsm_batch.specs.declared.write.Write.{Write}
 use Rattle.lsm_text.specs.EntryList.{lines_of}
 use Rattle.lsm_text.specs.Spelling.{IsWord}

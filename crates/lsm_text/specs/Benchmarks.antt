@@ -15,4 +15,5 @@ benchmark_word benchmark.Compact = codes "compact"
 
 -- The word is the names of the benchmarks, of which there are some, joined by commas (44).
 abbrev pub AreBenchmarks : List ℕ → List Benchmark → Type 0
-AreBenchmarks word benchmarks = (benchmarks ≢ []) × (word ≡ join_with_byte 44 (map benchmark_word benchmarks))
+AreBenchmarks word benchmarks =
+    (benchmarks ≢ []) × (word ≡ join_with_byte 44 (map benchmark_word benchmarks))

@@ -1,6 +1,7 @@
 -- A text list of entries, as `lsm mktable` reads it and `lsm dump` prints it: this project's rule.
 -- One entry a line, `KEY SEQ put VALUE` or `KEY SEQ del`, in the order of tables.
-use Rattle.std.specs.Prelude.{◌≡◌, ℕ, ◌-◌, ◌^◌, ◌<◌, ◌≤◌, ◌==◌, ⊤, cond, List, [], ◌∷◌, ◌++◌, length, take, codes, Ok}
+use Rattle.std.specs.Prelude.{◌≡◌, ℕ, ◌-◌, ◌^◌, ◌<◌, ◌≤◌, ◌==◌, ⊤, cond, List, [], ◌∷◌, ◌++◌}
+use Rattle.std.specs.Prelude.{length, take, codes, Ok}
 use Rattle.hex.specs.Hex.{decode_of}
 use Rattle.lsm_codec.specs.declared.kind.Kind.{Kind}
 use Rattle.lsm_codec.specs.declared.kind.Kind.TheVariants.{Deletion, Value}
@@ -38,7 +39,8 @@ pub record IsSequenceWord (word : List ℕ) (seq : ℕ) : Type 0 where
 abbrev pub IsAction : List ℕ → Kind → List ℕ → Type 0
 IsAction action Deletion value = (action ≡ codes "del") × (value ≡ [])
 IsAction action Value value =
-    (word : List ℕ) × (action ≡ codes "put " ++ word) × IsBytesWord word value × (length value ≤ most_value)
+    (word : List ℕ) × (action ≡ codes "put " ++ word) × IsBytesWord word value
+    × (length value ≤ most_value)
 
 -- The line spells the entry. One space (32) parts two words.
 pub record IsEntryLine (line : List ℕ) (entry : Entry) : Type 0 where
@@ -67,7 +69,8 @@ pub record AreEntries (lines : List (List ℕ)) (entries : List Entry) : Type 0 
 abbrev pub IsEntryList : List ℕ → List Entry → Type 0
 IsEntryList text entries = AreEntries (lines_of text) entries
 
--- Line i, counted from 1, is the first that makes the text no list: those before it are one, and with it they are none.
+-- Line i, counted from 1, is the first that makes the text no list: those before it are one, and
+-- with it they are none.
 pub record IsFirstBadLine (text : List ℕ) (i : ℕ) : Type 0 where
   pub from_one : 0 < i
   pub within : i ≤ length (lines_of text)

@@ -1,4 +1,5 @@
--- The text that `lsm dump` prints for entries: lower case, no leading zeros, a newline after each line.
+-- The text that `lsm dump` prints for entries: lower case, no leading zeros, a newline after each
+-- line.
 use Rattle.std.specs.Prelude.{◌≡◌, ℕ, ◌^◌, ◌<◌, ◌≤◌, List, [], ◌∷◌, ◌++◌, length, codes, decimal}
 use Rattle.std.specs.List.{flat_map}
 use Rattle.hex.specs.Hex.{encode_lower, IsBytes}

@@ -10,9 +10,11 @@ use Rattle.lsm_manifest.specs.declared.edit_fault.EditFault.TheVariants.{OutOfMe
 use Rattle.lsm_text.specs.declared.entry_reader.LineFault.{LineFault}
 use Rattle.lsm_text.specs.declared.entry_reader.LineFault.TheVariants.{BadLine as BadLineOfList, OutOfMemory as NoMemoryForList}
 use Rattle.lsm_text.specs.declared.fault.Fault.{Fault}
-use Rattle.lsm_text.specs.declared.fault.Fault.TheVariants.{Read, BadLine, OutOfMemory, Table, TooLarge, Log, Edit}
+use Rattle.lsm_text.specs.declared.fault.Fault.TheVariants.{Read, BadLine, OutOfMemory, Table}
+use Rattle.lsm_text.specs.declared.fault.Fault.TheVariants.{TooLarge, Log, Edit}
 use Rattle.lsm_text.specs.declared.streams.InputFault.{InputFault}
-use Rattle.lsm_text.specs.declared.streams.InputFault.TheVariants.{Read as ReadOfInput, TooLong, OutOfMemory as NoMemoryForInput}
+use Rattle.lsm_text.specs.declared.streams.InputFault.TheVariants.{Read as ReadOfInput, TooLong}
+use Rattle.lsm_text.specs.declared.streams.InputFault.TheVariants.{OutOfMemory as NoMemoryForInput}
 
 abbrev pub of_input : InputFault → Fault
 of_input ReadOfInput = Read

@@ -1,4 +1,5 @@
--- What a fault is called on standard error: this project's rule. Of a refusal its number and name, and then its field.
+-- What a fault is called on standard error: this project's rule. Of a refusal its number and name,
+-- and then its field.
 use Rattle.std.specs.Prelude.{ℕ, List, [], ◌∷◌, ◌++◌, codes, decimal, Option, Some, None}
 use Rattle.lsm_block.specs.declared.build_fault.BuildFault.TheVariants.{TooLarge as TooLargeBlock}
 use Rattle.lsm_block.specs.BuildFault as block
@@ -18,7 +19,8 @@ use Rattle.lsm_manifest.specs.EditFault as edit
 use Rattle.lsm_manifest.specs.declared.replay_fault.ReplayFault.{ReplayFault}
 use Rattle.lsm_manifest.specs.declared.replay_fault.ReplayFault.TheVariants as replay_faults
 use Rattle.lsm_text.specs.declared.fault.Fault.{Fault}
-use Rattle.lsm_text.specs.declared.fault.Fault.TheVariants.{Read, Write, BadLine, OutOfMemory, Table, Log, Edit, TooLarge}
+use Rattle.lsm_text.specs.declared.fault.Fault.TheVariants.{Read, Write, BadLine, OutOfMemory}
+use Rattle.lsm_text.specs.declared.fault.Fault.TheVariants.{Table, Log, Edit, TooLarge}
 
 -- a space and the field, where there is one
 abbrev pub field_text : Option ℕ → List ℕ
@@ -26,7 +28,8 @@ field_text None = []
 field_text (Some field) = 32 ∷ decimal field
 
 abbrev pub refusal_text : ℕ → List ℕ → Option ℕ → List ℕ
-refusal_text number name field = codes "refused " ++ (decimal number ++ (32 ∷ (name ++ field_text field)))
+refusal_text number name field =
+    codes "refused " ++ (decimal number ++ (32 ∷ (name ++ field_text field)))
 
 -- the offset or the type that a refusal of a table names
 abbrev pub table_field : TableFault → Option ℕ
@@ -83,10 +86,13 @@ fault_text Read = codes "read fault"
 fault_text Write = codes "write fault"
 fault_text (BadLine line) = codes "bad line " ++ decimal line
 fault_text OutOfMemory = refusal_text 1 (codes "OutOfMemory") None
-fault_text TooLarge = refusal_text (block.number_of TooLargeBlock) (block.name_of TooLargeBlock) None
-fault_text (Table fault) = refusal_text (table.number_of fault) (table.name_of fault) (table_field fault)
+fault_text TooLarge = refusal_text (block.number_of TooLargeBlock) (block.name_of TooLargeBlock)
+    None
+fault_text (Table fault) = refusal_text (table.number_of fault) (table.name_of fault)
+    (table_field fault)
 fault_text (Log fault) = refusal_text (log.number_of fault) (log.name_of fault) (log_field fault)
-fault_text (Edit fault) = refusal_text (edit.number_of fault) (edit.name_of fault) (edit_field fault)
+fault_text (Edit fault) = refusal_text (edit.number_of fault) (edit.name_of fault)
+    (edit_field fault)
 
 -- a line of its own
 abbrev pub fault_line : Fault → List ℕ

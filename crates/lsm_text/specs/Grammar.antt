@@ -27,7 +27,11 @@ valued name = record (new_rule name) { long = Some name; value_names = 1 }
 
 -- `--workers N`, 1 to 8, which is 2 where it is left out
 abbrev pub workers : Rule
-workers = record (valued (codes "workers")) { defaults = codes "2" ∷ []; parser = Some (parser.Unsigned 1 8) }
+workers = record (valued (codes "workers")) {
+  defaults = codes "2"
+      ∷ [];
+  parser = Some (parser.Unsigned 1 8);
+}
 
 -- `--workers N`, 1 to 16, of the threads that verify
 abbrev pub verifiers : Rule
@@ -39,28 +43,48 @@ compactors = record (valued (codes "workers")) { parser = Some (parser.Unsigned 
 
 -- `--from-line I`, a number below 2^64 and above 0, which is 1 where it is left out
 abbrev pub from_line : Rule
-from_line = record (valued (codes "from-line")) { defaults = codes "1" ∷ []; parser = Some (parser.Unsigned 1 18446744073709551615) }
+from_line = record (valued (codes "from-line")) {
+  defaults = codes "1"
+      ∷ [];
+  parser = Some (parser.Unsigned 1 18446744073709551615);
+}
 
 -- `--limit N`, a number below 2^64
 abbrev pub limit : Rule
 limit = record (valued (codes "limit")) { parser = Some (parser.Unsigned 0 18446744073709551615) }
 
--- `--benchmarks LIST`, which names all of them where it is left out, in the order of LevelDB's `db_bench` as far as they are in its own list
+-- `--benchmarks LIST`, which names all of them where it is left out, in the order of LevelDB's
+-- `db_bench` as far as they are in its own list
 abbrev pub benchmarks : Rule
 benchmarks =
-    record (valued (codes "benchmarks")) { defaults = codes "fillbatch,fillrandom,overwrite,readrandom,readwhilewriting,readseq,compact" ∷ [] }
+    record (valued (codes "benchmarks")) {
+      defaults = codes
+          "fillbatch,fillrandom,overwrite,readrandom,readwhilewriting,readseq,compact" ∷ [];
+    }
 
 -- `--num N`, 1 to 10,000,000, which is 1,000,000 where it is left out
 abbrev pub num : Rule
-num = record (valued (codes "num")) { defaults = codes "1000000" ∷ []; parser = Some (parser.Unsigned 1 10000000) }
+num = record (valued (codes "num")) {
+  defaults = codes "1000000"
+      ∷ [];
+  parser = Some (parser.Unsigned 1 10000000);
+}
 
 -- `--value-size N`, 65,536 at most, which is 100 where it is left out
 abbrev pub value_size : Rule
-value_size = record (valued (codes "value-size")) { defaults = codes "100" ∷ []; parser = Some (parser.Unsigned 0 65536) }
+value_size = record (valued (codes "value-size")) {
+  defaults = codes "100"
+      ∷ [];
+  parser = Some (parser.Unsigned 0 65536);
+}
 
 -- `--workers N`, 8 at most, which is 2 where it is left out
 abbrev pub some_workers : Rule
-some_workers = record (valued (codes "workers")) { defaults = codes "2" ∷ []; parser = Some (parser.Unsigned 0 8) }
+some_workers = record (valued (codes "workers")) {
+  defaults = codes "2"
+      ∷ [];
+  parser = Some (parser.Unsigned 0 8);
+}
 
 -- an option without a value
 abbrev pub flag : Text → Rule
@@ -121,7 +145,8 @@ get = command (codes "get") (folder ∷ key ∷ text ∷ flag (codes "raw") ∷ 
 unfoldable pub scan : App
 scan =
     command (codes "scan")
-    (folder ∷ valued (codes "from") ∷ valued (codes "to") ∷ valued (codes "prefix") ∷ limit ∷ text ∷ flag (codes "keys") ∷ flag (codes "json")
+    (folder ∷ valued (codes "from") ∷ valued (codes "to") ∷ valued (codes "prefix") ∷ limit ∷ text
+    ∷ flag (codes "keys") ∷ flag (codes "json")
     ∷ flag (codes "count") ∷ progress ∷ [])
 
 unfoldable pub ingest : App
@@ -134,7 +159,8 @@ unfoldable pub delete : App
 delete = command (codes "delete") (folder ∷ key ∷ text ∷ begin ∷ beside_log ∷ [])
 
 unfoldable pub load : App
-load = command (codes "load") (folder ∷ file ∷ text ∷ begin ∷ beside_log ∷ workers ∷ from_line ∷ progress ∷ [])
+load = command (codes "load") (folder ∷ file ∷ text ∷ begin ∷ beside_log ∷ workers ∷ from_line
+    ∷ progress ∷ [])
 
 unfoldable pub compact : App
 compact = command (codes "compact") (folder ∷ workers ∷ progress ∷ [])
@@ -153,30 +179,42 @@ help = command (codes "help") (topic ∷ [])
 
 -- ---- the program
 
--- It has a version, a command is to be named, and `help` is a command of its own; the words are those behind the program's name.
+-- It has a version, a command is to be named, and `help` is a command of its own; the words are
+-- those behind the program's name.
 unfoldable pub bare : App
 bare =
-    on_top (λ s. record s { has_version = true; no_binary_name = true; subcommand_required = true; disable_help_subcommand = true })
+    on_top (λ s. record s {
+      has_version = true;
+      no_binary_name = true;
+      subcommand_required = true;
+      disable_help_subcommand = true;
+    })
     (new_app (codes "lsm"))
 
 -- with the commands on an input
 unfoldable pub with_inputs : App
 with_inputs =
-    with_subcommand (with_subcommand (with_subcommand (with_subcommand bare make_table.top) dump.top) manifest.top) script.top
+    with_subcommand (with_subcommand
+    (with_subcommand (with_subcommand bare make_table.top) dump.top) manifest.top) script.top
 
 -- with those that only read a folder
 unfoldable pub with_looks : App
 with_looks =
-    with_subcommand (with_subcommand (with_subcommand (with_subcommand (with_subcommand with_inputs check.top) list.top) levels.top) get.top) scan.top
+    with_subcommand (with_subcommand
+    (with_subcommand (with_subcommand (with_subcommand with_inputs check.top) list.top)
+    levels.top) get.top) scan.top
 
 -- with those that write keys into a folder
 unfoldable pub with_writes : App
-with_writes = with_subcommand (with_subcommand (with_subcommand (with_subcommand with_looks ingest.top) put.top) delete.top) load.top
+with_writes = with_subcommand (with_subcommand
+    (with_subcommand (with_subcommand with_looks ingest.top) put.top) delete.top) load.top
 
 -- all commands
 unfoldable pub lsm : App
 lsm =
-    with_subcommand (with_subcommand (with_subcommand (with_subcommand (with_subcommand with_writes compact.top) clean.top) shell.top) bench.top) help.top
+    with_subcommand (with_subcommand
+    (with_subcommand (with_subcommand (with_subcommand with_writes compact.top) clean.top)
+    shell.top) bench.top) help.top
 
 -- ---- how the code shows it
 

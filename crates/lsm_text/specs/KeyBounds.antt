@@ -1,4 +1,5 @@
--- The user keys from one to another, both included, in bytewise order, that begin with some bytes; `None` is no bound, or any beginning.
+-- The user keys from one to another, both included, in bytewise order, that begin with some bytes;
+-- `None` is no bound, or any beginning.
 use Rattle.std.specs.Prelude.{Bool, true, false, not, ◌&&◌, ◌||◌, ◌==◌, Option, Some, None}
 use Rattle.std.specs.List.{starts_with}
 use Rattle.lsm_codec.specs.Keys.{UserKey, user_le}

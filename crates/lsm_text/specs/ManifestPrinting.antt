@@ -1,6 +1,7 @@
--- The text that `lsm manifest` prints: each edit's fields in the order of LevelDB's `db/version_edit.cc`, and the rest of the log
--- (this project's rule).
-use Rattle.std.specs.Prelude.{ℕ, suc, ◌/◌, ◌%◌, ◌==◌, cond, List, [], ◌∷◌, ◌++◌, codes, decimal, Option, Some, None}
+-- The text that `lsm manifest` prints: each edit's fields in the order of LevelDB's
+-- `db/version_edit.cc`, and the rest of the log (this project's rule).
+use Rattle.std.specs.Prelude.{ℕ, suc, ◌/◌, ◌%◌, ◌==◌, cond, List, [], ◌∷◌, ◌++◌, codes, decimal}
+use Rattle.std.specs.Prelude.{Option, Some, None}
 use Rattle.std.specs.List.{flat_map}
 use Rattle.lsm_manifest.specs.declared.parts.CompactPointer.{CompactPointer}
 use Rattle.lsm_manifest.specs.declared.parts.DeletedFile.{DeletedFile}
@@ -17,7 +18,8 @@ use Rattle.lsm_text.specs.declared.form.Form.TheVariants.{Hex}
 unfoldable pub key_word_in : Form → List ℕ → List ℕ
 key_word_in form key =
     spelled form (user_part key)
-    ++ (64 ∷ (decimal (packed_part key / 256) ++ cond (packed_part key % 256 == 0) (codes "-") (codes "+")))
+    ++ (64 ∷ (decimal (packed_part key / 256)
+    ++ cond (packed_part key % 256 == 0) (codes "-") (codes "+")))
 
 -- in hex
 unfoldable pub key_word : List ℕ → List ℕ
@@ -46,7 +48,8 @@ deleted_line d = codes "delete " ++ (decimal d.level ++ (32 ∷ (decimal d.numbe
 
 -- a number and a size, and a smallest and a largest key
 unfoldable pub file_words : FileMeta → List ℕ
-file_words f = decimal f.number ++ (32 ∷ (decimal f.size ++ (32 ∷ (key_word f.smallest ++ (32 ∷ key_word f.largest)))))
+file_words f = decimal f.number
+    ++ (32 ∷ (decimal f.size ++ (32 ∷ (key_word f.smallest ++ (32 ∷ key_word f.largest)))))
 
 unfoldable pub added_line : AddedFile → List ℕ
 added_line a = codes "add " ++ (decimal a.level ++ (32 ∷ (file_words a.file ++ (10 ∷ []))))
@@ -57,10 +60,12 @@ number_lines e =
     ++ (field_line (codes "next ") e.next ++ field_line (codes "last ") e.last))
 
 unfoldable pub list_lines : Change → List ℕ
-list_lines e = flat_map pointer_line e.pointers ++ (flat_map deleted_line e.deleted ++ flat_map added_line e.added)
+list_lines e = flat_map pointer_line e.pointers
+    ++ (flat_map deleted_line e.deleted ++ flat_map added_line e.added)
 
 unfoldable pub edit_lines : ℕ → Change → List ℕ
-edit_lines i e = number_line (codes "edit ") i ++ (comparator_line e.comparator ++ (number_lines e ++ list_lines e))
+edit_lines i e = number_line (codes "edit ") i
+    ++ (comparator_line e.comparator ++ (number_lines e ++ list_lines e))
 
 -- edits numbered from i on
 unfoldable pub edits_lines : ℕ → List Change → List ℕ

@@ -1,5 +1,6 @@
 -- What a reader of a text list has still to read.
-use Rattle.std.specs.Prelude.{◌≡◌, ℕ, ◌==◌, ⊤, Bool, true, false, cond, List, [], Option, Some, None, Result, Ok, Err, length}
+use Rattle.std.specs.Prelude.{◌≡◌, ℕ, ◌==◌, ⊤, Bool, true, false, cond, List, [], Option, Some}
+use Rattle.std.specs.Prelude.{None, Result, Ok, Err, length}
 use Rattle.lsm_codec.specs.Entries.{Entry}
 use Rattle.lsm_text.specs.declared.entry_reader.EntryReader.{EntryReader}
 use Rattle.lsm_text.specs.declared.entry_reader.LineFault.{LineFault}

@@ -1,8 +1,11 @@
--- What the words of a command line ask for, by what clap's grammar finds in them: this project's rule.
-use Rattle.std.specs.Prelude.{◌≡◌, ◌≢◌, ℕ, ◌+◌, ◌≤◌, ◌⊎◌, ⊤, Bool, true, false, if◌then◌else◌, List, [], ◌∷◌, codes, Option, Some, None, is_some, option_map}
+-- What the words of a command line ask for, by what clap's grammar finds in them: this project's
+-- rule.
+use Rattle.std.specs.Prelude.{◌≡◌, ◌≢◌, ℕ, ◌+◌, ◌≤◌, ◌⊎◌, ⊤, Bool, true, false, if◌then◌else◌, List}
+use Rattle.std.specs.Prelude.{[], ◌∷◌, codes, Option, Some, None, is_some, option_map}
 use Rattle.std.specs.Option.{option_map_or, option_or}
 use Rattle.std.specs.Str.{bytes_eq}
-use Rattle.clap.specs.Words.{IsAmong, Kinds, Row, Text, fault_of, first_of, found_of, rows_of, subcommand_of}
+use Rattle.clap.specs.Words.{IsAmong, Kinds, Row, Text, fault_of, first_of, found_of, rows_of}
+use Rattle.clap.specs.Words.{subcommand_of}
 use Rattle.clap.specs.declared.error.ErrorKind.{ErrorKind}
 use Rattle.clap.specs.declared.error.ErrorKind.TheVariants as kind
 use Rattle.clap.specs.declared.parser.ArgMatches.{ArgMatches}
@@ -33,16 +36,20 @@ use Rattle.lsm_text.specs.declared.levels_output.LevelsOutput.{LevelsOutput}
 use Rattle.lsm_text.specs.declared.levels_output.LevelsOutput.TheVariants as levels_output
 use Rattle.lsm_text.specs.declared.load_options.LoadOptions.{LoadOptions}
 use Rattle.lsm_text.specs.declared.request.Request.{Request}
-use Rattle.lsm_text.specs.declared.request.Request.TheVariants.{Convert, Look, Levels, Write as WriteFolder, Load, Compact, Script, Shell, Bench}
+use Rattle.lsm_text.specs.declared.request.Request.TheVariants.{Convert, Look, Levels}
+use Rattle.lsm_text.specs.declared.request.Request.TheVariants.{Write as WriteFolder, Load, Compact}
+use Rattle.lsm_text.specs.declared.request.Request.TheVariants.{Script, Shell, Bench}
 use Rattle.lsm_text.specs.declared.scan_options.ScanOptions.{ScanOptions}
 use Rattle.lsm_text.specs.declared.scan_output.ScanOutput.{ScanOutput}
 use Rattle.lsm_text.specs.declared.scan_output.ScanOutput.TheVariants.{Pairs, Keys, Json, Count}
 use Rattle.lsm_text.specs.declared.writing_command.WritingCommand.{WritingCommand}
-use Rattle.lsm_text.specs.declared.writing_command.WritingCommand.TheVariants.{Ingest, WriteKey, Clean}
+use Rattle.lsm_text.specs.declared.writing_command.WritingCommand.TheVariants.{Ingest, WriteKey}
+use Rattle.lsm_text.specs.declared.writing_command.WritingCommand.TheVariants.{Clean}
 
 -- ---- what clap finds
 
--- what is wrong with the words, as kinds of clap's errors (`fault_of`): nothing where they are of the grammar
+-- what is wrong with the words, as kinds of clap's errors (`fault_of`): nothing where they are of
+-- the grammar
 unfoldable pub faults_in : List Text → Kinds
 faults_in words = fault_of lsm words
 
@@ -104,7 +111,8 @@ named_otherwise word =
 
 unfoldable pub named : Text → Option CommandName
 named word =
-    option_or (option_or (option_or (named_converting word) (named_reading word)) (named_writing word))
+    option_or (option_or (option_or (named_converting word) (named_reading word))
+    (named_writing word))
     (named_otherwise word)
 
 -- the word that names a command
@@ -186,7 +194,8 @@ AreBounds rows bounds =
     × IsBound (form_in rows) (word_in (codes "to") rows) bounds.to
     × IsBound (form_in rows) (word_in (codes "prefix") rows) bounds.prefix
 
--- the word of an option writes a number below 2^64, and there is a number only where there is the option
+-- the word of an option writes a number below 2^64, and there is a number only where there is the
+-- option
 abbrev pub IsLimit : Option Text → Option ℕ → Type 0
 IsLimit None None = ⊤
 IsLimit None (Some n) = ⊥
@@ -195,7 +204,8 @@ IsLimit (Some word) (Some n) = IsNumberWord 18446744073709551615 word n
 
 -- `--exists` rules over `--raw`
 abbrev pub get_output_in : List Row → GetOutput
-get_output_in rows = if is_set (codes "exists") rows then Nothing else if is_set (codes "raw") rows then Raw else Line
+get_output_in rows = if is_set (codes "exists") rows then Nothing else if is_set (codes "raw") rows
+    then Raw else Line
 
 -- `--count` rules over `--json`, and that over `--keys`
 abbrev pub scan_output_in : List Row → ScanOutput
@@ -208,7 +218,8 @@ scan_output_in rows =
 -- `--files` and `--svg` exclude one another
 abbrev pub levels_output_in : List Row → Option LevelsOutput
 levels_output_in rows =
-    if is_set (codes "svg") rows then (if is_set (codes "files") rows then None else Some levels_output.Svg)
+    if is_set (codes "svg") rows then (if is_set (codes "files") rows then None
+    else Some levels_output.Svg)
     else if is_set (codes "files") rows then Some levels_output.Files
     else Some levels_output.Levels
 
@@ -231,7 +242,8 @@ IsNumberIn least most (Some word) n = IsNumberWord most word n × (least ≤ n)
 abbrev pub IsLineNumber : Option Text → ℕ → Type 0
 IsLineNumber = IsNumberIn 1 18446744073709551615
 
--- the word of an option writes a number from 1 to 16, and there is a number only where there is the option
+-- the word of an option writes a number from 1 to 16, and there is a number only where there is the
+-- option
 abbrev pub AreThreads : Option Text → Option ℕ → Type 0
 AreThreads None None = ⊤
 AreThreads None (Some n) = ⊥
@@ -240,22 +252,27 @@ AreThreads (Some word) (Some n) = IsNumberIn 1 16 (Some word) n
 
 abbrev pub AreScanOptions : List Row → ScanOptions → Type 0
 AreScanOptions rows options =
-    AreBounds rows options.bounds × IsLimit (word_in (codes "limit") rows) options.limit × (options.output ≡ scan_output_in rows)
+    AreBounds rows options.bounds × IsLimit (word_in (codes "limit") rows) options.limit
+    × (options.output ≡ scan_output_in rows)
 
 abbrev pub IsLook : List Row → DirectoryCommand → Type 0
 IsLook rows (look.Check workers) = AreThreads (word_in (codes "workers") rows) workers
 IsLook rows look.List = ⊤
-IsLook rows (look.Get key output) = IsSpelled (form_in rows) (word_in (codes "KEY") rows) key × (output ≡ get_output_in rows)
+IsLook rows (look.Get key output) =
+    IsSpelled (form_in rows) (word_in (codes "KEY") rows) key × (output ≡ get_output_in rows)
 IsLook rows (look.Scan options) = AreScanOptions rows options
 
 abbrev pub AreIngestOptions : List Row → IngestOptions → Type 0
 AreIngestOptions rows options =
-    (options.form ≡ form_in rows) × (options.begins ≡ is_set (codes "begin") rows) × (options.beside_log ≡ is_set (codes "beside-log") rows)
+    (options.form ≡ form_in rows) × (options.begins ≡ is_set (codes "begin") rows)
+    × (options.beside_log ≡ is_set (codes "beside-log") rows)
 
 abbrev pub AreLoadOptions : List Row → LoadOptions → Type 0
 AreLoadOptions rows options =
-    AreIngestOptions rows options.ingest × AreWorkers (word_in (codes "workers") rows) options.workers
-    × IsLineNumber (word_in (codes "from-line") rows) options.from_line × (options.progress ≡ is_set (codes "progress") rows)
+    AreIngestOptions rows options.ingest
+    × AreWorkers (word_in (codes "workers") rows) options.workers
+    × IsLineNumber (word_in (codes "from-line") rows) options.from_line
+    × (options.progress ≡ is_set (codes "progress") rows)
 
 -- the word names these benchmarks
 abbrev pub AreNamed : Option Text → List Benchmark → Type 0
@@ -264,8 +281,10 @@ AreNamed (Some word) benchmarks = AreBenchmarks word benchmarks
 
 abbrev pub AreBenchOptions : List Row → BenchOptions → Type 0
 AreBenchOptions rows options =
-    AreNamed (word_in (codes "benchmarks") rows) options.benchmarks.items × IsNumberIn 1 10000000 (word_in (codes "num") rows) options.num
-    × IsNumberIn 0 65536 (word_in (codes "value-size") rows) options.value_size × IsNumberIn 0 8 (word_in (codes "workers") rows) options.workers
+    AreNamed (word_in (codes "benchmarks") rows) options.benchmarks.items
+    × IsNumberIn 1 10000000 (word_in (codes "num") rows) options.num
+    × IsNumberIn 0 65536 (word_in (codes "value-size") rows) options.value_size
+    × IsNumberIn 0 8 (word_in (codes "workers") rows) options.workers
 
 -- a new value is what VALUE spells
 abbrev pub IsNewValue : List Row → Option (List ℕ) → Type 0
@@ -273,10 +292,12 @@ IsNewValue rows None = ⊤
 IsNewValue rows (Some value) = IsSpelled (form_in rows) (word_in (codes "VALUE") rows) value
 
 abbrev pub IsKeyWrite : List Row → Write → Type 0
-IsKeyWrite rows w = IsSpelled (form_in rows) (word_in (codes "KEY") rows) w.key × IsNewValue rows w.value
+IsKeyWrite rows w = IsSpelled (form_in rows) (word_in (codes "KEY") rows) w.key
+    × IsNewValue rows w.value
 
 abbrev pub IsWrite : List Row → WritingCommand → Type 0
-IsWrite rows (Ingest input options) = IsInput (word_in (codes "FILE") rows) input × AreIngestOptions rows options
+IsWrite rows (Ingest input options) =
+    IsInput (word_in (codes "FILE") rows) input × AreIngestOptions rows options
 IsWrite rows (WriteKey w options) = IsKeyWrite rows w × AreIngestOptions rows options
 IsWrite rows Clean = ⊤
 
@@ -284,20 +305,27 @@ IsWrite rows Clean = ⊤
 abbrev pub Says : List Row → Request → Type 0
 Says rows (Convert conversion input) = IsInput (word_in (codes "FILE") rows) input
 Says rows (Look line) =
-    (word_in (codes "DIR") rows ≡ Some line.path.now) × IsLook rows line.command × (line.form ≡ form_in rows)
+    (word_in (codes "DIR") rows ≡ Some line.path.now) × IsLook rows line.command
+    × (line.form ≡ form_in rows)
     × (line.progress ≡ is_set (codes "progress") rows)
 Says rows (Levels line) =
-    (word_in (codes "DIR") rows ≡ Some line.path.now) × (line.form ≡ form_in rows) × (levels_output_in rows ≡ Some line.output)
-Says rows (WriteFolder line) = (word_in (codes "DIR") rows ≡ Some line.path.now) × IsWrite rows line.command
+    (word_in (codes "DIR") rows ≡ Some line.path.now) × (line.form ≡ form_in rows)
+    × (levels_output_in rows ≡ Some line.output)
+Says rows (WriteFolder line) =
+    (word_in (codes "DIR") rows ≡ Some line.path.now) × IsWrite rows line.command
 Says rows (Load line) =
-    (word_in (codes "DIR") rows ≡ Some line.path.now) × IsInput (word_in (codes "FILE") rows) line.input × AreLoadOptions rows line.options
+    (word_in (codes "DIR") rows ≡ Some line.path.now)
+    × IsInput (word_in (codes "FILE") rows) line.input × AreLoadOptions rows line.options
 Says rows (Compact line) =
-    (word_in (codes "DIR") rows ≡ Some line.path.now) × AreWorkers (word_in (codes "workers") rows) line.options.workers
+    (word_in (codes "DIR") rows ≡ Some line.path.now)
+    × AreWorkers (word_in (codes "workers") rows) line.options.workers
     × (line.options.progress ≡ is_set (codes "progress") rows)
 Says rows (Script input) = IsInput (word_in (codes "FILE") rows) input
 Says rows (Shell line) =
-    (word_in (codes "DIR") rows ≡ Some line.path.now) × AreIngestOptions rows line.options × AreThreads (word_in (codes "workers") rows) line.workers
-Says rows (Bench line) = (word_in (codes "DIR") rows ≡ Some line.path.now) × AreBenchOptions rows line.options
+    (word_in (codes "DIR") rows ≡ Some line.path.now) × AreIngestOptions rows line.options
+    × AreThreads (word_in (codes "workers") rows) line.workers
+Says rows (Bench line) = (word_in (codes "DIR") rows ≡ Some line.path.now)
+    × AreBenchOptions rows line.options
 
 -- The command that was found is the request's, and the request says what its rows say.
 pub record IsAsked (found : Option (Text × List Row)) (request : Request) : Type 0 where
@@ -317,28 +345,34 @@ Asks request words = (faults_in words ≡ []) × IsAsked (found_in words) reques
 abbrev pub AskNothing : List Text → Type 0
 AskNothing words = (request : Request) → Asks request words → ⊥
 
--- Of which command `help` is asked by the word behind it: of none where there is no word. None where it names no command.
+-- Of which command `help` is asked by the word behind it: of none where there is no word. None
+-- where it names no command.
 abbrev pub topic_of : Option Text → Option (Option CommandName)
 topic_of None = Some None
 topic_of (Some word) = option_map Some (named word)
 
--- Of what `help` is asked: none where it is not the command that was found, or is asked of no command.
+-- Of what `help` is asked: none where it is not the command that was found, or is asked of no
+-- command.
 abbrev pub topic_in : Option (Text × List Row) → Option (Option CommandName)
 topic_in None = None
-topic_in (Some (name, rows)) = if bytes_eq name (codes "help") then topic_of (word_in (codes "COMMAND") rows) else None
+topic_in (Some (name, rows)) =
+    if bytes_eq name (codes "help") then topic_of (word_in (codes "COMMAND") rows) else None
 
--- They ask for help or for the version: clap answers with that; or it is `help` that they name, alone or of a command.
+-- They ask for help or for the version: clap answers with that; or it is `help` that they name,
+-- alone or of a command.
 abbrev pub AskHelp : List Text → Type 0
 AskHelp words =
     (IsAmong kind.DisplayHelp (faults_in words) ⊎ IsAmong kind.DisplayVersion (faults_in words))
     ⊎ ((faults_in words ≡ []) × (is_some (topic_in (found_in words)) ≡ true))
 
--- There is a fault: the words are not of the grammar, and it is not help or the version that they ask for; or they are of the
--- grammar, and a word spells no bytes or writes no number, or behind `help` is no command.
+-- There is a fault: the words are not of the grammar, and it is not help or the version that they
+-- ask for; or they are of the grammar, and a word spells no bytes or writes no number, or behind
+-- `help` is no command.
 abbrev pub HaveUsageFault : List Text → Type 0
 HaveUsageFault words =
     ((faults_in words ≡ []) × (is_some (topic_in (found_in words)) ≡ false))
-    ⊎ ((k : ErrorKind) × IsAmong k (faults_in words) × (k ≢ kind.DisplayHelp) × (k ≢ kind.DisplayVersion))
+    ⊎ ((k : ErrorKind) × IsAmong k (faults_in words) × (k ≢ kind.DisplayHelp)
+    × (k ≢ kind.DisplayVersion))
 
 -- what words come to
 abbrev pub IsLine : List Text → CommandLine → Type 0
@@ -368,8 +402,10 @@ IsUnasked found (Bad text) = is_some (topic_in found) ≡ false
 -- what is said where something was found
 abbrev pub IsOf : Option (Text × List Row) → CommandLine → Type 0
 IsOf found (Run request) = IsAsked found request
-IsOf found (Help text) = ((request : Request) → IsAsked found request → ⊥) × (is_some (topic_in found) ≡ true)
-IsOf found (Bad text) = ((request : Request) → IsAsked found request → ⊥) × (is_some (topic_in found) ≡ false)
+IsOf found (Help text) = ((request : Request) → IsAsked found request → ⊥)
+    × (is_some (topic_in found) ≡ true)
+IsOf found (Bad text) = ((request : Request) → IsAsked found request → ⊥)
+    × (is_some (topic_in found) ≡ false)
 
 -- what an error of this kind comes to
 abbrev pub IsOfKind : ErrorKind → CommandLine → Type 0

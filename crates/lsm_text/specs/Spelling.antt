@@ -1,5 +1,6 @@
 -- Words for bytes, in hex or as text: this project's rule.
-use Rattle.std.specs.Prelude.{◌≡◌, ◌≢◌, ℕ, ◌+◌, ◌/◌, ◌%◌, ◌<◌, ◌==◌, ◌&&◌, ◌⊎◌, Bool, true, not, nat_lt, if◌then◌else◌, List, [], ◌∷◌, ◌++◌, codes}
+use Rattle.std.specs.Prelude.{◌≡◌, ◌≢◌, ℕ, ◌+◌, ◌/◌, ◌%◌, ◌<◌, ◌==◌, ◌&&◌, ◌⊎◌, Bool, true, not}
+use Rattle.std.specs.Prelude.{nat_lt, if◌then◌else◌, List, [], ◌∷◌, ◌++◌, codes}
 use Rattle.std.specs.List.{flat_map}
 use Rattle.std.specs.Str.{bytes_eq}
 use Rattle.lsm_text.specs.EntryList.{IsBytesWord}
@@ -7,7 +8,8 @@ use Rattle.lsm_text.specs.EntryPrinting.{bytes_word}
 use Rattle.lsm_text.specs.declared.form.Form.{Form}
 use Rattle.lsm_text.specs.declared.form.Form.TheVariants.{Hex, Text}
 
--- In a text such a byte stands for itself: it prints and is no blank (33 to 126), and is none of `!` (33), `=` (61), `@` (64) and `\` (92).
+-- In a text such a byte stands for itself: it prints and is no blank (33 to 126), and is none of
+-- `!` (33), `=` (61), `@` (64) and `\` (92).
 abbrev pub is_plain : ℕ → Bool
 is_plain b = nat_lt 33 b && nat_lt b 127 && not (b == 61) && not (b == 64) && not (b == 92)
 
@@ -27,7 +29,8 @@ spelled_byte b = if is_plain b then b ∷ [] else escaped b
 -- `.` is no bytes, so that a lone dot is `\x2e`
 abbrev pub text_word : List ℕ → List ℕ
 text_word [] = codes "."
-text_word (b ∷ bs) = if bytes_eq (b ∷ bs) (codes ".") then escaped 46 else flat_map spelled_byte (b ∷ bs)
+text_word (b ∷ bs) = if bytes_eq (b ∷ bs) (codes ".") then escaped 46
+    else flat_map spelled_byte (b ∷ bs)
 
 abbrev pub spelled : Form → List ℕ → List ℕ
 spelled Hex bytes = bytes_word bytes
@@ -42,7 +45,8 @@ IsPart part b = ((part ≡ b ∷ []) × (is_plain b ≡ true)) ⊎ ((part ≡ es
 -- byte after byte
 abbrev pub AreParts : List ℕ → List ℕ → Type 0
 AreParts word [] = word ≡ []
-AreParts word (b ∷ bs) = (part : List ℕ) × (rest : List ℕ) × (word ≡ part ++ rest) × IsPart part b × AreParts rest bs
+AreParts word (b ∷ bs) = (part : List ℕ) × (rest : List ℕ) × (word ≡ part ++ rest) × IsPart part b
+    × AreParts rest bs
 
 abbrev pub IsTextWord : List ℕ → List ℕ → Type 0
 IsTextWord word [] = word ≡ codes "."

@@ -1,5 +1,6 @@
 -- Where a word stops being one of its form: this project's rule.
-use Rattle.std.specs.Prelude.{◌≡◌, ◌%◌, ◌⊎◌, ℕ, false, ⊤, List, [], ◌∷◌, ◌++◌, length, Option, Some, None}
+use Rattle.std.specs.Prelude.{◌≡◌, ◌%◌, ◌⊎◌, ℕ, false, ⊤, List, [], ◌∷◌, ◌++◌, length, Option, Some}
+use Rattle.std.specs.Prelude.{None}
 use Rattle.std.specs.List.{AllPass}
 use Rattle.hex.specs.Hex.{is_hex_digit}
 use Rattle.lsm_text.specs.Spelling.{AreParts, IsPart}

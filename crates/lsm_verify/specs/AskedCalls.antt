@@ -7,11 +7,13 @@ use Rattle.lsm_table.specs.declared.read_fault.ReadFault.TheVariants.{Shelf, Tab
 use Rattle.lsm_reader.specs.Refusals.{IsReadRefusal, ReadRefused}
 use Rattle.lsm_query.specs.Unread.{IsOfFile}
 use Rattle.lsm_verify.specs.declared.check_fault.CheckFault.{CheckFault}
-use Rattle.lsm_verify.specs.declared.check_fault.CheckFault.TheVariants.{Read, DoubleFile, Overlap, WrongRange, AgeOrder}
+use Rattle.lsm_verify.specs.declared.check_fault.CheckFault.TheVariants.{Read, DoubleFile, Overlap}
+use Rattle.lsm_verify.specs.declared.check_fault.CheckFault.TheVariants.{WrongRange, AgeOrder}
 
 -- A fault of the shelf is its refusal to load the file of this number, or to give bytes of it.
 abbrev pub IsFileAsked : (Asked → ShelfFault → Type 0) → ℕ → ReadFault → Type 0
-IsFileAsked Refuses number (Shelf fault) = Refuses (Load number) fault ⊎ ReadRefused Refuses number fault
+IsFileAsked Refuses number (Shelf fault) =
+    Refuses (Load number) fault ⊎ ReadRefused Refuses number fault
 IsFileAsked Refuses number (Table fault) = Unit {0}
 
 -- so it is of the file that is named, and one is named

@@ -5,7 +5,8 @@ use Rattle.lsm_table.specs.declared.table_fault.TableFault.TheVariants.{OutOfMem
 use Rattle.lsm_table.specs.ReadFault as read
 use Rattle.lsm_table.specs.Told.{Told}
 use Rattle.lsm_verify.specs.declared.check_fault.CheckFault.{CheckFault}
-use Rattle.lsm_verify.specs.declared.check_fault.CheckFault.TheVariants.{Read, DoubleFile, Overlap, WrongRange, AgeOrder}
+use Rattle.lsm_verify.specs.declared.check_fault.CheckFault.TheVariants.{Read, DoubleFile, Overlap}
+use Rattle.lsm_verify.specs.declared.check_fault.CheckFault.TheVariants.{WrongRange, AgeOrder}
 
 abbrev pub number_of : CheckFault → ℕ
 number_of (Read file fault) = read.number_of fault

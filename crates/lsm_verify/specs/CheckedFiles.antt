@@ -1,5 +1,7 @@
--- What a check reads of the files of a shape, and how it judges one of them (this project's rule; the shape is that of the manifest).
-use Rattle.std.specs.Prelude.{◌≡◌, ℕ, ◌+◌, ◌≤◌, min, max, Bool, false, ◌&&◌, cond, List, [], ◌∷◌, Option, Some, None, length, nat_le}
+-- What a check reads of the files of a shape, and how it judges one of them (this project's rule;
+-- the shape is that of the manifest).
+use Rattle.std.specs.Prelude.{◌≡◌, ℕ, ◌+◌, ◌≤◌, min, max, Bool, false, ◌&&◌, cond, List, [], ◌∷◌}
+use Rattle.std.specs.Prelude.{Option, Some, None, length, nat_le}
 use Rattle.std.specs.Ordering.{is_eq}
 use Rattle.lsm_codec.specs.Lists.{Has}
 use Rattle.lsm_codec.specs.Keys.{InternalKey, IsKey, key_cmp}
@@ -45,10 +47,12 @@ abbrev pub ends_at : InternalKey → Option InternalKey → Bool
 ends_at key None = false
 ends_at key (Some own) = is_eq (key_cmp own key)
 
--- no entry is above the last sequence, and the last one has this key; `before` is the key of the entry before, if there is one
+-- no entry is above the last sequence, and the last one has this key; `before` is the key of the
+-- entry before, if there is one
 abbrev pub ends_with : ℕ → InternalKey → Option InternalKey → List Entry → Bool
 ends_with last key before [] = ends_at key before
-ends_with last key before (e ∷ es) = nat_le e.seq last && ends_with last key (Some (internal_key e)) es
+ends_with last key before (e ∷ es) =
+    nat_le e.seq last && ends_with last key (Some (internal_key e)) es
 
 -- the sequences of one entry
 abbrev pub of_one : ℕ → Sequences
@@ -56,15 +60,22 @@ of_one seq = record { least = seq; greatest = seq; count = 1 }
 
 -- those with one more
 abbrev pub spread : Sequences → ℕ → Sequences
-spread s seq = record { least = min s.least seq; greatest = max s.greatest seq; count = s.count + 1 }
+spread s seq = record {
+  least = min s.least seq;
+  greatest = max s.greatest seq;
+  count = s.count
+      + 1;
+}
 
 -- The same walk with the sequences of the entries before: none where the test fails.
 abbrev pub walked : ℕ → InternalKey → Option InternalKey → Sequences → List Entry → Option Sequences
 walked last key before s [] = cond (ends_at key before) (Some s) None
-walked last key before s (e ∷ es) = cond (nat_le e.seq last) (walked last key (Some (internal_key e)) (spread s e.seq) es) None
+walked last key before s (e ∷ es) =
+    cond (nat_le e.seq last) (walked last key (Some (internal_key e)) (spread s e.seq) es) None
 
 -- and from the first entry on, which has to have the first key
 abbrev pub walked_all : ℕ → InternalKey → InternalKey → List Entry → Option Sequences
 walked_all last first end [] = None
 walked_all last first end (e ∷ es) =
-    cond (is_eq (key_cmp (internal_key e) first) && nat_le e.seq last) (walked last end (Some (internal_key e)) (of_one e.seq) es) None
+    cond (is_eq (key_cmp (internal_key e) first)
+    && nat_le e.seq last) (walked last end (Some (internal_key e)) (of_one e.seq) es) None

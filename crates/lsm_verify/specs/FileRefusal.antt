@@ -10,18 +10,24 @@ use Rattle.lsm_table.specs.TableReading.{table_at}
 use Rattle.lsm_table.specs.HeldTable.{entries_in}
 use Rattle.lsm_manifest.specs.FileOrder.{TableFile}
 use Rattle.lsm_verify.specs.declared.check_fault.CheckFault.{CheckFault}
-use Rattle.lsm_verify.specs.declared.check_fault.CheckFault.TheVariants.{Read, DoubleFile, Overlap, WrongRange, AgeOrder}
+use Rattle.lsm_verify.specs.declared.check_fault.CheckFault.TheVariants.{Read, DoubleFile, Overlap}
+use Rattle.lsm_verify.specs.declared.check_fault.CheckFault.TheVariants.{WrongRange, AgeOrder}
 use Rattle.lsm_verify.specs.CheckedFiles.{IsImageOf}
 use Rattle.lsm_query.specs.Unread.{IsWant}
 
--- `Stored` says which images the shelf holds under the file's number, which each refusal names, and `Refused` with which faults it refused to
--- load that: the shelf refused this load; or memory ran out; or a stored image is no table; or it is a table, and not the file's.
-abbrev pub IsFileRefusal : (List ℕ → Type 0) → (ShelfFault → Type 0) → ℕ → TableFile → CheckFault → Type 0
-IsFileRefusal Stored Refused last file (Read number (Shelf fault)) = (number ≡ Some file.number) × Refused fault
+-- `Stored` says which images the shelf holds under the file's number, which each refusal names, and
+-- `Refused` with which faults it refused to load that: the shelf refused this load; or memory ran
+-- out; or a stored image is no table; or it is a table, and not the file's.
+abbrev pub IsFileRefusal : (List ℕ → Type 0) → (ShelfFault → Type 0) → ℕ → TableFile → CheckFault
+    → Type 0
+IsFileRefusal Stored Refused last file (Read number (Shelf fault)) =
+    (number ≡ Some file.number) × Refused fault
 IsFileRefusal Stored Refused last file (Read number (Table fault)) =
-    (number ≡ Some file.number) × (is_memory fault ≡ false → (image : List ℕ) × Stored image × (table_at image ≡ Err fault))
+    (number ≡ Some file.number) × (is_memory fault ≡ false
+    → (image : List ℕ) × Stored image × (table_at image ≡ Err fault))
 IsFileRefusal Stored Refused last file (WrongRange number) =
-    (number ≡ file.number) × ((image : List ℕ) × Stored image × IsTable image (entries_in image) × (IsImageOf last file image → ⊥))
+    (number ≡ file.number) × ((image : List ℕ) × Stored image × IsTable image (entries_in image)
+    × (IsImageOf last file image → ⊥))
 IsFileRefusal Stored Refused last file (DoubleFile number) = ⊥
 IsFileRefusal Stored Refused last file (Overlap level) = ⊥
 IsFileRefusal Stored Refused last file (AgeOrder user) = ⊥
@@ -43,7 +49,10 @@ abbrev pub IsGood : (ℕ → List ℕ → Type 0) → ℕ → TableFile → Type
 IsGood Stored last file = (image : List ℕ) × Stored file.number image × IsImageOf last file image
 
 -- memory ran out beside the files, or one of them is refused, and each one before it is good
-abbrev pub IsFilesRefusal : (ℕ → List ℕ → Type 0) → (ℕ → ShelfFault → Type 0) → ℕ → List TableFile → CheckFault → Type 0
+abbrev pub IsFilesRefusal : (ℕ → List ℕ → Type 0) → (ℕ → ShelfFault → Type 0) → ℕ → List TableFile
+    → CheckFault → Type 0
 IsFilesRefusal Stored Refused last files fault = IsMemoryRefusal fault
-    ⊎ ((front : List TableFile) × (file : TableFile) × (back : List TableFile) × (files ≡ front ++ file ∷ back)
-    × ((f : TableFile) → Has front f → IsGood Stored last f) × IsFileRefusal (Stored file.number) (Refused file.number) last file fault)
+    ⊎ ((front : List TableFile) × (file : TableFile) × (back : List TableFile)
+    × (files ≡ front ++ file ∷ back)
+    × ((f : TableFile) → Has front f → IsGood Stored last f)
+    × IsFileRefusal (Stored file.number) (Refused file.number) last file fault)

@@ -20,7 +20,8 @@ abbrev pub AreInFileOrder : List (List TableFile) → Type 0
 AreInFileOrder [] = Unit {0}
 AreInFileOrder (files ∷ levels) = IsStrictlySortedBy file_cmp files × AreInFileOrder levels
 
--- The table of a file, read and judged: what the registry is to have of it, its sequences, and the last sequence, above which it has none.
+-- The table of a file, read and judged: what the registry is to have of it, its sequences, and the
+-- last sequence, above which it has none.
 pub record Judged : Type 0 where
   pub number : ℕ
   pub smallest : List ℕ
@@ -29,7 +30,8 @@ pub record Judged : Type 0 where
   pub sequences : Sequences
   pub last : ℕ
 
--- The image is a table that begins and ends at these keys, has no entry above the last sequence, and has these sequences.
+-- The image is a table that begins and ends at these keys, has no entry above the last sequence,
+-- and has these sequences.
 pub record IsJudged (last : ℕ) (smallest largest image : List ℕ) (s : Sequences) : Type 0 where
   pub table : IsTable image (entries_in image)
   pub spanned : IsSpanned last smallest largest (entries_in image)
@@ -54,7 +56,8 @@ abbrev pub AreLevelsOf : ℕ → List (List TableFile) → List (List Table) →
 AreLevelsOf last [] [] = Unit {0}
 AreLevelsOf last [] (ts ∷ levels) = ⊥
 AreLevelsOf last (files ∷ shape) [] = ⊥
-AreLevelsOf last (files ∷ shape) (ts ∷ levels) = AreFilesOf last files ts × AreLevelsOf last shape levels
+AreLevelsOf last (files ∷ shape) (ts ∷ levels) =
+    AreFilesOf last files ts × AreLevelsOf last shape levels
 
 abbrev pub AreLevelsStored : (ℕ → List ℕ → Type 0) → List (List Table) → Type 0
 AreLevelsStored Stored [] = Unit {0}
@@ -65,8 +68,11 @@ abbrev pub placed_levels : List (List Table) → List (List Table)
 placed_levels [] = []
 placed_levels (ts ∷ levels) = placed_all ts [] ∷ placed_levels levels
 
--- The tables of a level were read for its files, one after another, put into place, and their sequences stand beside them.
-pub record IsLevelRead (Stored : ℕ → List ℕ → Type 0) (last : ℕ) (files : List TableFile) (tables : List Table) (spans : List Sequences) : Type 0 where
+-- The tables of a level were read for its files, one after another, put into place, and their
+-- sequences stand beside them.
+pub record IsLevelRead (Stored : ℕ → List ℕ
+    → Type 0) (last : ℕ) (files : List TableFile) (tables : List Table) (spans
+    : List Sequences) : Type 0 where
   pub read : List Table
   pub are : AreFilesOf last files read
   pub stored : AreStored Stored read
@@ -74,7 +80,9 @@ pub record IsLevelRead (Stored : ℕ → List ℕ → Type 0) (last : ℕ) (file
   pub sequences : AreSequences tables spans
 
 -- the same of all levels
-pub record AreRead (Stored : ℕ → List ℕ → Type 0) (last : ℕ) (shape : List (List TableFile)) (tables : List (List Table)) (spans : List (List Sequences)) : Type 0 where
+pub record AreRead (Stored : ℕ → List ℕ
+    → Type 0) (last : ℕ) (shape : List (List TableFile)) (tables : List (List Table)) (spans
+    : List (List Sequences)) : Type 0 where
   pub read : List (List Table)
   pub are : AreLevelsOf last shape read
   pub stored : AreLevelsStored Stored read

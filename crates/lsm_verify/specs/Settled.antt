@@ -1,5 +1,6 @@
--- The age order of files, and where their ranges and sequences alone settle it (that a key's entries are newer the shallower they lie
--- is what LevelDB's `doc/impl.md` builds on; what settles it is this project's rule).
+-- The age order of files, and where their ranges and sequences alone settle it (that a key's
+-- entries are newer the shallower they lie is what LevelDB's `doc/impl.md` builds on; what settles
+-- it is this project's rule).
 use Rattle.std.specs.Prelude.{◌≡◌, ℕ, ◌<◌, ◌≤◌, ◌⊎◌, List, [], ◌∷◌, length}
 use Rattle.lsm_codec.specs.Lists.{Has}
 use Rattle.lsm_codec.specs.Entries.{Entry}
@@ -13,13 +14,15 @@ use Rattle.lsm_version.specs.Versions.{files_of, level_in}
 
 -- of two entries of a user key the one that lies shallower has the greater sequence
 abbrev pub KeepsAge : List File → Type 0
-KeepsAge v = (F G : File) (x y : Entry) → Has v F → Has v G → Shallower F G → Has F.entries x → Has G.entries y → x.user ≡ y.user → y.seq < x.seq
+KeepsAge v = (F G : File) (x y : Entry) → Has v F → Has v G → Shallower F G → Has F.entries x
+    → Has G.entries y → x.user ≡ y.user → y.seq < x.seq
 
 -- the least sequence of F is at most the greatest of G
 abbrev pub Reaches : File → File → Type 0
 Reaches F G = (x : Entry) × (y : Entry) × Has F.entries x × Has G.entries y × (x.seq ≤ y.seq)
 
--- F lies shallower than G, their ranges of user keys meet, and the greatest sequence of G is not below the least of F
+-- F lies shallower than G, their ranges of user keys meet, and the greatest sequence of G is not
+-- below the least of F
 abbrev pub IsUnsettled : File → File → Type 0
 IsUnsettled F G = Shallower F G × Meets F G.low G.high × Reaches F G
 
@@ -29,7 +32,8 @@ IsSettled v = (F G : File) → Has v F → Has v G → IsUnsettled F G → ⊥
 
 -- one of two such files has the number
 abbrev pub IsOneUnsettled : List File → ℕ → Type 0
-IsOneUnsettled v n = (F : File) × (G : File) × Has v F × Has v G × IsUnsettled F G × ((n ≡ F.number) ⊎ (n ≡ G.number))
+IsOneUnsettled v n = (F : File) × (G : File) × Has v F × Has v G × IsUnsettled F G
+    × ((n ≡ F.number) ⊎ (n ≡ G.number))
 
 -- ---- the sequences of a table
 
@@ -66,22 +70,30 @@ pub record IsAged (F : File) (a : Aged) : Type 0 where
 abbrev pub AreAged : List File → List Aged → Type 0
 AreAged v ages = (F : File) → Has v F → (a : Aged) × Has ages a × IsAged F a
 
--- Of these, each has its number here whose least sequence is at most the greatest of one of a lesser number.
+-- Of these, each has its number here whose least sequence is at most the greatest of one of a
+-- lesser number.
 abbrev pub NamesReaching : List Aged → List ℕ → Type 0
-NamesReaching ages numbers = (a b : Aged) → Has ages a → Has ages b → b.number < a.number → a.sequences.least ≤ b.sequences.greatest → Has numbers a.number
+NamesReaching ages numbers = (a b : Aged) → Has ages a → Has ages b → b.number < a.number
+    → a.sequences.least ≤ b.sequences.greatest → Has numbers a.number
 
--- Of these tables of a level, each has its number here that is not settled with one of them, and lies shallower.
+-- Of these tables of a level, each has its number here that is not settled with one of them, and
+-- lies shallower.
 abbrev pub NamesUnsettled : ℕ → List Table → List ℕ → Type 0
-NamesUnsettled level ts numbers = (F G : File) → Has (files_of level ts) F → Has (files_of level ts) G → IsUnsettled F G → Has numbers F.number
+NamesUnsettled level ts numbers =
+    (F G : File) → Has (files_of level ts) F → Has (files_of level ts) G → IsUnsettled F G
+    → Has numbers F.number
 
 -- ---- how the code looks for such files
 
--- Of the pairs of files of which `Q` tells, just the numbers of those that are not settled were added.
+-- Of the pairs of files of which `Q` tells, just the numbers of those that are not settled were
+-- added.
 pub record Adds (Q : File → File → Type 0) (old new : List ℕ) : Type 0 where
   pub kept : (n : ℕ) → Has old n → Has new n
   pub first : (F G : File) → Q F G → IsUnsettled F G → Has new F.number
   pub second : (F G : File) → Q F G → IsUnsettled F G → Has new G.number
-  pub said : (n : ℕ) → Has new n → Has old n ⊎ ((F : File) × (G : File) × Q F G × IsUnsettled F G × ((n ≡ F.number) ⊎ (n ≡ G.number)))
+  pub said : (n : ℕ) → Has new n
+      → Has old n ⊎ ((F : File) × (G : File) × Q F G × IsUnsettled F G
+      × ((n ≡ F.number) ⊎ (n ≡ G.number)))
 
 -- X is F, and Y is G
 abbrev pub OnePair : File → File → File → File → Type 0
@@ -114,6 +126,7 @@ DeeperRise levels = (n : ℕ) → 1 ≤ n → IsRising (level_in levels n)
 abbrev pub Both : List File → File → File → Type 0
 Both v X Y = Has v X × Has v Y
 
--- These are the numbers of the files of which ranges and sequences alone don't settle the age order.
+-- These are the numbers of the files of which ranges and sequences alone don't settle the age
+-- order.
 abbrev pub AreUnsettled : List File → List ℕ → Type 0
 AreUnsettled v numbers = Adds (Both v) [] numbers

@@ -1,5 +1,7 @@
--- What becomes of levels as tables come and go (LevelDB's `doc/impl.md`, "Compactions", and the order of files in a level).
-use Rattle.std.specs.Prelude.{ℕ, suc, Bool, List, [], ◌∷◌, ◌++◌, Option, Some, None, not, ◌==◌, map, slice_set}
+-- What becomes of levels as tables come and go (LevelDB's `doc/impl.md`, "Compactions", and the
+-- order of files in a level).
+use Rattle.std.specs.Prelude.{ℕ, suc, Bool, List, [], ◌∷◌, ◌++◌, Option, Some, None, not, ◌==◌, map}
+use Rattle.std.specs.Prelude.{slice_set}
 use Rattle.std.specs.List.{filter, list_any}
 use Rattle.lsm_table.specs.Registry.{Table}
 use Rattle.lsm_model.specs.Files.{File}
@@ -29,17 +31,24 @@ level_after deleted added level ts = placed_all (coming level added) (filter (is
 -- the levels from this one on
 abbrev pub levels_after : List ℕ → List (ℕ × Table) → ℕ → List (List Table) → List (List Table)
 levels_after deleted added level [] = []
-levels_after deleted added level (ts ∷ levels) = level_after deleted added level ts ∷ levels_after deleted added (suc level) levels
+levels_after deleted added level (ts ∷ levels) =
+    level_after deleted added level ts ∷ levels_after deleted added (suc level) levels
 
 -- a level's pointer is replaced, or none
 abbrev pub with_pointer : Option (ℕ × List ℕ) → List (Option (List ℕ)) → List (Option (List ℕ))
 with_pointer None pointers = pointers
 with_pointer (Some p) pointers = slice_set pointers p.0 (Some p.1)
 
--- A version without the deleted tables and with the added ones, each at its level: a deletion comes before an addition, so a table
--- that moves to another level is deleted and added under one number.
+-- A version without the deleted tables and with the added ones, each at its level: a deletion comes
+-- before an addition, so a table that moves to another level is deleted and added under one number.
 unfoldable pub changed : List ℕ → List (ℕ × Table) → Option (ℕ × List ℕ) → ℕ → Levels → Levels
-changed deleted added pointer last v = record { tables = levels_after deleted added 0 v.tables; pointers = with_pointer pointer v.pointers; last = last }
+changed deleted added pointer last v =
+    record {
+      tables = levels_after deleted added 0 v.tables;
+      pointers = with_pointer pointer
+          v.pointers;
+      last = last;
+    }
 
 -- the added tables as files
 abbrev pub added_files : List (ℕ × Table) → List File

@@ -1,4 +1,5 @@
--- Which tables of a level a range of user keys meets (LevelDB's `doc/impl.md`, "Compactions": overlapping files).
+-- Which tables of a level a range of user keys meets (LevelDB's `doc/impl.md`, "Compactions":
+-- overlapping files).
 use Rattle.std.specs.Prelude.{Bool, ◌&&◌}
 use Rattle.lsm_codec.specs.Keys.{UserKey, user_le}
 use Rattle.lsm_table.specs.Registry.{Table}
@@ -8,6 +9,7 @@ use Rattle.lsm_version.specs.Reads.{begins_by, reaches}
 abbrev pub lies_over : UserKey → UserKey → Table → Bool
 lies_over from to t = begins_by t to && reaches t from
 
--- The table's range and the range from `from` to `to` have a user key in common. A range that ends before it begins has none.
+-- The table's range and the range from `from` to `to` have a user key in common. A range that ends
+-- before it begins has none.
 abbrev pub meets : UserKey → UserKey → Table → Bool
 meets from to t = user_le from to && lies_over from to t

@@ -1,11 +1,14 @@
--- What a read relies on in levels, and how it looks for a user key (LevelDB's `doc/impl.md`, "Levels").
-use Rattle.std.specs.Prelude.{◌≡◌, ℕ, ◌<◌, ◌≤◌, Bool, true, false, ◌&&◌, List, length, Option, Some, None, nat_lt, slice_index_or}
+-- What a read relies on in levels, and how it looks for a user key (LevelDB's `doc/impl.md`,
+-- "Levels").
+use Rattle.std.specs.Prelude.{◌≡◌, ℕ, ◌<◌, ◌≤◌, Bool, true, false, ◌&&◌, List, length, Option, Some}
+use Rattle.std.specs.Prelude.{None, nat_lt, slice_index_or}
 use Rattle.std.specs.List.Sorted.{IsSortedBy}
 use Rattle.lsm_codec.specs.Lists.{Has}
 use Rattle.lsm_codec.specs.Keys.{UserKey, UserLe, user_le}
 use Rattle.lsm_table.specs.Registry.{Table}
 use Rattle.lsm_model.specs.Files.{IsLawful}
-use Rattle.lsm_version.specs.Versions.{AreInOrder, IsWhole, files_from, files_of, level_in, stands_before, user_of}
+use Rattle.lsm_version.specs.Versions.{AreInOrder, IsWhole, files_from, files_of, level_in}
+use Rattle.lsm_version.specs.Versions.{stands_before, user_of}
 
 -- ---- what holds of a part of a version
 
@@ -37,8 +40,10 @@ covers t k = begins_by t k && reaches t k
 
 -- Neither the least nor the greatest user key of a later table is less.
 pub record IsRising (ts : List Table) : Type 0 where
-  pub lows : (i j : ℕ) (d : Table) → i ≤ j → j < length ts → UserLe (user_of (slice_index_or ts i d).smallest) (user_of (slice_index_or ts j d).smallest)
-  pub highs : (i j : ℕ) (d : Table) → i ≤ j → j < length ts → UserLe (user_of (slice_index_or ts i d).largest) (user_of (slice_index_or ts j d).largest)
+  pub lows : (i j : ℕ) (d : Table) → i ≤ j → j < length ts
+      → UserLe (user_of (slice_index_or ts i d).smallest) (user_of (slice_index_or ts j d).smallest)
+  pub highs : (i j : ℕ) (d : Table) → i ≤ j → j < length ts
+      → UserLe (user_of (slice_index_or ts i d).largest) (user_of (slice_index_or ts j d).largest)
 
 -- just the tables from the n-th on reach the user key
 pub record IsFirstReaching (k : UserKey) (ts : List Table) (n : ℕ) : Type 0 where

@@ -1,4 +1,5 @@
--- Versions, as contracts see them: which tables stand at which level (LevelDB's `doc/impl.md`, "Levels").
+-- Versions, as contracts see them: which tables stand at which level (LevelDB's `doc/impl.md`,
+-- "Levels").
 use Rattle.std.specs.Prelude.{ℕ, ◌≤◌, List, [], ◌∷◌, map, Option, None, Bool}
 use Rattle.std.specs.List.Sorted.{IsSortedBy}
 use Rattle.std.specs.Ordering.{is_lt}
@@ -17,7 +18,8 @@ use Rattle.lsm_model.specs.Checking.{IsRangeOf, all_from}
 -- the tables of a level
 pub use Rattle.lsm_model.specs.Checking.{level_in}
 
--- the tables of each level, in the level's order; the compaction pointer of each level, an internal key; the last sequence
+-- the tables of each level, in the level's order; the compaction pointer of each level, an internal
+-- key; the last sequence
 pub record Levels : Type 0 where
   pub tables : List (List Table)
   pub pointers : List (Option (List ℕ))
@@ -27,7 +29,13 @@ pub record Levels : Type 0 where
 
 -- a table at a level, with the entries of the image for which its record stands
 abbrev pub file_of : ℕ → Table → File
-file_of level t = record { level = level; number = t.number; low = user_of t.smallest; high = user_of t.largest; entries = entries_in t.image }
+file_of level t = record {
+  level = level;
+  number = t.number;
+  low = user_of t.smallest;
+  high = user_of t.largest;
+  entries = entries_in t.image;
+}
 
 abbrev pub files_of : ℕ → List Table → List File
 files_of level [] = []
@@ -76,8 +84,8 @@ pub record IsWhole (t : Table) : Type 0 where
 abbrev pub AreWhole : List Table → Type 0
 AreWhole ts = (t : Table) → Has ts t → IsWhole t
 
--- The law of a version and its tables: the files of a level from 1 on lie in order of internal keys, and no entry is above the last
--- sequence.
+-- The law of a version and its tables: the files of a level from 1 on lie in order of internal
+-- keys, and no entry is above the last sequence.
 pub record IsSound (v : Levels) : Type 0 where
   pub lawful : IsLawful (files v)
   pub tables : (n : ℕ) (t : Table) → Has (level_in v.tables n) t → IsWhole t
