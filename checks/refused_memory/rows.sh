@@ -14,7 +14,7 @@ if [[ ! -x $program ]]; then
   mkdir -p "$scratch/crates/rows/src"
   cp "$here/rows.rattle" "$scratch/crates/rows/src/main.rt"
   cp "$top/checks/more_tests/lsm_state_tests/src/given.rt.txt" "$scratch/crates/rows/src/given.rt"
-  echo 'rows: lsm_state lsm_batch lsm_merge lsm_slots lsm_pins lsm_table lsm_storage lsm_shelf lsm_codec boxcar' > "$scratch/crates.txt"
+  echo 'rows: lsm_state lsm_batch lsm_merge lsm_slots lsm_history lsm_pins lsm_table lsm_storage lsm_shelf lsm_codec boxcar' > "$scratch/crates.txt"
   "$top/tools/unproved.sh" "$program" rows "$scratch"
 fi
 gcc -O1 -shared -fPIC -o "$scratch/refuse.so" "$here/refuse.c" -ldl
