@@ -8,6 +8,9 @@
 #   form.py       the pages of the book and of crates are short, drawings are well-formed, as scripts
 #                 draw them, and each is shown; all code is in fences
 #   links.py      of every page of the repository: each link leads to a file, and to a heading of it
+#   checks.py     checks/README.md has each check of checks/checks.txt, and FIGURES.md no other
+#   definitions   the table in docs/PROVED.md of what a reader has to believe is as tools/definitions
+#                 makes it
 #
 # Names of pages as words choose which pages' sessions and code are looked at. Runs the proved
 # program, or else the unproved build, which is made first where it is not there (some minutes);
@@ -51,5 +54,7 @@ fi
 count code python3 "$here/code.py" "${code[@]}"
 count form python3 "$here/form.py" "${code[@]}"
 count links python3 "$here/links.py"
+count checks python3 "$here/checks.py"
+count definitions python3 "$top/tools/definitions" --check
 echo "$passed passed, $failed failed"
 ((failed == 0))
