@@ -49,7 +49,7 @@ def parts(text):
 def git(*words):
     """What git says of the repository; nothing where it fails."""
     try:
-        done = subprocess.run(["git", "-C", TOP, *words], capture_output=True, text=True, check=True)
+        done = subprocess.run(["git", "--no-optional-locks", "-C", TOP, *words], capture_output=True, text=True, check=True)
     except (OSError, subprocess.CalledProcessError):
         return None
     return done.stdout.strip()
