@@ -7,8 +7,9 @@ figures.py old
     lists for the check. Says so where git cannot tell. The status is 0, whatever it names.
 
 figures.py record NAME BUILD FORM RESULT SECONDS SAID
-    Writes the row of a check: today, the last commit that changed a source of any crate (with a `+`
-    where there are changes without a commit), and the words. `checks/run.sh --record` calls it.
+    Writes the row of a check, but of one that ./test runs each time: today, the last commit that
+    changed a crate (with a `+` where there are changes without a commit), and the words.
+    `checks/run.sh --record` calls it.
 """
 
 import datetime
@@ -114,6 +115,8 @@ def tell_old():
 def record(name, build, form, result, seconds, said):
     if name not in checks():
         raise SystemExit(f"figures: checks.txt has no check {name}")
+    if checks()[name] == ["test"]:
+        return
     commit = git("log", "-1", "--format=%h", "--abbrev=10", "--", "crates") or "-"
     if git("status", "--porcelain", "--", "crates"):
         commit += "+"

@@ -65,3 +65,4 @@ for kind in "${kinds[@]}"; do
       "$("$scratch/leveldb" spans "$scratch/copy") times a key goes on in the next file"
   rm -rf "${scratch:?}/$kind" "$scratch/copy"
 done
+echo "${#kinds[@]} kinds of directories, each checked and scanned: the same as LevelDB"
