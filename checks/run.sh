@@ -98,11 +98,11 @@ build_of() { # PATH of a program
 }
 
 run() { # NAME: runs it, counts it, and says how it ended
-  local name=$1 log="$top/out/checks/$1.log" begun=$SECONDS status=0 line more result time build=- lacks
+  local name=$1 log="$top/out/checks/$1.log" begun=$SECONDS status=0 line more result time build=- lacks ended
   lacking "$name" > "$top/out/checks/lacking" # (here, not in a process of its own: it exports programs)
   lacks=$(sort -u "$top/out/checks/lacking" | paste -sd ,)
   if [[ $lacks ]]; then
-    fail "$name" "no ${lacks//,/, }"
+    fail "$name" "it lacks ${lacks//,/, }"
     return
   fi
   echo "== $name: ${command[$name]#-}"
@@ -126,7 +126,10 @@ run() { # NAME: runs it, counts it, and says how it ended
     failed_ones+=("$name")
     tail -n 20 "$log" | sed 's/^/   /'
   fi
-  printf '   %s, %d:%02d min%s\n' "$result" $((time / 60)) $((time % 60)) "$( ((status == 0)) || echo ", status $status")"
+  ended=
+  ((status == 0)) || ended=", status $status"
+  ((status != 124)) || ended=", no end within ${LIMIT:-180} min"
+  printf '   %s, %d:%02d min%s\n' "$result" $((time / 60)) $((time % 60)) "$ended"
   case " ${needs[$name]} " in
     *" lsm "*) build=$(build_of "$LSM") ;;
     *" lsm_server "*) build=$(build_of "$LSM_SERVER") ;;
@@ -170,9 +173,14 @@ if [[ ${#words[@]} -eq 0 ]]; then
 fi
 for name in "${chosen[@]}"; do run "$name"; done
 echo "checks: ${#chosen[@]} checks in $(((SECONDS + 30) / 60)) min"
-for name in "${!is_left_out[@]}"; do echo "left out: $name"; done
+for name in "${!is_left_out[@]}"; do echo "left out: $name, by --without"; done
 if [[ ${#words[@]} -eq 0 ]]; then
-  for name in "${names[@]}"; do [[ ${command[$name]} != -* ]] || echo "left out: $name has no $form form"; done
+  for name in "${names[@]}"; do
+    case ${command[$name]} in
+      -) echo "left out: $name, which has no $form form" ;;
+      -*) echo "left out: $name, which is run by its name alone" ;;
+    esac
+  done
 fi
 for line in "${not_tried[@]}"; do echo "not tried: $line"; done
 [[ ${#failed_ones[@]} -eq 0 ]] || echo "failed: ${failed_ones[*]}"
