@@ -84,10 +84,9 @@ def fault(words, row):
     commit = row[2].rstrip("+")
     if git("cat-file", "-e", f"{commit}^{{commit}}") is None:
         return f"git cannot tell: it has no commit {commit}"
-    changed = []
-    for crate in crates_of(words):
-        if git("log", "-1", "--format=%h", f"{commit}..HEAD", "--", f"crates/{crate}/src") != "":
-            changed.append(crate)
+    names = git("log", "--format=", "--name-only", f"{commit}..HEAD", "--", "crates").split("\n")
+    since = {name.split("/")[1] for name in names if re.match(r"crates/\w+/src/", name)}
+    changed = [crate for crate in crates_of(words) if crate in since]
     if not changed:
         return None
     more = f" and {len(changed) - 3} more" if len(changed) > 3 else ""
