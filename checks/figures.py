@@ -3,8 +3,8 @@
 
 figures.py old
     Names the checks without a row, and the rows that are older than the last change of what they
-    speak of: a commit behind the row's own changed a source of one of the crates that checks.txt
-    lists for the check. Says so where git cannot tell. The status is 0, whatever it names.
+    speak of: the sources of one of the crates that checks.txt lists for the check are others than
+    in the row's commit. Says so where git cannot tell. The status is 0, whatever it names.
 
 figures.py record NAME BUILD FORM RESULT SECONDS SAID
     Writes the row of a check, but of one that ./test runs each time: today, the last commit that
@@ -84,7 +84,7 @@ def fault(words, row):
     commit = row[2].rstrip("+")
     if git("cat-file", "-e", f"{commit}^{{commit}}") is None:
         return f"git cannot tell: it has no commit {commit}"
-    names = git("log", "--format=", "--name-only", f"{commit}..HEAD", "--", "crates").split("\n")
+    names = git("diff", "--name-only", "--no-renames", commit, "HEAD", "--", "crates").split("\n")
     since = {name.split("/")[1] for name in names if re.match(r"crates/\w+/src/", name)}
     changed = [crate for crate in crates_of(words) if crate in since]
     if not changed:
