@@ -41,7 +41,7 @@ def files(cell):
 
 named = set()
 for cells in rows():
-    judge(len(cells) == 3 and cells[0] and cells[1], f"a row without two cells: {cells[0]}")
+    judge(len(cells) == 3 and all(cells[:2]), f"a row without two cells: {cells[0]}")
     for word in (word for cell in cells[1:] for word in files(cell)):
         named.add(word)
         judge(any(TOP.glob(word.replace("NAME", "*"))), f"{word}: no such file")
