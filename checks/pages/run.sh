@@ -5,10 +5,11 @@
 #                 page says
 #   code.py       each line of Rattle that they show is a line of a source file in crates or of a
 #                 test; so in docs/CALLING.md, docs/PROVED.md and the CALLING.md of each crate
+#   mending.py    each file that CONTRIBUTING's table "What to mend" names is there
+#   names.py      each clause, call or test that the page of a crate names is in the sources
 #   form.py       the pages of the book and of crates are short, drawings are well-formed, as scripts
 #                 draw them, and each is shown; all code is in fences
 #   links.py      of every page of the repository: each link leads to a file, and to a heading of it
-#   mending.py    each file that CONTRIBUTING's table "What to mend" names is there
 #
 # Names of pages as words choose which pages' sessions and code are looked at. Runs the proved
 # program, or else the unproved build, which is made first where it is not there (some minutes);
@@ -47,8 +48,9 @@ count() { # NAME COMMAND..: runs it, and adds its last line `N passed, M failed`
 
 count sessions python3 "$here/sessions.py" "$program" "${pages[@]}"
 count code python3 "$here/code.py" "${code[@]}"
+count mending python3 "$here/mending.py"
+count names python3 "$here/names.py"
 count form python3 "$here/form.py" "${code[@]}"
 count links python3 "$here/links.py"
-count mending python3 "$here/mending.py"
 echo "$passed passed, $failed failed"
 ((failed == 0))
