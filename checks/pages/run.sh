@@ -5,6 +5,10 @@
 #                 page says
 #   code.py       each line of Rattle that they show is a line of a source file in crates or of a
 #                 test; so in docs/CALLING.md, docs/PROVED.md and the CALLING.md of each crate
+#   cures.py      what COMMANDS tells a user to do against compressed tables and logs cures, where
+#                 LevelDB's library is there
+#   mending.py    each file that CONTRIBUTING's table "What to mend" names is there
+#   names.py      each clause, call or test that the page of a crate names is in the sources
 #   form.py       the pages of the book and of crates are short, drawings are well-formed, as scripts
 #                 draw them, and each is shown; all code is in fences
 #   links.py      of every page of the repository: each link leads to a file, and to a heading of it
@@ -52,6 +56,9 @@ else
   echo "sessions: not run, for want of a program: 0 passed, 1 failed"
 fi
 count code python3 "$here/code.py" "${code[@]}"
+count cures python3 "$here/cures.py" "$program"
+count mending python3 "$here/mending.py"
+count names python3 "$here/names.py"
 count form python3 "$here/form.py" "${code[@]}"
 count links python3 "$here/links.py"
 count checks python3 "$here/checks.py"

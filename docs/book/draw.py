@@ -363,7 +363,8 @@ def proof():
 
 def fast():
     """The rows of PERFORMANCE.md's first table: the work without its unit, and how fast it is."""
-    for line in (DOCS / "PERFORMANCE.md").read_text().split("\n"):
+    section = (DOCS / "PERFORMANCE.md").read_text().split("## In memory", 1)[1].split("\n## ", 1)[0]
+    for line in section.split("\n"):
         cells = [cell.strip() for cell in line.strip("|").split("|")]
         if len(cells) == 5 and cells[3].replace(".", "", 1).isdigit():
             yield cells[0].removesuffix(", ns").removesuffix(", ns an entry").removesuffix(", MB a second"), float(cells[3])
