@@ -79,7 +79,8 @@ def between(low: bytes, high: Optional[bytes], tries: int) -> bytes:
     if alike == len(low):
         return low + bytes([end >> 1])
     more = len(low) - alike - 1 >> tries
-    return behind(low[: alike + 1 + more]) if more else low[:alike] + bytes([low[alike] + end >> 1])
+    middle = behind(low[: alike + 1 + more]) if more else None
+    return low[:alike] + bytes([low[alike] + end >> 1]) if middle is None else middle
 
 
 def _alike(low: bytes, high: Optional[bytes]) -> Tuple[int, int]:
