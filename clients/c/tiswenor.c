@@ -1204,5 +1204,5 @@ void tiswenor_writeoptions_set_sync(tiswenor_writeoptions_t *options, uint8_t to
   options->sync = to;
 }
 
-int tiswenor_major_version(void) { return 0; }
-int tiswenor_minor_version(void) { return 1; }
+int tiswenor_major_version(void) { return tiswenor_major; }
+int tiswenor_minor_version(void) { return tiswenor_minor; }

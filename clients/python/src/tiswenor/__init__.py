@@ -30,4 +30,4 @@ __all__ = [
     "TooLarge",
     "WriteBatch",
 ]
-__version__ = "0.1.0"
+__version__ = "1.1.0"
