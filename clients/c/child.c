@@ -304,7 +304,7 @@ static int spawn(struct transport *transport, const char *program, int reports) 
   return error;
 }
 
-static const char *program_of(const char *server) {
+const char *tiswenor_transport_program(const char *server) {
   const char *named = server ? server : getenv("TISWENOR_SERVER");
   if (named && *named) return named;
 #ifdef TISWENOR_SERVER_PATH
@@ -353,7 +353,7 @@ struct transport *tiswenor_transport_open(const char *server, unsigned channels,
     free(transport);
     return NULL;
   }
-  int error = spawn(transport, program_of(server), reports);
+  int error = spawn(transport, tiswenor_transport_program(server), reports);
   close(reports);
   if (!error) return transport;
   leave(transport);
