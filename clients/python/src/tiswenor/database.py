@@ -95,12 +95,15 @@ class _Reads:
         prefix: Optional[Bytes] = None,
         include_key: bool = True,
         include_value: bool = True,
+        verify_checksums: Optional[bool] = True,
+        fill_cache: bool = True,
     ) -> Iterator:
         """The pairs of a range, in ascending order of their keys, or with `reverse` in descending
         order, as they are now; of a snapshot, as they were then.
 
         The range is that from `start` to `stop`, or that of all keys with a prefix. Without values
-        the iterator gives keys alone, without keys values alone.
+        the iterator gives keys alone, without keys values alone. The last two change nothing, as
+        those of `get`.
 
         Pairs come from the server in pages of some 64 KiB. It shows them in ascending order: to go
         backward costs some more requests, which look for a page that ends where it is to end.
@@ -314,6 +317,8 @@ class Snapshot(_Reads):
             if not self._db.closed:
                 self._db._ask(frames.release(self._number))
 
+    release = close
+
     def __enter__(self) -> Snapshot:
         return self
 
@@ -367,6 +372,8 @@ class WriteBatch:
 
     def append(self, source: WriteBatch) -> None:
         """Adds the writes of another batch behind those of this one."""
+        if not isinstance(source, WriteBatch):
+            raise TypeError("only a WriteBatch can be appended")
         self._writes.extend(source._writes)
 
     def approximate_size(self) -> int:
