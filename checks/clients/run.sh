@@ -6,8 +6,9 @@
 # The server is the one that LSM_SERVER names, or the proved one, or else an unproved one that is
 # built first. LSM_SERVER_OBJECT, or its object beside it, is linked into the process. Needs gcc,
 # g++, python3 (PYTHON) with pytest, mypy, setuptools and wheel, valgrind, cmake, pkg-config.
-# TISWENOR_CALLS and STORM: how many calls are drawn in C and in Python (3,000), seconds of each storm
-# (5). MINUTES and PYTHON_MINUTES: how long a test in C, and those of Python, may take (10, 60).
+# TISWENOR_CALLS and STORM: how many calls are drawn in C and in Python (3,000), seconds of each
+# storm (5). MINUTES and PYTHON_MINUTES: how long a test in C, and those of Python, may take (10,
+# 60).
 # PLYVEL_TESTS: the file test_plyvel.py of plyvel's sources, to be run too.
 set -uo pipefail
 here=$(cd "$(dirname "$(readlink -f "${BASH_SOURCE[0]}")")" && pwd)

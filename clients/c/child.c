@@ -44,8 +44,8 @@ struct starting {
 struct transport {
   struct transport *next, **link; /* of all that are open */
   pid_t server;
-  int process;     /* a descriptor that stands for the server; -1 where the system has none */
-  int is_apart;    /* the server is no child of this process */
+  int process;  /* a descriptor that stands for the server; -1 where the system has none */
+  int is_apart; /* the server is no child of this process */
   int is_forked;
   int is_starting; /* it has what follows, besides its sockets */
   struct starting starting;
@@ -267,10 +267,10 @@ static int make_process(struct transport *transport, struct start *start) {
   pthread_setcancelstate(PTHREAD_CANCEL_DISABLE, &state);
   pthread_sigmask(SIG_SETMASK, &every, &before);
   transport->is_apart = has_processes_apart();
-  pid_t made = transport->is_apart
-                   ? clone(go_between, start->stacks + 2 * STACK, CLONE_VM | CLONE_VFORK, start)
-                   : clone(become_server, start->stacks + STACK,
-                           CLONE_VM | CLONE_VFORK | SIGCHLD, start);
+  pid_t made =
+      transport->is_apart
+          ? clone(go_between, start->stacks + 2 * STACK, CLONE_VM | CLONE_VFORK, start)
+          : clone(become_server, start->stacks + STACK, CLONE_VM | CLONE_VFORK | SIGCHLD, start);
   if (made < 0) error = errno;
   while (made >= 0 && transport->is_apart && waitpid(made, NULL, __WCLONE) < 0 && errno == EINTR) {
   }
@@ -283,8 +283,8 @@ static int make_process(struct transport *transport, struct start *start) {
 static int spawn(struct transport *transport, const char *program, int reports) {
   struct start start = {transport, program, environ, NULL};
   struct report report = {0, 0}, next;
-  void *stacks = mmap(NULL, 2 * STACK, PROT_READ | PROT_WRITE,
-                      MAP_PRIVATE | MAP_ANONYMOUS | MAP_STACK, -1, 0);
+  void *stacks =
+      mmap(NULL, 2 * STACK, PROT_READ | PROT_WRITE, MAP_PRIVATE | MAP_ANONYMOUS | MAP_STACK, -1, 0);
   if (stacks == MAP_FAILED) return errno;
   start.stacks = stacks;
   int error = make_process(transport, &start);

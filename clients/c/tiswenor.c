@@ -257,8 +257,8 @@ static const struct {
 
 /* Refusals of bytes that are none of LevelDB's, and of files that do not go together. */
 static int is_damage(unsigned char number) {
-  static const char damages[] = {2,  3,  4,  5,  6,  7,  8,  10, 12, 13, 14, 15, 17, 18, 19,
-                                 20, 21, 22, 23, 24, 25, 26, 27, 28, 30, 31, 32, 33};
+  static const char damages[] = {2,  3,  4,  5,  6,  7,  8,  10, 12, 13, 14, 15, 17, 18,
+                                 19, 20, 21, 22, 23, 24, 25, 26, 27, 28, 30, 31, 32, 33};
   return memchr(damages, number, sizeof damages) != NULL;
 }
 
@@ -273,7 +273,12 @@ static const unsigned char *next_text(struct answer *answer, size_t *length);
 
 /* Which limit a request passed that was refused as too large. */
 static void tell_excess(const struct request *request, char *text, size_t room) {
-  enum { LONGEST_KEY = 4096, LONGEST_VALUE = 1048576, MOST_WRITES = 65536, LONGEST_BATCH = 4194304 };
+  enum {
+    LONGEST_KEY = 4096,
+    LONGEST_VALUE = 1048576,
+    MOST_WRITES = 65536,
+    LONGEST_BATCH = 4194304
+  };
   static const char much[] = "%s: %zu of at most %d", more[] = "%s: more than %d";
   size_t writes = 0, total = 0, klen = 0;
   if (request->bytes[4] != WRITE) {
@@ -401,7 +406,8 @@ static int ask_once(tiswenor_t *db, struct request *request, struct answer *answ
 static void set_bad_answer(struct answer *answer, char **errptr) {
   free(answer->memory);
   answer->memory = NULL;
-  set_error(errptr, tiswenor_bad_answer, "BadAnswer", "the answer has none of the protocol's forms");
+  set_error(errptr, tiswenor_bad_answer, "BadAnswer",
+            "the answer has none of the protocol's forms");
 }
 
 /* The text at the answer's front, behind which it goes on; NULL where there is none. */
@@ -758,10 +764,10 @@ struct tiswenor_iterator_t {
   struct answer page;
   const unsigned char *key, *value; /* in the page; NULL where it is not valid */
   size_t klen, vlen;
-  int is_last;    /* no page follows this one */
-  int is_ahead;   /* the next page was asked for, on the channel that is for it */
-  unsigned pages; /* since it was sent somewhere */
-  size_t turned;  /* how many pairs of the page are behind it, with the one at which it stands */
+  int is_last;      /* no page follows this one */
+  int is_ahead;     /* the next page was asked for, on the channel that is for it */
+  unsigned pages;   /* since it was sent somewhere */
+  size_t turned;    /* how many pairs of the page are behind it, with the one at which it stands */
   uint32_t *starts; /* where the first of these begin in the page's memory */
   size_t start_count, start_room;
   int has_parts; /* the parts are those before the page, the last one at the end */

@@ -1,6 +1,6 @@
-/* A server that stays behind its last channel: stays FOLDER PROGRAM, where PROGRAM is this one, which
-   is that server where it is called without a word. Calls that find no channel wait for its end
-   once, for a second, and not each of them. */
+/* A server that stays behind its last channel: stays FOLDER PROGRAM, where PROGRAM is this one,
+   which is that server where it is called without a word. Calls that find no channel wait for its
+   end once, for a second, and not each of them. */
 #define _GNU_SOURCE
 #include <time.h>
 #include <unistd.h>

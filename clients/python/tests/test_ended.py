@@ -11,8 +11,8 @@ import pytest
 
 import tiswenor
 
-# A server that does as it is asked to: by the key of a read it answers that the key is absent, or by
-# a last answer, before or behind the request's end, and then notes when its channel is closed.
+# A server that does as it is asked to: by the key of a read it answers that the key is absent, or
+# by a last answer, before or behind the request's end, and then notes when its channel is closed.
 SERVER = """\
 import os, socket, struct, sys, threading
 

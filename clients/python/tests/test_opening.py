@@ -161,7 +161,8 @@ class TestServer:
 
     def test_says_something_else(self, folder, tmp_path):
         other = tmp_path / "other"
-        text = "import os\nos.write(int.from_bytes(os.read(0, 99)[4:8], 'little'), b'hello, world')\n"
+        first = "int.from_bytes(os.read(0, 99)[4:8], 'little')"
+        text = f"import os\nos.write({first}, b'hello, world')\n"
         other.write_text(f"#!{sys.executable}\n{text}")
         other.chmod(0o755)
         assert refusal(folder, server=other).name == "BadAnswer"

@@ -7,8 +7,8 @@
         print(db.get(b"apple"))
 
 Keys and values are bytes. Every write is on the disk when its call returns. A database may be used
-by any number of threads. A call that fails raises `Error`, which has a number and a name; `IOError`,
-`CorruptionError` and `TooLarge` are some of them.
+by any number of threads. A call that fails raises `Error`, which has a number and a name;
+`IOError`, `CorruptionError` and `TooLarge` are some of them.
 """
 
 from .database import DB, Iterator, Level, PrefixedDB, Snapshot, Statistics, WriteBatch

@@ -1,8 +1,8 @@
 """A range from its end to its start, of a server that shows keys in ascending order alone.
 
-The server shows the first pairs from a key on. So a page of last pairs is looked for: where the pairs
-of a part of the range do not end with its first page, one from a key between is asked for. What is
-read on the way is kept, and shown when its turn comes: each pair is read once.
+The server shows the first pairs from a key on. So a page of last pairs is looked for: where the
+pairs of a part of the range do not end with its first page, one from a key between is asked for.
+What is read on the way is kept, and shown when its turn comes: each pair is read once.
 """
 
 from __future__ import annotations

@@ -401,8 +401,8 @@ class WriteBatch:
 
 @dataclass(frozen=True)
 class _Range:
-    """The keys from `start` on that are below `stop`, if there is one. All begin with `front`, which
-    is not shown."""
+    """The keys from `start` on that are below `stop`, if there is one. All begin with `front`,
+    which is not shown."""
 
     start: bytes
     stop: Optional[bytes]
@@ -447,8 +447,8 @@ class _Page:
 
 
 class Iterator:
-    """The pairs of a range, or their keys or values alone. It stands between two of them. One thread
-    at a time may use it."""
+    """The pairs of a range, or their keys or values alone. It stands between two of them. One
+    thread at a time may use it."""
 
     def __init__(
         self,

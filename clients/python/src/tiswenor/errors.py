@@ -80,7 +80,9 @@ class Refused(Error):
     `path` is the folder of the database; None where no server was asked.
     """
 
-    def __init__(self, number: int, name: str, detail: str = "", path: Optional[str] = None) -> None:
+    def __init__(
+        self, number: int, name: str, detail: str = "", path: Optional[str] = None
+    ) -> None:
         Error.__init__(self, number, name, detail)
         self.args = (number, name, detail, path)
         self.path = path
@@ -93,7 +95,9 @@ class IOError(Refused, OSError):
     not tell the system's number, so `errno` is None.
     """
 
-    def __init__(self, number: int, name: str, detail: str = "", path: Optional[str] = None) -> None:
+    def __init__(
+        self, number: int, name: str, detail: str = "", path: Optional[str] = None
+    ) -> None:
         Refused.__init__(self, number, name, detail, path)
         self.filename = path
 
