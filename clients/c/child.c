@@ -463,15 +463,26 @@ static long now(void) {
   return time.tv_sec * 1000 + time.tv_nsec / 1000000;
 }
 
+/* `waitid` of the server, by what no other process can have got meanwhile. */
+static int wait_for(const struct transport *transport, siginfo_t *end, int options) {
+  enum { BY_DESCRIPTOR = 3 }; /* P_PIDFD */
+  *end = (siginfo_t){0};
+  if (!transport->is_apart) return waitid(P_PID, (id_t)transport->server, end, options);
+  if (transport->process >= 0)
+    return waitid((idtype_t)BY_DESCRIPTOR, (id_t)transport->process, end, options);
+  errno = ECHILD;
+  return -1;
+}
+
 /* Waits for the server's end, so many milliseconds at most. Whether it has ended. */
 static int has_ended(const struct transport *transport, int wait) {
+  siginfo_t end;
   if (transport->is_apart) {
-    struct pollfd end = {transport->process, POLLIN, 0};
-    return transport->process < 0 || poll(&end, 1, wait) > 0; /* or it ended as it began */
+    struct pollfd process = {transport->process, POLLIN, 0};
+    return transport->process < 0 || poll(&process, 1, wait) > 0; /* or it ended as it began */
   }
-  siginfo_t end = {0};
   for (;; wait--) {
-    if (waitid(P_PID, (id_t)transport->server, &end, WEXITED | WNOHANG | WNOWAIT)) return 1;
+    if (wait_for(transport, &end, WEXITED | WNOHANG | WNOWAIT)) return 1;
     if (end.si_pid || wait <= 0) return end.si_pid != 0;
     nanosleep(&(struct timespec){0, 1000000}, NULL);
   }
@@ -506,12 +517,12 @@ static int was_told(int process, int *status) {
 
 /* The same of the server, which has ended: a child, or not. */
 static int has_told(const struct transport *transport, int *status) {
-  siginfo_t end = {0};
-  if (!waitid(P_PID, (id_t)transport->server, &end, WEXITED | WNOHANG | WNOWAIT) && end.si_pid) {
+  siginfo_t end;
+  if (!wait_for(transport, &end, WEXITED | WNOHANG | WNOWAIT) && end.si_pid) {
     *status = end.si_code == CLD_EXITED ? end.si_status << 8 : end.si_status;
     return 1;
   }
-  return has_left(transport->server, status) || was_told(transport->process, status);
+  return was_told(transport->process, status) || has_left(transport->server, status);
 }
 
 void tiswenor_transport_tell_end(struct transport *transport, char *text, size_t room) {
@@ -531,14 +542,15 @@ void tiswenor_transport_tell_end(struct transport *transport, char *text, size_t
 
 /* Waits for the server's end. After a minute it is killed: all that it answered is on the disk. */
 static void wait_for_end(struct transport *transport) {
+  siginfo_t end;
   long until = now() + UNTIL_END;
   int is_ended = 0;
   for (long left = UNTIL_END; !is_ended && left > 0; left = until - now())
     is_ended = has_ended(transport, (int)left);
   if (!is_ended) kill(transport->server, SIGKILL);
   while (!is_ended) is_ended = has_ended(transport, UNTIL_END);
-  /* it is this process's child, or this is the one that has children of others */
-  while (waitpid(transport->server, NULL, 0) < 0 && errno == EINTR) {
+  /* it is this process's child, or this is the one that adopts those of others */
+  while (wait_for(transport, &end, WEXITED) && errno == EINTR) {
   }
 }
 
