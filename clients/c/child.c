@@ -211,6 +211,20 @@ ON_BORROWED_MEMORY static int take_descriptors(const struct transport *transport
   return 1;
 }
 
+/* A process that runs this on a stack of its own. The thread sanitizer takes it for this thread
+   where it shares memory: there it has a copy of it. */
+ON_BORROWED_MEMORY static pid_t make(int (*run)(void *), unsigned char *stack_end, int signal,
+                                     void *state) {
+#if defined __SANITIZE_THREAD__
+  pid_t made = (pid_t)syscall(SYS_clone, signal, NULL, NULL, NULL, NULL);
+  (void)stack_end;
+  if (!made) _exit(run(state));
+  return made;
+#else
+  return clone(run, stack_end, CLONE_VM | CLONE_VFORK | signal, state);
+#endif
+}
+
 ON_BORROWED_MEMORY static int become_server(void *state) {
   const struct start *start = state;
   const struct transport *transport = start->transport;
@@ -235,8 +249,7 @@ ON_BORROWED_MEMORY static int become_server(void *state) {
 ON_BORROWED_MEMORY static int go_between(void *state) {
   const struct start *start = state;
   struct report report = {0, 0};
-  if (clone(become_server, start->stacks + STACK, CLONE_VM | CLONE_VFORK | SIGCHLD, state) >= 0)
-    _exit(0);
+  if (make(become_server, start->stacks + STACK, SIGCHLD, state) >= 0) _exit(0);
   report.error = errno;
   _exit(write(start->transport->starting.report, &report, sizeof report) < 0);
 }
@@ -267,10 +280,8 @@ static int make_process(struct transport *transport, struct start *start) {
   pthread_setcancelstate(PTHREAD_CANCEL_DISABLE, &state);
   pthread_sigmask(SIG_SETMASK, &every, &before);
   transport->is_apart = has_processes_apart();
-  pid_t made =
-      transport->is_apart
-          ? clone(go_between, start->stacks + 2 * STACK, CLONE_VM | CLONE_VFORK, start)
-          : clone(become_server, start->stacks + STACK, CLONE_VM | CLONE_VFORK | SIGCHLD, start);
+  pid_t made = transport->is_apart ? make(go_between, start->stacks + 2 * STACK, 0, start)
+                                   : make(become_server, start->stacks + STACK, SIGCHLD, start);
   if (made < 0) error = errno;
   while (made >= 0 && transport->is_apart && waitpid(made, NULL, __WCLONE) < 0 && errno == EINTR) {
   }

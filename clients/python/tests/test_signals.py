@@ -164,7 +164,7 @@ def test_iterators_go_on(db, reverse):
 
 def test_closing(folder):
     db = tiswenor.DB(folder, create_if_missing=True)
-    for place in itertools.count():
+    for place in itertools.count(0, 3):
         if not is_interrupted(db.close, place):
             break
         db.close()
