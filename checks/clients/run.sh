@@ -212,6 +212,7 @@ export TISWENOR_SERVER=$server
 printf '#!/bin/sh\necho $$ > %s/number\nexec %s\n' "$work" "$server" > "$work/telling"
 chmod +x "$work/telling"
 
+part "server: others may read its object" test -n "$(find "$object" -perm -a=r)"
 part "C, child: build" build_child
 part "C, inside: build" build
 part "C, child: story" with_child story
