@@ -17,10 +17,12 @@ parts_at : (ts : List Table) (i : ℕ) (x : Table) → i < length ts → x ≡ g
     → (r : List Table) × (ts ≡ take i ts ++ x ∷ r)
 parts_at [] i x lt is = absurd (omega arith)
 parts_at (t ∷ ts) zero x lt is = (ts, ap (λ (u : Table). u ∷ ts) (sym is))
-parts_at (t ∷ ts) (suc i) x lt is = (let p = parts_at ts i x (omega arith) is in (p.0, ap (λ (l : List Table). t ∷ l) p.1))
+parts_at (t ∷ ts) (suc i) x lt is =
+    (let p = parts_at ts i x (omega arith) is in (p.0, ap (λ (l : List Table). t ∷ l) p.1))
 
 pub first_let : (f : Table → Bool) (ts : List Table) (i : ℕ) (x : Table) → i < length ts
-    → x ≡ get_or ts i x → f x ≡ true → filter f (take i ts) ≡ [] → slice_get (filter f ts) 0 ≡ Some x
+    → x ≡ get_or ts i x → f x ≡ true → filter f (take i ts) ≡ []
+    → slice_get (filter f ts) 0 ≡ Some x
 first_let f ts i x lt is holds none =
     let p = parts_at ts i x lt is in
     ap (λ (l : List Table). slice_get (filter f l) 0) p.1
@@ -36,6 +38,7 @@ no_first (t ∷ ts) e = absurd (cc e)
 pub meets_some : (v : Levels) (target_size level : ℕ) (from to : UserKey)
     → IsTooMuch v target_size level from to → first_over v level from to ≡ None → ⊥
 meets_some v target_size level from to much none =
-    let zero_is : bytes_of (tables_over v level from to) ≡ 0 = no_first (tables_over v level from to) none in
+    let zero_is : bytes_of (tables_over v level from to) ≡ 0
+    = no_first (tables_over v level from to) none in
     let lt = much.1 in
     omega arith

@@ -72,8 +72,10 @@ pub record IsOverFirstRun (target_size : ℕ) (ts : List Table) (from to : UserK
 -- the hull of a crowded level 0, or else the first run of the first level that has one
 abbrev pub IsWanted : Levels → ℕ → Span → Type 0
 IsWanted v target_size s =
-    ((s.level ≡ 0) × IsCrowded target_size (level_in v.tables 0) × IsHull (level_in v.tables 0) s.from s.to)
-    ⊎ ((IsCrowded target_size (level_in v.tables 0) → ⊥) × (1 ≤ s.level) × (s.level ≤ 5) × NoRunAbove target_size v s.level
+    ((s.level ≡ 0) × IsCrowded target_size (level_in v.tables 0)
+    × IsHull (level_in v.tables 0) s.from s.to)
+    ⊎ ((IsCrowded target_size (level_in v.tables 0) → ⊥) × (1 ≤ s.level) × (s.level ≤ 5)
+    × NoRunAbove target_size v s.level
     × IsOverFirstRun target_size (level_in v.tables s.level) s.from s.to)
 
 -- nothing wants to be joined
@@ -104,7 +106,8 @@ lies_ahead v level from to t = meets from to t && is_beyond (pointer_at v level)
 
 -- the level's first file that does
 abbrev pub next_beyond : Levels → ℕ → UserKey → UserKey → Option Table
-next_beyond v level from to = slice_get (filter (lies_ahead v level from to) (level_in v.tables level)) 0
+next_beyond v level from to =
+    slice_get (filter (lies_ahead v level from to) (level_in v.tables level)) 0
 
 -- the level's first file that meets the range
 abbrev pub first_over : Levels → ℕ → UserKey → UserKey → Option Table
@@ -124,7 +127,8 @@ abbrev pub IsPart : Levels → ℕ → UserKey → UserKey → Span → Type 0
 IsPart v target_size from to s =
     ((IsTooMuch v target_size s.level from to → ⊥) × (s.from ≡ from) × (s.to ≡ to))
     ⊎ (IsTooMuch v target_size s.level from to
-    × ((t : Table) × IsNextInTurn v s.level from to t × (s.from ≡ user_of t.smallest) × (s.to ≡ user_of t.largest)))
+    × ((t : Table) × IsNextInTurn v s.level from to t × (s.from ≡ user_of t.smallest)
+    × (s.to ≡ user_of t.largest)))
 
 -- What is joined: the wanted range or a part of it, at the first level where that is no waste.
 pub record IsJoined (v : Levels) (target_size : ℕ) (s : Span) : Type 0 where
