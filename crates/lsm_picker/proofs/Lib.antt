@@ -7,3 +7,4 @@ pub mod Opening
 pub mod Scoring
 pub mod Choosing
 pub mod Ranges
+pub mod JoiningLaws

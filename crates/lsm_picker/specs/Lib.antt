@@ -6,5 +6,6 @@ pub mod Choice
 pub mod Moves
 pub mod RangesBelow
 pub mod PlanFault
+pub mod Joining
 -- What private functions and proofs cite alone
 pub mod TableRanges

@@ -12,6 +12,7 @@ mod deep_ranges;
 mod linked_tables;
 mod plan;
 mod reservation;
+mod span;
 mod table_range;
 
 // Plans: closed, and clear of the live jobs.
@@ -19,9 +20,11 @@ mod conflicts;
 mod move_rule;
 mod plan_maker;
 
-// Which plan: by the scores of levels, or by a range that is asked for.
+// Which plan: by the scores of levels, by a range that is asked for, or by small files that are
+// joined.
 mod candidates;
 mod choice;
+mod joining;
 mod level_scores;
 mod plan_fault;
 mod range_plan;
@@ -32,9 +35,11 @@ pub mod laws;
 pub use choice::choose;
 pub use conflicts::conflict;
 pub use deep_ranges::ranges_below;
+pub use joining::span_to_join;
 pub use level_scores::scores;
 pub use move_rule::is_move;
 pub use plan::Plan;
 pub use plan_fault::PlanFault;
 pub use range_plan::plan_range;
 pub use reservation::Reservation;
+pub use span::Span;

@@ -1,6 +1,6 @@
 //! Which compactions only move a file.
 
-ghost use Rattle.std.specs.Prelude.{◌≡◌, ◌↔◌, IsTrue, suc};
+ghost use Rattle.std.specs.Prelude.{◌≡◌, ◌<◌, ◌^◌, ◌↔◌, IsTrue, suc};
 ghost use Rattle.std.specs.List.{filter};
 ghost use Rattle.lsm_picker.specs.Moves.{IsMovable};
 ghost use Rattle.lsm_table.specs.Registry.{bytes_of};
@@ -13,13 +13,14 @@ use lsm_table::{Naming, Registry, Shelf, TableReceipt, TableRef};
 use lsm_version::Version;
 
 /// The bytes of the tables that meet a range.
-fn bytes_over<N: Naming, S: Shelf>(
+pub(crate) fn bytes_over<N: Naming, S: Shelf>(
     registry: &Registry<N, S>,
     tables: &[TableRef<N, S>],
     from: &[u8],
     to: &[u8],
 ) -> u128
-    ensures { result ≡ bytes_of (filter (meets from.now to.now) tables.now) }
+    ensures bytes { result ≡ bytes_of (filter (meets from.now to.now) tables.now) }
+    ensures few { result < 2 ^ 94 }
 {
     let mut bytes = 0;
     for table in tables {

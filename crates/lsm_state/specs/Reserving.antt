@@ -1,14 +1,17 @@
 -- Reservations: what a job gets at its moment, and why there is none (LevelDB's `doc/impl.md`,
 -- "Compactions"; several jobs at a time are this project's).
 use Rattle.std.specs.Prelude.{◌≡◌, ℕ, suc, ◌-◌, ◌^◌, ◌<◌, ◌≤◌, true, false, List, [], ◌∷◌, ◌++◌}
+use Rattle.std.specs.Prelude.{◌⊎◌}
 use Rattle.lsm_codec.specs.Keys.{UserKey}
 use Rattle.lsm_codec.specs.Lists.{Has}
 use Rattle.lsm_model.specs.Files.{all_entries}
 use Rattle.lsm_model.specs.Plain.{Reserves, floor_of}
-use Rattle.lsm_picker.specs.Choice.{IsChoice}
+use Rattle.lsm_picker.specs.Choice.{HasNoChoice, IsChoice}
+use Rattle.lsm_picker.specs.Joining.{IsJoined, IsSettled, Span}
 use Rattle.lsm_picker.specs.RangesBelow.{AreRangesBelow}
-use Rattle.lsm_picker.specs.Reservations.{IsClear, IsLeastConflict}
+use Rattle.lsm_picker.specs.Reservations.{IsClear, IsHeldUp, IsLeastConflict}
 use Rattle.lsm_picker.specs.TablePlans.{IsPlanFrom, StandsIn, TablePlan, files_over, plan_of}
+use Rattle.lsm_picker.specs.TablePlans.{tables_over}
 use Rattle.lsm_picker.specs.declared.plan_fault.PlanFault.{PlanFault}
 use Rattle.lsm_picker.specs.declared.plan_fault.PlanFault.TheVariants as planned
 use Rattle.lsm_merge.specs.InputOrder.{HasTwins, StandInOrder}
@@ -101,3 +104,38 @@ IsRangeRefusal honest h level from to NumbersSpent =
     × IsPlanAt h level p)
 IsRangeRefusal honest h level from to OutOfMemory = (h.halted ≡ false) × (level ≤ 5)
 IsRangeRefusal honest h level from to e = ⊥
+
+-- ---- what workers reserve: small files first (this project's rule)
+
+-- the plan of the files that are joined, which conflicts with no live job
+pub record IsJoining (h : Held) (p : TablePlan) : Type 0 where
+  pub span : Span
+  pub joined : IsJoined h.slots.version h.options.target_size span
+  pub planned : IsRangePlan h span.level span.from span.to p
+  pub clear : IsClear p (reserved_jobs h.live)
+
+-- the range meets no file, or the plan of those that it meets conflicts with a live job
+abbrev pub HasToWait : Held → Span → Type 0
+HasToWait h s = (tables_over h.slots.version s.level s.from s.to ≡ [])
+    ⊎ ((p : TablePlan) × IsRangePlan h s.level s.from s.to p × IsHeldUp p (reserved_jobs h.live))
+
+-- Nothing can be joined: no file wants to be, or those that do have to wait.
+abbrev pub HasNoJoining : Held → Type 0
+HasNoJoining h = IsSettled h.slots.version h.options.target_size
+    ⊎ ((s : Span) × IsJoined h.slots.version h.options.target_size s × HasToWait h s)
+
+-- the plan of the files that are joined, or else the chosen one
+abbrev pub IsNext : Held → TablePlan → Type 0
+IsNext h p = IsJoining h p ⊎ (HasNoJoining h × IsChosen h p)
+
+abbrev pub HasNoNext : Held → Type 0
+HasNoNext h = HasNoJoining h × HasNoChoice h.slots.version (reserved_jobs h.live)
+
+-- Why there is no next job: the state is halted; or there is one, but its ticket would be
+-- 2^64 - 1; or memory was refused.
+abbrev pub IsNextRefusal : Type 0 → Held → StateFault → Type 0
+IsNextRefusal honest h Halted = h.halted ≡ true
+IsNextRefusal honest h NumbersSpent = (h.halted ≡ false) × (h.next_ticket ≡ 2 ^ 64 - 1)
+    × (honest → (p : TablePlan) × IsNext h p)
+IsNextRefusal honest h OutOfMemory = h.halted ≡ false
+IsNextRefusal honest h e = ⊥

@@ -59,6 +59,7 @@ mod install_change;
 
 // Compactions under way.
 mod jobs;
+mod joining;
 mod reserve;
 
 // Reads, snapshots and pins.

@@ -75,7 +75,7 @@ impl<N: Boarded, S: Shelf> State<N, S> {
 
     // Books the job of a plan that conflicts with no live job: it stays among these, and an equal
     // one is handed out.
-    fn book(
+    pub(crate) fn book(
         &mut self,
         alloc: Global,
         plan: Plan<N, S>,
@@ -146,7 +146,7 @@ impl<N: Boarded, S: Shelf> State<N, S> {
     // None where no file does.
     //
     // `Halted`, `BadLevel`, `OutOfMemory` and `Conflict`.
-    fn range_plan(
+    pub(crate) fn range_plan(
         &self,
         alloc: Global,
         level: u8,

@@ -1,0 +1,9 @@
+use Rattle.std.proofs.Common.{◌≡◌, ◌*◌, ◌^◌, ◌≤◌, take}
+use Rattle.lsm_table.specs.Registry.{bytes_of}
+use Rattle.lsm_picker.proofs.joining.bytes_of.Given as goal
+
+abbrev pub invariant-loop-table : goal.invariant-loop-table
+invariant-loop-table g l = record {
+  bytes_is : l.bytes ≡ bytes_of (take l.table-index l.tables);
+  small : l.bytes ≤ l.table-index * 2 ^ 30;
+}

@@ -1,0 +1,78 @@
+//! What workers reserve: small files are joined before the choice is asked.
+
+ghost use Rattle.std.specs.Prelude.{◌≡◌, ◌-◌, ◌^◌, ◌↔◌, false, IfErr, IfNone, IfOk, IfSome, IsTrue};
+ghost use Rattle.std.specs.Prelude.{MatchOption, OnErr, OnOk};
+ghost use Rattle.lsm_picker.specs.Moves.{IsMovable};
+ghost use Rattle.lsm_picker.specs.Reservations.{IsClear};
+ghost use Rattle.lsm_picker.specs.TablePlans.{StandsIn};
+ghost use Rattle.lsm_live.specs.Reserving.{reserved_jobs};
+ghost use Rattle.lsm_state.specs.Reserving.{HasNoJoining, HasNoNext, HasOrderedInputs, IsJoining};
+ghost use Rattle.lsm_state.specs.Reserving.{IsNext, IsNextRefusal, IsOfMoment, IsReserving};
+ghost use Rattle.lsm_state.specs.Reserving.{plan_in, reserved};
+
+use crate::state::State;
+use crate::state_fault::StateFault;
+use lsm_merge::Job;
+use lsm_picker::{Plan, is_move, span_to_join};
+use lsm_slots::Boarded;
+use lsm_table::Shelf;
+use std::alloc::Global;
+
+impl<N: Boarded, S: Shelf> State<N, S> {
+    // The plan of the files that are joined; none where nothing can be joined.
+    fn joining_plan(&self, alloc: Global) -> Result<Option<Plan<N, S>>, StateFault>
+        ensures joined { S.honest → IfOk result (λ r.
+            MatchOption r (HasNoJoining self.now) (λ p. IsJoining self.now p)) }
+        ensures stands { IfOk result (λ r.
+            IfSome r (λ p. StandsIn self.now.slots.version p)) }
+        ensures clear { IfOk result (λ r.
+            IfSome r (λ p. IsClear p (reserved_jobs self.now.live))) }
+        ensures open { OnOk result (self.now.halted ≡ false) }
+        ensures refused { IfErr result (λ e. IsNextRefusal S.honest self.now e) }
+    {
+        if self.halted {
+            return Err(StateFault::Halted);
+        }
+        let version = self.slots.version();
+        let Some(span) = span_to_join(&self.registry, version, self.options.target_size) else {
+            return Ok(None);
+        };
+        match self.range_plan(alloc, span.level(), span.from(), span.to()) {
+            Ok(plan) => Ok(plan),
+            // A plan that conflicts with a live job has to wait.
+            Err(StateFault::Conflict(_)) => Ok(None),
+            Err(fault) => Err(fault),
+        }
+    }
+
+    /// Reserves the next compaction of a worker: that of the files that are joined
+    /// (`lsm_picker::span_to_join`), so that small files become larger ones; where nothing can be
+    /// joined, as where a live job is in the way, the chosen one, as `reserve` does. None exactly
+    /// where there is neither; then nothing changes.
+    ///
+    /// `Halted` where the state is halted; `NumbersSpent` in place of a job whose ticket would be
+    /// 2^64 - 1; `OutOfMemory`. A refusal leaves the state as it was.
+    pub fn reserve_next(&mut self, alloc: Global) -> Result<Option<Job<N, S>>, StateFault>
+        ensures next { S.honest → IfOk result (λ r.
+            MatchOption r (HasNoNext self.old) (λ w. IsNext self.old (plan_in w))) }
+        ensures moment { IfOk result (λ r. IfSome r (λ w. IsOfMoment self.old w)) }
+        ensures in_order { S.honest → IfOk result (λ r. IfSome r HasOrderedInputs) }
+        ensures is_move { IfOk result (λ r. IfSome r (λ w. IsTrue w.is_move
+            ↔ IsMovable self.old.slots.version (plan_in w) self.old.options.target_size)) }
+        ensures ok { IfOk result (λ r. IfSome r (λ w. self.new ≡ reserved w self.old)) }
+        ensures event { IfOk result (λ r.
+            IfSome r (λ w. IsReserving S.honest self.old w self.new)) }
+        ensures none { IfOk result (λ r. IfNone r (self.new ≡ self.old)) }
+        ensures open { OnOk result (self.old.halted ≡ false) }
+        ensures unspent { IfOk result (λ r. IfSome r (λ w. w.ticket ≡ 2 ^ 64 - 1 → ⊥)) }
+        ensures err { OnErr result (self.new ≡ self.old) }
+        ensures refused { IfErr result (λ e. IsNextRefusal S.honest self.old e) }
+    {
+        let Some(plan) = self.joining_plan(alloc)? else {
+            return self.reserve(alloc);
+        };
+        let version = self.slots.version();
+        let moves = is_move(&self.registry, version, &plan, self.options.target_size);
+        Ok(Some(self.book(alloc, plan, moves)?))
+    }
+}
