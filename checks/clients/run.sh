@@ -5,9 +5,10 @@
 #
 # The server is the one that LSM_SERVER names, or the proved one, or else an unproved one that is
 # built first. LSM_SERVER_OBJECT, or its object beside it, is linked into the process. Needs gcc,
-# g++, python3 (PYTHON) with pytest, setuptools and wheel, valgrind, cmake, pkg-config.
-# TISWENOR_CALLS and STORM: how many calls are drawn in C and in Python (3,000), seconds of each storm
-# (5). MINUTES and PYTHON_MINUTES: how long a test in C, and those of Python, may take (10, 60).
+# g++, python3 (PYTHON) with pytest, mypy, setuptools and wheel, valgrind, cmake, pkg-config.
+# TISWENOR_CALLS and STORM: how many calls are drawn in C and in Python (3,000), seconds of each
+# storm (5). MINUTES and PYTHON_MINUTES: how long a test in C, and those of Python, may take (10,
+# 60).
 # PLYVEL_TESTS: the file test_plyvel.py of plyvel's sources, to be run too.
 set -uo pipefail
 here=$(cd "$(dirname "$(readlink -f "${BASH_SOURCE[0]}")")" && pwd)
@@ -25,7 +26,7 @@ tell_missing() {
   for tool in gcc g++ "$python" valgrind cmake pkg-config; do
     command -v "$tool" > /dev/null || echo "missing: $tool"
   done
-  for tool in pytest setuptools wheel; do
+  for tool in pytest mypy setuptools wheel; do
     "$python" -c "import $tool" 2> /dev/null || echo "missing: $tool of $python"
   done
 }
@@ -100,6 +101,7 @@ run() { # TEST [WRAPPER..]: in ten minutes at most
     lied_to*) TISWENOR_SERVER=$work/liar "$@" "$work/$test" "$folder" 200 ;;
     ended*) NO_MEMORY=$folder/left TISWENOR_SERVER=$work/wanting "$@" "$work/$test" "$folder/db" ;;
     host*) "$@" "$work/$test" "$folder" ;;
+    stays*) "$@" "$work/$test" "$folder/db" "$work/$test" ;;
     story_cpp) "$@" "$work/$test" "$folder" ;;
     *) "$@" "$work/$test" "$folder" "$channels" ;;
   esac
@@ -138,9 +140,26 @@ ended_inside() {
   truncate -s 4 "$folder/left" && compile ended -O1 "$clients/c/tests/"{ended,no_memory}.c "${inside[@]}" && run ended
 }
 
+few_descriptors() { # a host that may have 64, and a database of 20 channels
+  local channels=20
+  compile story -O1 "$clients/c/tests/story.c" "${child[@]}" && (ulimit -n 64 && run story)
+}
+
+# Of each status that an answer may have both libraries say the same.
+texts() {
+  printf '#!/bin/sh\nexec "%s" "%s/texts.py"\n' "$(command -v "$python")" "$here" > "$work/texts_server"
+  chmod +x "$work/texts_server"
+  compile texts -O1 "$clients/c/tests/texts.c" "${child[@]}" &&
+    TISWENOR_SERVER=$work/texts_server "$work/texts" "$folder/db" > "$folder/c" &&
+    TISWENOR_SERVER=$work/texts_server PYTHONPATH=$clients/python/src "$python" "$here/texts.py" "$folder/db" > "$folder/python" &&
+    diff "$folder/c" "$folder/python" && (($(wc -l < "$folder/c") == 104))
+}
+
 thread_sanitizer_inside() { # TEST
   TSAN_OPTIONS=suppressions=$here/thread.suppressions with_inside "$1" -fsanitize=thread
 }
+
+types() { (cd "$clients/python" && "$python" -m mypy --cache-dir "$folder/mypy" --strict src); }
 
 pytests() { (cd "$clients/python" && timeout -k 10 "${PYTHON_MINUTES:-60}m" "$python" -X dev -m pytest -q -p no:cacheprovider --basetemp="$folder/pytest"); }
 
@@ -169,19 +188,21 @@ first_is() { # COMMAND..: a first program, which makes /tmp/fruit, says of what 
 }
 
 examples() {
-  gcc "${strict[@]}" "$clients/examples/first.c" "$work/child/libtiswenor.a" -lpthread -o "$work/first" && first_is "$work/first" &&
+  gcc "${strict[@]}" -g "$clients/examples/first.c" "$work/child/libtiswenor.a" -lpthread -o "$work/first" &&
+    first_is "${leaks[@]}" "$work/first" &&
     g++ -std=c++17 -I"$clients/c" "$clients/examples/first.cpp" "$work/child/libtiswenor.a" -lpthread -o "$work/first" && first_is "$work/first" &&
     PYTHONPATH=$clients/python/src first_is "$python" "$clients/examples/first.py"
 }
 
-cmake_and_pkg_config() { # WORDS..: installed, found, and used by both
-  local flags
+cmake_and_pkg_config() { # LIBRARY WORDS..: installed, found, and used by both
+  local library=$1 flags
+  shift
   cmake -S "$clients/c" -B "$folder/build" -DCMAKE_INSTALL_PREFIX="$folder/installed" "$@" &&
     cmake --build "$folder/build" && cmake --install "$folder/build" &&
-    cmake -S "$here/use" -B "$folder/use" -DCMAKE_PREFIX_PATH="$folder/installed" -DSOURCE="$clients/examples/first.c" &&
+    cmake -S "$here/use" -B "$folder/use" -DCMAKE_PREFIX_PATH="$folder/installed" -DSOURCE="$clients/examples/first.c" -DLIBRARY="$library" &&
     cmake --build "$folder/use" && first_is "$folder/use/first" || return 1
-  flags=$(PKG_CONFIG_PATH=$(dirname "$(find "$folder/installed" -name tiswenor.pc)") pkg-config --cflags --libs --static tiswenor) &&
-    gcc "$clients/examples/first.c" $flags -Wl,-rpath,"$(dirname "$(find "$folder/installed" -name 'libtiswenor.*' | head -n 1)")" -o "$work/first" &&
+  flags=$(PKG_CONFIG_PATH=$(dirname "$(find "$folder/installed" -name "$library.pc")") pkg-config --cflags --libs --static "$library") &&
+    gcc "$clients/examples/first.c" $flags -Wl,-rpath,"$(dirname "$(find "$folder/installed" -name "lib$library.*" | head -n 1)")" -o "$work/first" &&
     first_is "$work/first"
 }
 
@@ -191,6 +212,7 @@ export TISWENOR_SERVER=$server
 printf '#!/bin/sh\necho $$ > %s/number\nexec %s\n' "$work" "$server" > "$work/telling"
 chmod +x "$work/telling"
 
+part "server: others may read its object" test -n "$(find "$object" -perm -a=r)"
 part "C, child: build" build_child
 part "C, inside: build" build
 part "C, child: story" with_child story
@@ -209,6 +231,8 @@ part "C, child: iterators over many pages" with_child pages
 part "C, child: iterators over many pages, address sanitizer" with_child pages "${sanitized[@]}"
 part "C, child: iterators over many pages, thread sanitizer" with_child pages -fsanitize=thread
 part "C, child: channels that the server ends" ended_child
+part "C, child: a server that stays behind its channels" with_child stays
+part "C, child: few descriptors" few_descriptors
 part "C, child: what a host does beside" with_child host
 part "C, inside: story" with_inside story
 part "C, inside: story, address sanitizer" with_inside story "${sanitized[@]}"
@@ -226,8 +250,11 @@ part "C, inside: what a host does beside, address sanitizer" with_inside host "$
 part "C++, child: story" cpp "$work/child/libtiswenor.a" -lpthread
 part "C++, inside: story" cpp "${inside[@]}"
 part "first programs" examples
-part "cmake, pkg-config: archives" cmake_and_pkg_config
-part "cmake, pkg-config: shared" cmake_and_pkg_config -DBUILD_SHARED_LIBS=ON
+part "cmake, pkg-config: archives" cmake_and_pkg_config tiswenor
+part "cmake, pkg-config: shared" cmake_and_pkg_config tiswenor -DBUILD_SHARED_LIBS=ON
+part "cmake, pkg-config: inside" cmake_and_pkg_config tiswenor_inside -DTISWENOR_OBJECT="$object" -DRATTLE_C="$(dirname "$(rt doc)")/c"
+part "C and Python: the same texts" texts
+part "Python: strict types" types
 part "Python: tests" pytests
 [[ -z ${PLYVEL_TESTS:-} ]] || part "Python: plyvel's own tests" plyvel_tests
 part "Python: wheel" wheel

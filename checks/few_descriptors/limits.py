@@ -4,7 +4,7 @@ all workers together a quarter.
 
   limits.py LSM FOLDER
 
-LSM is the program, FOLDER an empty folder. Folders of many small tables are made there, byte by byte. `lsm check` and `lsm scan` run on
+LSM is the program, FOLDER an empty folder. Folders of many small tables are made there, byte by byte. `lsm scan` and `lsm check` run on
 those that have more than twice as many as may be open, `lsm compact` by 8 workers on one whose level 0 has 64 jobs. What they print goes
 into a pipe that has room for little, so that they wait to be read; their descriptors are counted in /proc meanwhile. Ends with status 1
 where there are more than the limit, or fewer than show that the limit was reached.
@@ -90,7 +90,7 @@ def log(record):
 
 def make(folder, levels):
     """A database of these tables: (level, its pairs of user keys, sequences and values)."""
-    os.mkdir(folder)
+    os.makedirs(folder)
     adds = b""
     for number, (level, entries) in enumerate(levels, 2):
         pairs = [(internal(key, sequence), value) for key, sequence, value in entries]
@@ -159,12 +159,16 @@ def among(what, most, low, high):
 
 
 def one_reader(lsm, folder, descriptors):
+    """A scan of the tables of one level; and the second look of a check, of two levels whose ages neither ranges nor sequences settle."""
     most, value = min(descriptors // 16, 1000), b"v" * 1000
-    make(folder, [(6, [(b"key%06d" % i, 1, value)]) for i in range(2 * most + 500)])
+    count, key = 2 * most + 500, b"key%06d"
+    make(f"{folder}/one", [(6, [(key % i, 1, value)]) for i in range(count)])
+    pairs = [(level, [(key % (2 * i), newest, value), (key % (2 * i + 1), newest - 6, value)]) for level, newest in [(5, 9), (6, 8)] for i in range(count // 2)]
+    make(f"{folder}/two", pairs)
     # one more may be read whole
     return [
         among(f"{words[0]} with {descriptors} descriptors", Watched(lsm, descriptors, *words).most, most, most + 1)
-        for words in [["scan", folder], ["check", folder, "--progress"]]
+        for words in [["scan", f"{folder}/one"], ["check", f"{folder}/two", "--progress"]]
     ]
 
 

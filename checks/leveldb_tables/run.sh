@@ -3,7 +3,8 @@
 # byte, each other's tables read, the tables (with filter blocks and shortened separators) and the
 # manifest of a directory that LevelDB made, and the tables of one that it compressed, which are
 # refused as such. Stops at the first difference. Prints one line for each comparison, and times for
-# a list of a million entries.
+# a list of a million entries, three times (TURNS=0: not at all). Needs g++ and libleveldb-dev.
+# LSM=/path/to/lsm names a built program.
 set -euo pipefail
 here=$(cd "$(dirname "$0")" && pwd)
 top=$(cd "$here/../.." && pwd)
@@ -58,12 +59,15 @@ done
 "$lsm" manifest < "$work"/compressed/MANIFEST-* > "$work/manifest"
 echo "a directory with compression: $(ls "$work"/compressed/*.ldb | wc -l) tables, each refused 16 Compressed 1; its manifest is read"
 
+[[ ${TURNS:-3} != 0 ]] || exit 0
 list 1000000 16 > "$work/list"
 TIMEFORMAT='%U user %S sys %R real'
-for turn in 1 2 3; do
+for _ in $(seq "${TURNS:-3}"); do
   echo -n "mktable lsm:     "; time "$lsm" mktable < "$work/list" > "$work/ours"
   echo -n "mktable LevelDB: "; time "$work/table" build 4096 16 "$work/theirs" < "$work/list"
   echo -n "dump lsm:        "; time "$lsm" dump < "$work/ours" > "$work/out"
   echo -n "dump LevelDB:    "; time "$work/table" dump "$work/ours" > "$work/out2"
 done
-cmp "$work/ours" "$work/theirs"; cmp "$work/out" "$work/out2"
+cmp "$work/ours" "$work/theirs"
+cmp "$work/out" "$work/out2"
+echo "a list of 1000000 entries: the same $(wc -c < "$work/ours") bytes, each reads the other's"

@@ -1,11 +1,12 @@
 #!/usr/bin/env bash
 # Compares the manual page and the completions of this repository with what tools/manual.py makes of
-# the help of the program, and tries them in the shells that are there: run.sh [PROGRAM]. The last
-# line is `N passed, M failed`; a shell that is not installed is named, and counts as neither.
+# the help of the program, and tries them in the shells that are there: run.sh [PROGRAM], else LSM,
+# else the program of the repository. The last line is `N passed, M failed`; a shell that is not
+# installed is named, and counts as neither.
 # To write them anew: tools/manual.py PROGRAM . at the top of the repository.
 set -uo pipefail
 top=$(cd "$(dirname "$(readlink -f "${BASH_SOURCE[0]}")")/../.." && pwd)
-program=$(realpath "${1:-$("$top/tools/program")}") || exit 1
+program=$(realpath -e "${1:-${LSM:-$("$top/tools/program")}}") || { echo "0 passed, 1 failed"; exit 1; }
 scratch=$(mktemp -d)
 trap 'rm -rf "$scratch"' EXIT
 passed=0 failed=0

@@ -12,12 +12,15 @@
 #   form.py       the pages of the book and of crates are short, drawings are well-formed, as scripts
 #                 draw them, and each is shown; all code is in fences
 #   links.py      of every page of the repository: each link leads to a file, and to a heading of it
+#   checks.py     checks/README.md has each check of checks/checks.txt, and FIGURES.md no other
+#   definitions   the table in docs/PROVED.md of what a reader has to believe is as tools/definitions
+#                 makes it
 #
 # Names of pages as words choose which pages' sessions and code are looked at. Runs the proved
 # program, or else the unproved build, which is made first where it is not there (some minutes);
-# LSM=/path/to/lsm names another one. Needs python3, and rt where a program has to be built. Prints
-# each fault with its file and line. The last line is `N passed, M failed`; the status is 1 where M
-# is not 0.
+# LSM=/path/to/lsm names another one. Where there is none the sessions count as failed, and the rest
+# is looked at. Needs python3, and rt where a program has to be built. Prints each fault with its
+# file and line. The last line is `N passed, M failed`; the status is 1 where M is not 0.
 set -uo pipefail
 here=$(cd "$(dirname "$0")" && pwd)
 top=$(cd "$here/../.." && pwd)
@@ -30,8 +33,6 @@ if [[ $# -eq 0 ]]; then
   pages=("$top/README.md" "$top/docs/COMMANDS.md" "$top"/docs/book/*.md)
   code=("${pages[@]}" "$top/docs/CALLING.md" "$top/docs/PROVED.md" "$top"/crates/*/CALLING.md)
 fi
-"$program" --version > /dev/null || { echo "0 passed, 1 failed"; exit 1; }
-
 count() { # NAME COMMAND..: runs it, and adds its last line `N passed, M failed`
   local name=$1 said line
   shift
@@ -48,12 +49,19 @@ count() { # NAME COMMAND..: runs it, and adds its last line `N passed, M failed`
   fi
 }
 
-count sessions python3 "$here/sessions.py" "$program" "${pages[@]}"
+if "$program" --version > /dev/null; then
+  count sessions python3 "$here/sessions.py" "$program" "${pages[@]}"
+else
+  failed=1
+  echo "sessions: not run, for want of a program: 0 passed, 1 failed"
+fi
 count code python3 "$here/code.py" "${code[@]}"
 count cures python3 "$here/cures.py" "$program"
 count mending python3 "$here/mending.py"
 count names python3 "$here/names.py"
 count form python3 "$here/form.py" "${code[@]}"
 count links python3 "$here/links.py"
+count checks python3 "$here/checks.py"
+count definitions python3 "$top/tools/definitions" --check
 echo "$passed passed, $failed failed"
 ((failed == 0))

@@ -4,13 +4,14 @@
 A session is a block of the kind `console`. A line that begins with `$ ` is a command; lines that
 begin with `> ` behind it go on with it. The lines behind it are what the command prints, standard
 output and standard error together. A line that begins with `..` is any number of lines. Lines that
-the script `lsm` writes of an unproved build count on neither side.
+the script `lsm` writes of an unproved build, and while it is built, count on neither side.
 
 Each page has a scratch folder of its own, where `./lsm` is PROGRAM and `examples` is that of the
 repository. A path /tmp/.. of a page is a path in that folder. The blocks of a page are run in
 order, so one may go on with the files of those before it.
 """
 
+import re
 import subprocess
 import sys
 import tempfile
@@ -19,7 +20,7 @@ from pathlib import Path
 from markdown import TOP, blocks
 
 SECONDS = 300
-OF_THE_BUILD = ("lsm: unproved build", "lsm: built first, once,")
+OF_THE_BUILD = re.compile(r"lsm: (unproved build$|built first, once,|built in |waits for another run |.* min so far, load )")
 
 
 def commands(block):
@@ -38,7 +39,7 @@ def commands(block):
 
 
 def without_build(lines):
-    return [line for line in lines if not line.startswith(OF_THE_BUILD)]
+    return [line for line in lines if not OF_THE_BUILD.match(line)]
 
 
 def is_as_said(said, printed):

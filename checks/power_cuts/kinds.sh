@@ -13,4 +13,5 @@ for kind in tables manifests records temporaries folder; do
     bad=1
   fi
 done
+[[ $bad != 0 ]] || echo "each kind of syncs forgotten alone: a loss was found"
 exit $bad

@@ -13,7 +13,7 @@ program=$(readlink -f "${LSM:-$("$top/tools/program")}")
 cd "$work"
 python3 "$here/talk.py" "$program"
 if ! command -v tmux > /dev/null; then
-  echo "no tmux: the terminal is left out"
+  echo "not tried: the terminal: tmux is not installed"
   exit
 fi
 mkdir typed

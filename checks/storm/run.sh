@@ -5,9 +5,10 @@
 # of its keys says: storm.c says how. The folder is opened again afterwards, by the server and by
 # LevelDB. Ends with status 1 at the first difference, and leaves the folder, whose path is printed.
 #
-# The server is the one that LSM_SERVER names, or the proved one, or else an unproved one that is
-# built first. INSIDE=1 takes its object (LSM_SERVER_OBJECT, or the one beside it) into the process.
-# ROOM=/tmp names where the folder is made. Needs gcc and libleveldb-dev.
+# The server is the one that LSM_SERVER names, or the proved one, or else the unproved build, which is
+# made first where it is not there (tools/program). INSIDE=1 takes its object (LSM_SERVER_OBJECT, or
+# the one beside it) into the process. ROOM=/tmp names where the folder is made. Needs gcc and
+# libleveldb-dev.
 set -euo pipefail
 here=$(cd "$(dirname "$(readlink -f "${BASH_SOURCE[0]}")")" && pwd)
 top=$(cd "$here/../.." && pwd)
@@ -15,12 +16,7 @@ time=${1:-120} seed=${2:-$RANDOM$RANDOM}
 work=$(mktemp -d)
 folder=$(mktemp -d -p "${ROOM:-/tmp}" storm-XXXXXX)
 trap 'rm -rf "$work"' EXIT
-server=${LSM_SERVER:-$top/crates/lsm_server/out/lsm_server}
-if [[ ! -x $server ]]; then
-  server=$work/lsm_server
-  echo "storm: no proved server; building an unproved one, in some minutes"
-  "$top/tools/unproved.sh" "$server" lsm_server
-fi
+server=${LSM_SERVER:-$("$top/tools/program" lsm_server)}
 server=$(readlink -f "$server")
 echo "seed $seed, $time s; $server${INSIDE:+, inside the process}; load $(cut -d ' ' -f 1 /proc/loadavg)"
 if [[ ${INSIDE:-} ]]; then

@@ -14,7 +14,7 @@ program=$(readlink -f "${LSM:-$("$top/tools/program")}")
 cd "$work"
 python3 "$here/lines.py" "$program"
 if ! command -v tmux > /dev/null; then
-  echo "no tmux: the screen is left out"
+  echo "not tried: the screen: tmux is not installed"
   exit
 fi
 tmux -L "$name" new-session -d -x 90 -y 30 \

@@ -5,12 +5,17 @@
 #include <fcntl.h>
 #include <poll.h>
 #include <pthread.h>
+#include <sched.h>
 #include <signal.h>
-#include <spawn.h>
+#include <stdatomic.h>
+#include <stdint.h>
 #include <stdio.h>
 #include <stdlib.h>
 #include <string.h>
+#include <sys/ioctl.h>
+#include <sys/mman.h>
 #include <sys/socket.h>
+#include <sys/syscall.h>
 #include <sys/wait.h>
 #include <time.h>
 #include <unistd.h>
@@ -26,13 +31,25 @@ enum { FIRST = 3 };
 /* How much of an answer is read at once, at first. Only one answer is on its way at a time. */
 enum { READ_AT_ONCE = 4096 };
 
-/* How long a server may take for its end, in microseconds, as it finishes the merge at hand. */
-enum { UNTIL_END = 60000000 };
+/* How long a server may take for its end, as it finishes the merge at hand, and how long a call
+   waits at most to tell how it ended; both in milliseconds. */
+enum { UNTIL_END = 60000, UNTIL_TOLD = 1000 };
+
+/* Numbers of descriptors that the server is to have, while it is started. */
+struct starting {
+  int request, report; /* its standard input; where it tells its number, or why it is not there */
+  int channels[MOST_CHANNELS];
+};
 
 struct transport {
   struct transport *next, **link; /* of all that are open */
   pid_t server;
+  int process;  /* a descriptor that stands for the server; -1 where the system has none */
+  int is_apart; /* the server is no child of this process */
   int is_forked;
+  int is_starting; /* it has what follows, besides its sockets */
+  struct starting starting;
+  atomic_long told_until; /* when no call waits any more for how it ended; 0 before one has */
   unsigned channels;
   int sockets[MOST_CHANNELS];
 };
@@ -47,10 +64,25 @@ static pthread_once_t once = PTHREAD_ONCE_INIT;
 static void lock_all(void) { pthread_mutex_lock(&all_lock); }
 static void unlock_all(void) { pthread_mutex_unlock(&all_lock); }
 
+static void close_some(const int *descriptors, unsigned count) {
+  for (unsigned i = 0; i < count; i++)
+    if (descriptors[i] >= 0) close(descriptors[i]);
+}
+
+static void close_starting(struct transport *transport) {
+  if (!transport->is_starting) return;
+  transport->is_starting = 0;
+  close_some(&transport->starting.request, 1);
+  close_some(&transport->starting.report, 1);
+  close_some(transport->starting.channels, transport->channels);
+}
+
 static void forget_all(void) {
   for (struct transport *it = all; it; it = it->next) {
     it->is_forked = 1;
-    for (unsigned i = 0; i < it->channels; i++) close(it->sockets[i]);
+    close_starting(it);
+    close_some(it->sockets, it->channels);
+    close_some(&it->process, 1);
   }
   all = NULL;
   pthread_mutex_unlock(&all_lock);
@@ -59,13 +91,10 @@ static void forget_all(void) {
 static void watch_forks(void) { pthread_atfork(lock_all, unlock_all, forget_all); }
 
 static void enrol(struct transport *transport) {
-  pthread_once(&once, watch_forks);
-  lock_all();
   transport->next = all;
   transport->link = &all;
   if (all) all->link = &transport->next;
   all = transport;
-  unlock_all();
 }
 
 static void leave(struct transport *transport) {
@@ -79,21 +108,17 @@ int tiswenor_transport_is_forked(const struct transport *transport) { return tra
 
 /* Starting */
 
-static void close_some(const int *descriptors, unsigned count) {
-  for (unsigned i = 0; i < count; i++)
-    if (descriptors[i] >= 0) close(descriptors[i]);
-}
-
 /* A copy of a descriptor, above those that the server will have. The given one is closed. */
 static int moved(int descriptor, unsigned channels) {
-  int copy = fcntl(descriptor, F_DUPFD_CLOEXEC, FIRST + (int)channels);
+  int copy = fcntl(descriptor, F_DUPFD_CLOEXEC, FIRST + (int)channels + 1);
   close(descriptor);
   return copy;
 }
 
-/* Makes a socket pair for each channel. On success theirs are above those that the server will
+/* Makes a socket pair for each channel. On success the server's ends are above those that it will
    have; else all are closed. */
-static int make_channels(struct transport *transport, int *theirs) {
+static int make_channels(struct transport *transport) {
+  int *theirs = transport->starting.channels;
   for (unsigned i = 0; i < transport->channels; i++) {
     int pair[2];
     if (!socketpair(AF_UNIX, SOCK_STREAM | SOCK_CLOEXEC, 0, pair)) {
@@ -120,56 +145,177 @@ static int make_request(const unsigned char *opening, size_t length, unsigned ch
   return -1;
 }
 
-/* What becomes of descriptors in the server's process: it has its own ones, and standard error. */
-static int say_descriptors(posix_spawn_file_actions_t *actions, int request, const int *theirs,
-                           unsigned channels) {
-  int error = posix_spawn_file_actions_adddup2(actions, request, 0);
-  if (!error) error = posix_spawn_file_actions_addopen(actions, 1, "/dev/null", O_WRONLY, 0);
-  for (unsigned i = 0; !error && i < channels; i++)
-    error = posix_spawn_file_actions_adddup2(actions, theirs[i], FIRST + (int)i);
-#if defined __GLIBC_PREREQ
-#if __GLIBC_PREREQ(2, 34)
-  if (!error) error = posix_spawn_file_actions_addclosefrom_np(actions, FIRST + (int)channels);
-#endif
-#endif
-  return error;
+/* A pipe by which the server's process reports: its end to read from; -1 where there is none. */
+static int make_report(struct transport *transport) {
+  int ends[2];
+  transport->starting.report = -1;
+  if (pipe2(ends, O_CLOEXEC)) return -1;
+  transport->starting.report = moved(ends[1], transport->channels);
+  if (transport->starting.report >= 0) return ends[0];
+  close(ends[0]);
+  return -1;
 }
+
+/* What starts a server. The process that becomes it, and the one between it and this one, share
+   this process's memory until the server's program runs, as vfork's do: a copy of a large one takes
+   long. So they call the system, and nothing else. */
+struct start {
+  const struct transport *transport;
+  const char *program;
+  char **environment;
+  unsigned char *stacks; /* for the two of them */
+};
+
+enum { STACK = 65536 };
+
+/* What the server's process reports. */
+struct report {
+  pid_t server;
+  int error;
+};
+
+#define ON_BORROWED_MEMORY \
+  __attribute__((noinline, no_sanitize_address, no_sanitize_thread, no_sanitize_undefined))
 
 /* The server has a session of its own, so that signals from the terminal do not reach it, and no
-   signal is blocked or ignored that this process blocks or ignores. */
-static int say_attributes(posix_spawnattr_t *attributes) {
+   signal is handled, or is blocked or ignored that this process blocks or ignores. */
+ON_BORROWED_MEMORY static void leave_signals(void) {
   static const int usual[] = {SIGHUP, SIGINT, SIGQUIT, SIGTERM, SIGPIPE, SIGCHLD};
-  sigset_t none, defaults;
-  sigemptyset(&none);
-  sigemptyset(&defaults);
-  for (size_t i = 0; i < sizeof usual / sizeof *usual; i++) sigaddset(&defaults, usual[i]);
-  int error = posix_spawnattr_setsigmask(attributes, &none);
-  if (!error) error = posix_spawnattr_setsigdefault(attributes, &defaults);
-  if (!error)
-    error = posix_spawnattr_setflags(
-        attributes, POSIX_SPAWN_SETSID | POSIX_SPAWN_SETSIGMASK | POSIX_SPAWN_SETSIGDEF);
-  return error;
+  struct sigaction now, none;
+  sigset_t no_signals;
+  memset(&none, 0, sizeof none);
+  none.sa_handler = SIG_DFL;
+  for (int number = 1; number < NSIG; number++)
+    if (!sigaction(number, NULL, &now) && now.sa_handler != SIG_DFL && now.sa_handler != SIG_IGN)
+      sigaction(number, &none, NULL);
+  for (size_t i = 0; i < sizeof usual / sizeof *usual; i++) sigaction(usual[i], &none, NULL);
+  setsid();
+  sigemptyset(&no_signals);
+  sigprocmask(SIG_SETMASK, &no_signals, NULL);
 }
 
-static int spawn(pid_t *server, const char *program, int request, const int *theirs,
-                 unsigned channels) {
-  posix_spawn_file_actions_t actions;
-  posix_spawnattr_t attributes;
-  int error = posix_spawn_file_actions_init(&actions);
-  if (error) return error;
-  error = posix_spawnattr_init(&attributes);
-  if (!error) {
-    char *words[] = {(char *)program, NULL};
-    error = say_descriptors(&actions, request, theirs, channels);
-    if (!error) error = say_attributes(&attributes);
-    if (!error) error = posix_spawnp(server, program, &actions, &attributes, words, environ);
-    posix_spawnattr_destroy(&attributes);
+/* The server's process has its own descriptors, standard error, and the one by which it reports.
+   Whether all was done. */
+ON_BORROWED_MEMORY static int take_descriptors(const struct transport *transport) {
+  const struct starting *given = &transport->starting;
+  int above = FIRST + (int)transport->channels;
+  if (dup2(given->request, 0) < 0) return 0;
+  int nowhere = open("/dev/null", O_WRONLY | O_CLOEXEC);
+  if (nowhere < 0 || (nowhere == 1 ? fcntl(1, F_SETFD, 0) : dup2(nowhere, 1)) < 0) return 0;
+  for (unsigned i = 0; i < transport->channels; i++)
+    if (dup2(given->channels[i], FIRST + (int)i) < 0) return 0;
+  if (dup3(given->report, above, O_CLOEXEC) < 0) return 0;
+#if defined SYS_close_range
+  syscall(SYS_close_range, above + 1, ~0U, 0);
+#endif
+  return 1;
+}
+
+/* A process that runs this on a stack of its own. The thread sanitizer takes it for this thread
+   where it shares memory: there it has a copy of it. */
+ON_BORROWED_MEMORY static pid_t make(int (*run)(void *), unsigned char *stack_end, int signal,
+                                     void *state) {
+#if defined __SANITIZE_THREAD__
+  pid_t made = (pid_t)syscall(SYS_clone, signal, NULL, NULL, NULL, NULL);
+  (void)stack_end;
+  if (!made) _exit(run(state));
+  return made;
+#else
+  return clone(run, stack_end, CLONE_VM | CLONE_VFORK | signal, state);
+#endif
+}
+
+ON_BORROWED_MEMORY static int become_server(void *state) {
+  const struct start *start = state;
+  const struct transport *transport = start->transport;
+  struct report report = {getpid(), 0};
+  int to = transport->starting.report;
+  char *words[] = {(char *)start->program, NULL};
+  leave_signals();
+  if (take_descriptors(transport)) {
+    to = FIRST + (int)transport->channels;
+    if (write(to, &report, sizeof report) != sizeof report) _exit(127);
+    if (strchr(start->program, '/'))
+      execve(start->program, words, start->environment);
+    else
+      execvpe(start->program, words, start->environment);
   }
-  posix_spawn_file_actions_destroy(&actions);
+  report.error = errno;
+  if (write(to, &report, sizeof report) < 0) _exit(126);
+  _exit(127);
+}
+
+/* A process that ends at once: so the server, which it makes, is nobody's child here. */
+ON_BORROWED_MEMORY static int go_between(void *state) {
+  const struct start *start = state;
+  struct report report = {0, 0};
+  if (make(become_server, start->stacks + STACK, SIGCHLD, state) >= 0) _exit(0);
+  report.error = errno;
+  _exit(write(start->transport->starting.report, &report, sizeof report) < 0);
+}
+
+/* A descriptor that stands for a process, also for one that is no child; -1 for none. */
+static int descriptor_of(pid_t process) {
+#if defined SYS_pidfd_open
+  return (int)syscall(SYS_pidfd_open, process, 0);
+#else
+  (void)process;
+  return -1;
+#endif
+}
+
+/* Whether the system can wait for a process that is no child. */
+static int has_processes_apart(void) {
+  int own = descriptor_of(getpid());
+  close_some(&own, 1);
+  return own >= 0;
+}
+
+/* Makes the process of the server: apart from this one, or else as its child. `wait` does not see
+   the one between, of which no signal tells. */
+static int make_process(struct transport *transport, struct start *start) {
+  sigset_t every, before;
+  int state, error = 0;
+  sigfillset(&every);
+  pthread_setcancelstate(PTHREAD_CANCEL_DISABLE, &state);
+  pthread_sigmask(SIG_SETMASK, &every, &before);
+  transport->is_apart = has_processes_apart();
+  pid_t made = transport->is_apart ? make(go_between, start->stacks + 2 * STACK, 0, start)
+                                   : make(become_server, start->stacks + STACK, SIGCHLD, start);
+  if (made < 0) error = errno;
+  while (made >= 0 && transport->is_apart && waitpid(made, NULL, __WCLONE) < 0 && errno == EINTR) {
+  }
+  pthread_sigmask(SIG_SETMASK, &before, NULL);
+  pthread_setcancelstate(state, NULL);
   return error;
 }
 
-static const char *program_of(const char *server) {
+/* Starts the server. 0, or the system's number of an error. */
+static int spawn(struct transport *transport, const char *program, int reports) {
+  struct start start = {transport, program, environ, NULL};
+  struct report report = {0, 0}, next;
+  void *stacks =
+      mmap(NULL, 2 * STACK, PROT_READ | PROT_WRITE, MAP_PRIVATE | MAP_ANONYMOUS | MAP_STACK, -1, 0);
+  if (stacks == MAP_FAILED) return errno;
+  start.stacks = stacks;
+  int error = make_process(transport, &start);
+  lock_all();
+  close_starting(transport);
+  unlock_all();
+  for (ssize_t came = 1; !error && came;) {
+    came = read(reports, &next, sizeof next);
+    if (came == sizeof next) report = next;
+    if (came < 0 && errno != EINTR) error = errno;
+  }
+  munmap(stacks, 2 * STACK);
+  if (!error) error = report.error;
+  transport->server = report.server;
+  if (error && report.server && !transport->is_apart) waitpid(report.server, NULL, 0);
+  if (!error && transport->is_apart) transport->process = descriptor_of(report.server);
+  return error;
+}
+
+const char *tiswenor_transport_program(const char *server) {
   const char *named = server ? server : getenv("TISWENOR_SERVER");
   if (named && *named) return named;
 #ifdef TISWENOR_SERVER_PATH
@@ -178,33 +324,54 @@ static const char *program_of(const char *server) {
   return "lsm_server";
 }
 
+/* Makes all descriptors of a start. The one to read reports from; -1 where not all are made, and
+   none is left. Forks wait meanwhile, so that a process that is forked has copies of none. */
+static int make_descriptors(struct transport *transport, const unsigned char *opening,
+                            size_t length) {
+  int reports = -1;
+  lock_all();
+  if (make_channels(transport)) {
+    transport->is_starting = 1;
+    transport->starting.request = make_request(opening, length, transport->channels);
+    reports = make_report(transport);
+    if (transport->starting.request >= 0 && reports >= 0) {
+      enrol(transport);
+    } else {
+      int error = errno;
+      close_some(&reports, 1);
+      close_starting(transport);
+      close_some(transport->sockets, transport->channels);
+      reports = -1;
+      errno = error;
+    }
+  }
+  unlock_all();
+  return reports;
+}
+
 struct transport *tiswenor_transport_open(const char *server, unsigned channels,
                                           unsigned char *opening, size_t length, int *fault) {
-  int theirs[MOST_CHANNELS];
+  pthread_once(&once, watch_forks);
   struct transport *transport = calloc(1, sizeof *transport);
   *fault = tiswenor_out_of_memory;
   if (!transport) return NULL;
   *fault = tiswenor_no_server;
   transport->channels = channels;
-  if (!make_channels(transport, theirs)) {
-    free(transport);
-    return NULL;
-  }
+  transport->process = -1;
   opening[4] = FIRST;
-  int request = make_request(opening, length, channels);
-  int error = request < 0
-                  ? errno
-                  : spawn(&transport->server, program_of(server), request, theirs, channels);
-  close_some(&request, 1);
-  close_some(theirs, channels);
-  if (error) {
-    close_some(transport->sockets, channels);
+  int reports = make_descriptors(transport, opening, length);
+  if (reports < 0) {
     free(transport);
-    errno = error;
     return NULL;
   }
-  enrol(transport);
-  return transport;
+  int error = spawn(transport, tiswenor_transport_program(server), reports);
+  close(reports);
+  if (!error) return transport;
+  leave(transport);
+  close_some(transport->sockets, channels);
+  free(transport);
+  errno = error;
+  return NULL;
 }
 
 /* Frames */
@@ -301,35 +468,100 @@ int tiswenor_transport_exchange(struct transport *transport, unsigned channel,
 
 /* The end */
 
-void tiswenor_transport_tell_end(struct transport *transport, char *text, size_t room) {
-  snprintf(text, room, "the server takes no more requests");
-  for (int millisecond = 0; millisecond < 1000; millisecond++) {
-    siginfo_t end = {0};
-    if (waitid(P_PID, (id_t)transport->server, &end, WEXITED | WNOHANG | WNOWAIT)) return;
-    if (end.si_pid) {
-      int is_exit = end.si_code == CLD_EXITED;
-      snprintf(text, room,
-               is_exit ? "the server ended with status %d" : "the server was ended by signal %d",
-               end.si_status);
-      return;
-    }
+static long now(void) {
+  struct timespec time;
+  clock_gettime(CLOCK_MONOTONIC, &time);
+  return time.tv_sec * 1000 + time.tv_nsec / 1000000;
+}
+
+/* `waitid` of the server, by what no other process can have got meanwhile. */
+static int wait_for(const struct transport *transport, siginfo_t *end, int options) {
+  enum { BY_DESCRIPTOR = 3 }; /* P_PIDFD */
+  *end = (siginfo_t){0};
+  if (!transport->is_apart) return waitid(P_PID, (id_t)transport->server, end, options);
+  if (transport->process >= 0)
+    return waitid((idtype_t)BY_DESCRIPTOR, (id_t)transport->process, end, options);
+  errno = ECHILD;
+  return -1;
+}
+
+/* Waits for the server's end, so many milliseconds at most. Whether it has ended. */
+static int has_ended(const struct transport *transport, int wait) {
+  siginfo_t end;
+  if (transport->is_apart) {
+    struct pollfd process = {transport->process, POLLIN, 0};
+    return transport->process < 0 || poll(&process, 1, wait) > 0; /* or it ended as it began */
+  }
+  for (;; wait--) {
+    if (wait_for(transport, &end, WEXITED | WNOHANG | WNOWAIT)) return 1;
+    if (end.si_pid || wait <= 0) return end.si_pid != 0;
     nanosleep(&(struct timespec){0, 1000000}, NULL);
   }
 }
 
-/* Waits for the server's end. After a minute it is killed: all that it answered is on the disk. */
-static void wait_for_end(pid_t server) {
-  long pause = 50000, waited = 0; /* nanoseconds; microseconds */
-  for (;;) {
-    pid_t ended = waitpid(server, NULL, WNOHANG);
-    if (ended == server || (ended < 0 && errno != EINTR)) return;
-    if (waited >= UNTIL_END) break;
-    nanosleep(&(struct timespec){0, pause}, NULL);
-    waited += pause / 1000;
-    if (pause < 20000000) pause *= 2;
+/* What `wait` would say of a process that has ended, and that nobody has waited for yet. */
+static int has_left(pid_t process, int *status) {
+  char path[32], text[1024];
+  snprintf(path, sizeof path, "/proc/%d/stat", (int)process);
+  FILE *file = fopen(path, "re");
+  size_t length = file ? fread(text, 1, sizeof text - 1, file) : 0;
+  if (file) fclose(file);
+  text[length] = 0;
+  char *name_end = strrchr(text, ')'), *last = strrchr(text, ' ');
+  if (!name_end || name_end[1] != ' ' || name_end[2] != 'Z') return 0;
+  *status = atoi(last);
+  return 1;
+}
+
+/* The same of one that somebody else has waited for: Linux tells it from 6.15 on. */
+static int was_told(int process, int *status) {
+  enum { TELLS_END = 8 };
+  struct { /* struct pidfd_info of linux/pidfd.h, as far as it is needed */
+    uint64_t what, group;
+    uint32_t numbers[11];
+    int32_t status;
+  } told = {TELLS_END, 0, {0}, 0};
+  if (process < 0 || ioctl(process, _IOWR(0xff, 11, told), &told)) return 0;
+  *status = told.status;
+  return (told.what & TELLS_END) != 0;
+}
+
+/* The same of the server, which has ended: a child, or not. */
+static int has_told(const struct transport *transport, int *status) {
+  siginfo_t end;
+  if (!wait_for(transport, &end, WEXITED | WNOHANG | WNOWAIT) && end.si_pid) {
+    *status = end.si_code == CLD_EXITED ? end.si_status << 8 : end.si_status;
+    return 1;
   }
-  kill(server, SIGKILL);
-  while (waitpid(server, NULL, 0) < 0 && errno == EINTR) {
+  return was_told(transport->process, status) || has_left(transport->server, status);
+}
+
+void tiswenor_transport_tell_end(struct transport *transport, char *text, size_t room) {
+  int status;
+  long none = 0, until = now() + UNTIL_TOLD;
+  if (!atomic_compare_exchange_strong(&transport->told_until, &none, until)) until = none;
+  long left = until - now();
+  if (!has_ended(transport, left > 0 ? (int)left : 0))
+    snprintf(text, room, "the server takes no more requests");
+  else if (!has_told(transport, &status))
+    snprintf(text, room, "the server ended");
+  else if (WIFSIGNALED(status))
+    snprintf(text, room, "the server was ended by signal %d", WTERMSIG(status));
+  else
+    snprintf(text, room, "the server ended with status %d", WEXITSTATUS(status));
+}
+
+/* Waits for the server's end. After a minute it is killed: all that it answered is on the disk. */
+static void wait_for_end(struct transport *transport) {
+  siginfo_t end;
+  long until = now() + UNTIL_END;
+  int is_ended = 0;
+  for (long left = UNTIL_END; !is_ended && left > 0; left = until - now())
+    is_ended = has_ended(transport, (int)left);
+  if (!is_ended) kill(transport->server, SIGKILL);
+  while (!is_ended) is_ended = has_ended(transport, UNTIL_END);
+  /* it is this process's child, or this is the one that adopts those of others */
+  while (wait_for(transport, &end, WEXITED) && errno == EINTR) {
   }
 }
 
@@ -340,7 +572,8 @@ void tiswenor_transport_close(struct transport *transport) {
       shutdown(transport->sockets[i], SHUT_RDWR); /* whoever else has a copy */
       close(transport->sockets[i]);
     }
-    wait_for_end(transport->server);
+    wait_for_end(transport);
+    close_some(&transport->process, 1);
   }
   free(transport);
 }

@@ -320,6 +320,11 @@ static void set_first(unsigned char *opening, unsigned number) {
   for (int i = 0; i < 4; i++) opening[4 + i] = (unsigned char)(first >> 8 * i);
 }
 
+const char *tiswenor_transport_program(const char *server) {
+  (void)server;
+  return "the server inside";
+}
+
 struct transport *tiswenor_transport_open(const char *server, unsigned channels,
                                           unsigned char *opening, size_t length, int *fault) {
   (void)server;

@@ -143,6 +143,7 @@ struct waiter {
 
 struct tiswenor_t {
   struct transport *transport;
+  char *name;
   pthread_mutex_t lock; /* of what follows */
   struct waiter *first, **last;
   unsigned living;
@@ -225,36 +226,133 @@ static const char *name_of(unsigned char status) {
   return status == tiswenor_unanswered ? "Unanswered" : "Refused";
 }
 
-static void set_refused(const unsigned char *answer, size_t length, char **errptr) {
-  char name[64];
+/* What a refusal means, for people. The Python package says the same. */
+static const struct {
+  unsigned char number;
+  const char *text;
+} reasons[] = {
+    {1, "the server was refused memory"},
+    {9, "a call of the system failed"},
+    {11, "a file is there that was to be made"},
+    {16, "a table has compressed blocks, which are not read"},
+    {29, "its keys have an order of their own (a comparator)"},
+    {35, "a compaction could not read a table"},
+    {36, "a compaction could not write a table"},
+    {40, "level 0 is full, and nobody compacts"},
+    {41, "no sequence is left"},
+    {42, "a write failed before: open the database again"},
+    {43, "there is no such snapshot"},
+    {46, "no file number is left"},
+    {48, "no slot for a version is left"},
+    {49, "no number for a version is left"},
+    {50, "a version has no pin left"},
+    {51, "LevelDB has writes there that are in its log alone"},
+    {52, "another program has the database open"},
+    {200, "the request has none of the protocol's forms"},
+    {201, "an option is out of range"},
+    {202, "there is no database, and create_if_missing is not set"},
+    {203, "there is a database, and error_if_exists is set"},
+    {204, "no memory for the request or its answer: whether it was done is not known"},
+};
+
+/* Refusals of bytes that are none of LevelDB's, and of files that do not go together. */
+static int is_damage(unsigned char number) {
+  static const char damages[] = {2,  3,  4,  5,  6,  7,  8,  10, 12, 13, 14, 15, 17, 18,
+                                 19, 20, 21, 22, 23, 24, 25, 26, 27, 28, 30, 31, 32, 33};
+  return memchr(damages, number, sizeof damages) != NULL;
+}
+
+static const char *reason_of(unsigned char number) {
+  if (is_damage(number)) return "files of the database are damaged";
+  for (size_t i = 0; i < sizeof reasons / sizeof *reasons; i++)
+    if (reasons[i].number == number) return reasons[i].text;
+  return "";
+}
+
+static const unsigned char *next_text(struct answer *answer, size_t *length);
+
+/* Which limit a request passed that was refused as too large. */
+static void tell_excess(const struct request *request, char *text, size_t room) {
+  enum {
+    LONGEST_KEY = 4096,
+    LONGEST_VALUE = 1048576,
+    MOST_WRITES = 65536,
+    LONGEST_BATCH = 4194304
+  };
+  static const char much[] = "%s: %zu of at most %d", more[] = "%s: more than %d";
+  size_t writes = 0, total = 0, klen = 0;
+  if (request->bytes[4] != WRITE) {
+    snprintf(text, room, more, "bytes of an answer", LONGEST_ANSWER);
+    return;
+  }
+  struct answer left = {NULL, request->bytes + EMPTY, request->bytes + request->length};
+  while (left.at < left.end) {
+    size_t vlen = 0;
+    int is_put = *left.at++ == PUT;
+    next_text(&left, &klen);
+    if (is_put) next_text(&left, &vlen);
+    writes++;
+    total += klen + vlen;
+    if (klen > LONGEST_KEY) {
+      snprintf(text, room, much, "bytes of a key", klen, LONGEST_KEY);
+      return;
+    }
+    if (vlen > LONGEST_VALUE) {
+      snprintf(text, room, much, "bytes of a value", vlen, LONGEST_VALUE);
+      return;
+    }
+  }
+  if (writes > MOST_WRITES)
+    snprintf(text, room, much, "writes of a batch", writes, MOST_WRITES);
+  else if (total > LONGEST_BATCH)
+    snprintf(text, room, much, "bytes of a batch's keys and values", total, LONGEST_BATCH);
+  else
+    snprintf(text, room, more, "bytes of a batch's keys and values", LONGEST_BATCH);
+}
+
+/* The request is the one that was refused; NULL for the opening. */
+static void set_refused(tiswenor_t *db, const struct request *request, const unsigned char *answer,
+                        size_t length, char **errptr) {
+  char name[64], excess[128], *detail = NULL;
   size_t letters = length - 1 < sizeof name ? length - 1 : sizeof name - 1;
   memcpy(name, answer + 1, letters);
   name[letters] = 0;
   if (!letters) strcpy(name, name_of(answer[0]));
-  set_error(errptr, answer[0], name, "");
+  const char *reason = reason_of(answer[0]);
+  if (answer[0] == tiswenor_too_large && request) {
+    tell_excess(request, excess, sizeof excess);
+    reason = excess;
+  }
+  if (answer[0] == tiswenor_unanswered)
+    set_error(errptr, answer[0], name, reason);
+  else if (asprintf(&detail, "%s%s%s", db->name, *reason ? ": " : "", reason) < 0)
+    set_error(errptr, answer[0], name, reason);
+  else
+    set_error(errptr, answer[0], name, detail);
+  free(detail);
 }
 
 static void set_fault(tiswenor_t *db, int fault, char **errptr) {
   if (fault == tiswenor_ended)
     set_ended(db, errptr);
   else if (fault == tiswenor_bad_answer)
-    set_error(errptr, fault, "BadAnswer", "");
+    set_error(errptr, fault, "BadAnswer", "the answer has none of the protocol's forms");
   else if (fault == tiswenor_too_large)
-    set_error(errptr, fault, "TooLarge", "a request above 8 MiB");
+    set_error(errptr, fault, "TooLarge", "bytes of a request: more than 8388608");
   else
     set_error(errptr, fault, "OutOfMemory", "");
 }
 
 /* Judges what a channel gave. Whether the call is done; if not, the answer has no memory. */
-static int is_done(tiswenor_t *db, int fault, unsigned char *bytes, size_t length,
-                   struct answer *answer, char **errptr) {
+static int is_done(tiswenor_t *db, const struct request *request, int fault, unsigned char *bytes,
+                   size_t length, struct answer *answer, char **errptr) {
   answer->memory = NULL;
   if (fault) {
     set_fault(db, fault, errptr);
     return 0;
   }
   if (bytes[0]) {
-    set_refused(bytes, length, errptr);
+    set_refused(db, request, bytes, length, errptr);
     free(bytes);
     return 0;
   }
@@ -294,7 +392,7 @@ static int ask(tiswenor_t *db, struct request *request, struct answer *answer, c
     store(request->bytes, request->length - 4, 4);
     fault = exchange(db, request, &bytes, &length);
   }
-  return is_done(db, fault, bytes, length, answer, errptr);
+  return is_done(db, request, fault, bytes, length, answer, errptr);
 }
 
 /* The same, and ends the request. */
@@ -308,7 +406,8 @@ static int ask_once(tiswenor_t *db, struct request *request, struct answer *answ
 static void set_bad_answer(struct answer *answer, char **errptr) {
   free(answer->memory);
   answer->memory = NULL;
-  set_error(errptr, tiswenor_bad_answer, "BadAnswer", "");
+  set_error(errptr, tiswenor_bad_answer, "BadAnswer",
+            "the answer has none of the protocol's forms");
 }
 
 /* The text at the answer's front, behind which it goes on; NULL where there is none. */
@@ -340,10 +439,17 @@ static int ask_numbers(tiswenor_t *db, unsigned char kind, uint64_t *numbers, in
 
 /* Opening and closing */
 
-static tiswenor_t *new_database(struct transport *transport, unsigned channels, int ahead) {
+static tiswenor_t *new_database(struct transport *transport, const char *name, unsigned channels,
+                                int ahead) {
   tiswenor_t *db = calloc(1, sizeof *db);
-  if (!db) return NULL;
+  char *own_name = strdup(name);
+  if (!db || !own_name) {
+    free(own_name);
+    free(db);
+    return NULL;
+  }
   db->transport = transport;
+  db->name = own_name;
   db->ahead = ahead;
   db->last = &db->first;
   db->living = db->free_count = channels;
@@ -363,6 +469,19 @@ static void opening_request(struct request *request, const tiswenor_options_t *o
   add_number(request, options->flags, 1);
   add_text(request, name, strlen(name), NULL, 0);
   if (!request->failed) store(request->bytes, request->length - 4, 4);
+}
+
+/* Why a server was not started: the system's reason is of its program. */
+static void set_unstarted(int fault, const char *server, const char *reason, char **errptr) {
+  char *detail = NULL;
+  const char *program = tiswenor_transport_program(server);
+  if (fault != tiswenor_no_server)
+    set_error(errptr, fault, "OutOfMemory", "");
+  else if (asprintf(&detail, "%s: %s", program, reason) < 0)
+    set_error(errptr, fault, "NoServer", reason);
+  else
+    set_error(errptr, fault, "NoServer", detail);
+  free(detail);
 }
 
 static const tiswenor_options_t usual_options = {0, 1, 4, NULL};
@@ -389,15 +508,11 @@ tiswenor_t *tiswenor_open(const tiswenor_options_t *options, const char *name, c
   if (!fault)
     transport =
         tiswenor_transport_open(options->server, channels, request.bytes, request.length, &fault);
-  const char *detail = transport ? "" : strerror(errno);
+  if (!transport) set_unstarted(fault, options->server, strerror(errno), errptr);
   request_end(&request);
-  if (!transport) {
-    const char *is = fault == tiswenor_no_server ? "NoServer" : "OutOfMemory";
-    set_error(errptr, fault, is, detail);
-    return NULL;
-  }
-  tiswenor_t *db =
-      new_database(transport, (unsigned)options->channels, has_ahead ? options->channels : -1);
+  if (!transport) return NULL;
+  tiswenor_t *db = new_database(transport, name, (unsigned)options->channels,
+                                has_ahead ? options->channels : -1);
   if (!db) {
     tiswenor_transport_close(transport);
     set_error(errptr, tiswenor_out_of_memory, "OutOfMemory", "");
@@ -407,7 +522,7 @@ tiswenor_t *tiswenor_open(const tiswenor_options_t *options, const char *name, c
   size_t length = 0;
   struct answer answer;
   fault = tiswenor_transport_exchange(transport, 0, NULL, 0, &bytes, &length);
-  if (!is_done(db, fault, bytes, length, &answer, errptr)) {
+  if (!is_done(db, NULL, fault, bytes, length, &answer, errptr)) {
     tiswenor_close(db);
     return NULL;
   }
@@ -419,6 +534,7 @@ void tiswenor_close(tiswenor_t *db) {
   if (!db) return;
   if (!tiswenor_transport_is_forked(db->transport)) pthread_mutex_destroy(&db->lock);
   tiswenor_transport_close(db->transport);
+  free(db->name);
   free(db);
 }
 
@@ -648,10 +764,10 @@ struct tiswenor_iterator_t {
   struct answer page;
   const unsigned char *key, *value; /* in the page; NULL where it is not valid */
   size_t klen, vlen;
-  int is_last;    /* no page follows this one */
-  int is_ahead;   /* the next page was asked for, on the channel that is for it */
-  unsigned pages; /* since it was sent somewhere */
-  size_t turned;  /* how many pairs of the page are behind it, with the one at which it stands */
+  int is_last;      /* no page follows this one */
+  int is_ahead;     /* the next page was asked for, on the channel that is for it */
+  unsigned pages;   /* since it was sent somewhere */
+  size_t turned;    /* how many pairs of the page are behind it, with the one at which it stands */
   uint32_t *starts; /* where the first of these begin in the page's memory */
   size_t start_count, start_room;
   int has_parts; /* the parts are those before the page, the last one at the end */
@@ -1204,5 +1320,5 @@ void tiswenor_writeoptions_set_sync(tiswenor_writeoptions_t *options, uint8_t to
   options->sync = to;
 }
 
-int tiswenor_major_version(void) { return 0; }
-int tiswenor_minor_version(void) { return 1; }
+int tiswenor_major_version(void) { return tiswenor_major; }
+int tiswenor_minor_version(void) { return tiswenor_minor; }

@@ -176,6 +176,10 @@ void tiswenor_writeoptions_destroy(tiswenor_writeoptions_t *options);
 void tiswenor_writeoptions_set_sync(tiswenor_writeoptions_t *options, uint8_t to);
 
 void tiswenor_free(void *ptr);
+
+/* The version of this header, and that of the library. As those of leveldb/c.h they are at least 1:
+   a new minor one has more calls, a new major one may have others. */
+enum { tiswenor_major = 1, tiswenor_minor = 1 };
 int tiswenor_major_version(void);
 int tiswenor_minor_version(void);
 

@@ -115,7 +115,8 @@ class Batch {
   detail::Owned<tiswenor_writebatch_t> handle_;
 };
 
-// The pairs of a database as it was when the iterator was made, or of a snapshot. What key() and value() give stays until the next call.
+// The pairs of a database as it was when the iterator was made, or of a snapshot. What key() and
+// value() give stays until the next call.
 class Iterator {
  public:
   bool valid() const noexcept { return tiswenor_iter_valid(handle_.get()) != 0; }

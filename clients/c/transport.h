@@ -29,6 +29,9 @@ static inline int is_end(int fault, const unsigned char *answer) {
 struct transport *tiswenor_transport_open(const char *server, unsigned channels,
                                           unsigned char *opening, size_t length, int *fault);
 
+/* What is started, where the options name this server. */
+const char *tiswenor_transport_program(const char *server);
+
 /* Sends a frame on a channel, if there is one, and waits for the frame that comes back. One call on
    a channel at a time. Gives 0, and the answer without its length, in memory of malloc. Or gives
    tiswenor_out_of_memory, and the answer is lost; tiswenor_bad_answer, or tiswenor_ended. Where

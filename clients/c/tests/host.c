@@ -1,12 +1,14 @@
 /* What a host does beside its calls: host FOLDER. Signals that interrupt them, threads that come
-   and go on small stacks or are cancelled, forks, several databases at once, many openings. An
-   alarm ends this program where a call hangs. */
+   and go on small stacks or are cancelled, forks, children that are waited for, several databases
+   at once, many openings. An alarm ends this program where a call hangs. */
 #define _GNU_SOURCE
 #include <dirent.h>
+#include <errno.h>
 #include <limits.h>
 #include <pthread.h>
 #include <signal.h>
 #include <stdatomic.h>
+#include <sys/syscall.h>
 #include <sys/time.h>
 #include <sys/wait.h>
 #include <unistd.h>
@@ -212,6 +214,41 @@ static void several_at_once(void) {
   for (int i = 0; i < DATABASES; i++) tiswenor_close(several[i]);
 }
 
+static void *get_often(void *state) {
+  for (int i = 0; i < 100; i++) has(db, NULL, "00007", "value");
+  return state;
+}
+
+/* A host that waits for its children waits for its own, and is told of no other one. */
+static void host_waits(void) {
+  struct sigaction action = {0}, usual = {0};
+  pthread_t thread;
+  int own = (int)syscall(SYS_pidfd_open, getpid(), 0), status;
+  if (own < 0) return; /* the system waits for children alone: a server is one there */
+  close(own);
+  action.sa_handler = count_signal;
+  usual.sa_handler = SIG_DFL;
+  sigaction(SIGCHLD, &action, NULL);
+  signals = 0;
+  alarm(60);
+  db = opened_as("waits", 2, 1);
+  fill(db, "value");
+  start(&thread, get_often, NULL);
+  CHECK(wait(NULL) < 0 && errno == ECHILD);
+  CHECK(signals == 0);
+  pid_t child = fork();
+  if (!child) _exit(7);
+  do status = 0;
+  while (wait(&status) < 0 && errno == EINTR);
+  CHECK(WIFEXITED(status) && WEXITSTATUS(status) == 7);
+  CHECK(wait(NULL) < 0 && errno == ECHILD);
+  pthread_join(thread, NULL);
+  tiswenor_close(db);
+  CHECK(signals == 1);
+  alarm(300);
+  sigaction(SIGCHLD, &usual, NULL);
+}
+
 static int entries(const char *path) {
   int count = 0;
   DIR *all = opendir(path);
@@ -265,6 +302,7 @@ int main(int argc, char **argv) {
   threads_come_and_go();
   threads_are_cancelled();
   host_forks();
+  host_waits();
   several_at_once();
   all_is_given_back();
   signals_interrupt();

@@ -1,6 +1,6 @@
 /* Iterators over many pages, of which some are asked for ahead: pages FOLDER. One, one that goes
-   backward, two that take turns, some that are left or sent elsewhere in the middle, and four threads' at once, beside
-   writes. */
+   backward, two that take turns, some that are left or sent elsewhere in the middle, and four
+   threads' at once, beside writes. */
 #define _GNU_SOURCE
 #include <pthread.h>
 

@@ -36,6 +36,14 @@ static void all_is(tiswenor_t *db, const tiswenor_readoptions_t *options, const 
   tiswenor_iter_destroy(iterator);
 }
 
+/* The error's text has this at its end; it is freed. */
+static void ends_with(char **error, const char *wanted) {
+  CHECK(*error && strlen(*error) > strlen(wanted));
+  CHECK(!strcmp(*error + strlen(*error) - strlen(wanted), wanted));
+  tiswenor_free(*error);
+  *error = NULL;
+}
+
 static void opening(const char *folder, int channels) {
   char *error = NULL;
   tiswenor_options_t *options = tiswenor_options_create();
@@ -49,7 +57,8 @@ static void opening(const char *folder, int channels) {
   tiswenor_t *db = tiswenor_open(options, in(folder, "new"), &error);
   DONE(error);
   CHECK(!tiswenor_open(options, path, &error));
-  FAILED(error, tiswenor_locked);
+  CHECK(tiswenor_error_number(error) == tiswenor_locked);
+  ends_with(&error, "/new: another program has the database open");
   tiswenor_close(db);
   tiswenor_options_set_error_if_exists(options, 1);
   CHECK(!tiswenor_open(options, path, &error));
@@ -59,6 +68,7 @@ static void opening(const char *folder, int channels) {
   CHECK(tiswenor_error_number(error) >= 1);
   CHECK(!tiswenor_open(options, "/dev/null", &error));
   CHECK(tiswenor_error_number(error) >= 1);
+  ends_with(&error, " Device: /dev/null: a call of the system failed");
   tiswenor_options_set_channels(options, 0);
   CHECK(!tiswenor_open(options, in(folder, "new"), &error));
   FAILED(error, tiswenor_bad_opening);
@@ -100,15 +110,26 @@ static void batches(tiswenor_t *db) {
   tiswenor_writeoptions_destroy(options);
 }
 
+/* What is too large tells which limit it passes. */
 static void batch_too_large(tiswenor_t *db) {
-  char *error = NULL, *value = calloc(1, 1 << 20);
+  char *error = NULL, *value = calloc(1, (1 << 20) + 1);
   tiswenor_writebatch_t *batch = tiswenor_writebatch_create();
   for (char key = 'a'; key < 'f'; key++) tiswenor_writebatch_put(batch, &key, 1, value, 1 << 20);
   tiswenor_write(db, NULL, batch, &error);
-  FAILED(error, tiswenor_too_large);
+  CHECK(tiswenor_error_number(error) == tiswenor_too_large);
+  ends_with(&error, "/db: bytes of a batch's keys and values: 5242885 of at most 4194304");
   for (char key = 'f'; key < 'k'; key++) tiswenor_writebatch_put(batch, &key, 1, value, 1 << 20);
   tiswenor_write(db, NULL, batch, &error);
-  FAILED(error, tiswenor_too_large);
+  CHECK(tiswenor_error_number(error) == tiswenor_too_large);
+  ends_with(&error, "TooLarge: bytes of a request: more than 8388608");
+  tiswenor_put(db, NULL, "k", 1, value, (1 << 20) + 1, &error);
+  ends_with(&error, "/db: bytes of a value: 1048577 of at most 1048576");
+  tiswenor_put(db, NULL, value, 4097, "", 0, &error);
+  ends_with(&error, "/db: bytes of a key: 4097 of at most 4096");
+  tiswenor_writebatch_clear(batch);
+  for (int i = 0; i < 65537; i++) tiswenor_writebatch_delete(batch, (char *)&i, 3);
+  tiswenor_write(db, NULL, batch, &error);
+  ends_with(&error, "/db: writes of a batch: 65537 of at most 65536");
   all_is(db, NULL, "");
   tiswenor_writebatch_destroy(batch);
   tiswenor_put(db, NULL, "long", 4, value, 1 << 20, &error);
@@ -286,7 +307,8 @@ static void several(const char *folder) {
 
 int main(int argc, char **argv) {
   CHECK(argc == 2 || argc == 3);
-  CHECK(tiswenor_error_number(NULL) == 0 && tiswenor_major_version() >= 0);
+  CHECK(tiswenor_error_number(NULL) == 0 && tiswenor_major_version() >= 1);
+  CHECK(tiswenor_major_version() == tiswenor_major && tiswenor_minor_version() == tiswenor_minor);
   opening(argv[1], argc == 3 ? atoi(argv[2]) : 62);
   tiswenor_t *db = opened(in(argv[1], "db"), 4, 1);
   batches(db);

@@ -310,3 +310,34 @@ def test_close(folder):
     snapshot.close()
     with tiswenor.DB(folder) as db:
         assert list(db) == [(b"a", b"1")]
+
+
+def test_what_plyvel_has_too(fruit):
+    """Options that change nothing, and a second name."""
+    options = {"verify_checksums": False, "fill_cache": False}
+    assert list(fruit.iterator(prefix=b"b", **options)) == PAIRS[1:3]
+    part = fruit.prefixed_db(b"b").iterator(**options)
+    assert list(part) == [(b"anana", b"yellow"), (b"ean", b"")]
+    snapshot = fruit.snapshot()
+    assert list(snapshot.iterator(**options)) == PAIRS
+    snapshot.release()
+    with pytest.raises(tiswenor.Closed):
+        snapshot.get(b"apple")
+    for other in (None, [], b""):
+        with pytest.raises(TypeError):
+            fruit.write_batch().append(other)
+
+
+def test_seek_stays_in_the_range(fruit):
+    """Before it, it is at its first pair; behind it, behind its last one. (plyvel leaves it.)"""
+    for reverse in (False, True):
+        iterator = fruit.iterator(reverse=reverse, start=b"banana", stop=b"cherry")
+        back, on = (iterator.prev, lambda: next(iterator))[:: -1 if reverse else 1]
+        iterator.seek(b"a")
+        with pytest.raises(StopIteration):
+            back()
+        assert on() == PAIRS[1]
+        iterator.seek(b"z")
+        with pytest.raises(StopIteration):
+            on()
+        assert back() == PAIRS[2]

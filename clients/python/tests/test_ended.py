@@ -1,6 +1,8 @@
 """Channels that the server ends: the client closes them, the others go on, and no call hangs."""
 
+import os
 import pathlib
+import signal
 import sys
 import time
 from typing import Iterator
@@ -9,8 +11,8 @@ import pytest
 
 import tiswenor
 
-# A server that does as it is asked to: by the key of a read it answers that the key is absent, or by
-# a last answer, before or behind the request's end, and then notes when its channel is closed.
+# A server that does as it is asked to: by the key of a read it answers that the key is absent, or
+# by a last answer, before or behind the request's end, and then notes when its channel is closed.
 SERVER = """\
 import os, socket, struct, sys, threading
 
@@ -45,6 +47,7 @@ def serve(number):
         pass
     with open(os.environ["ENDED"], "a") as file:
         file.write("x")
+    threading.Event().wait(float(os.environ.get("STAYS", "0")))
 
 opening = exactly(lambda count: os.read(0, count), 4)
 opening = exactly(lambda count: os.read(0, count), struct.unpack("<I", opening)[0])
@@ -53,6 +56,12 @@ os.write(first, b"\\1\\0\\0\\0\\0")
 for number in range(first, first + count):
     threading.Thread(target=serve, args=(number,)).start()
 """
+
+
+@pytest.fixture(autouse=True)
+def stays(request: pytest.FixtureRequest, monkeypatch: pytest.MonkeyPatch) -> None:
+    """How many seconds the server stays behind its last channel."""
+    monkeypatch.setenv("STAYS", "60" if "stays" in request.node.name else "0")
 
 
 @pytest.fixture
@@ -100,3 +109,17 @@ def test_last_answers(
         assert are_noted(noted, ended)
     with pytest.raises(tiswenor.Ended):
         db.get(b"absent")
+
+
+def test_calls_do_not_wait_for_a_server_that_stays(db: tiswenor.DB) -> None:
+    """Its end is waited for once, if no channel is left: for a second, and not in each call."""
+    for _ in range(3):
+        with pytest.raises(tiswenor.Error):
+            db.get(b"malformed")
+    begun = time.monotonic()
+    for _ in range(10):
+        with pytest.raises(tiswenor.Ended) as error:
+            db.get(b"absent")
+        assert error.value.status is None
+    assert time.monotonic() - begun < 5
+    os.kill(db._server.process_id, signal.SIGKILL)

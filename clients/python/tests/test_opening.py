@@ -126,6 +126,19 @@ def test_process_that_ends_closes(folder):
         assert db.get(b"a") == b"1"
 
 
+def test_process_of_few_descriptors(folder):
+    """A database with its usual channels, where a process may have 64 descriptors."""
+    text = (
+        "import resource, sys, tiswenor\n"
+        "resource.setrlimit(resource.RLIMIT_NOFILE, (64, 64))\n"
+        "for _ in range(2):\n"
+        "    with tiswenor.DB(sys.argv[1], create_if_missing=True) as db:\n"
+        "        db.put(b'a', b'1')\n"
+        "        assert list(db) == [(b'a', b'1')]\n"
+    )
+    subprocess.run([sys.executable, "-c", text, os.fspath(folder)], check=True, env=environment())
+
+
 def environment() -> dict:
     source = pathlib.Path(tiswenor.__file__).resolve().parent.parent
     return {**os.environ, "PYTHONPATH": os.fspath(source)}
@@ -148,9 +161,11 @@ class TestServer:
 
     def test_says_something_else(self, folder, tmp_path):
         other = tmp_path / "other"
-        other.write_text(f"#!{sys.executable}\nimport os\nos.write(64, b'hello, world')\n")
+        first = "int.from_bytes(os.read(0, 99)[4:8], 'little')"
+        text = f"import os\nos.write({first}, b'hello, world')\n"
+        other.write_text(f"#!{sys.executable}\n{text}")
         other.chmod(0o755)
-        assert refusal(folder, server=other).name in ("BadAnswer", "Ended")
+        assert refusal(folder, server=other).name == "BadAnswer"
 
     def test_is_found(self, tmp_path, monkeypatch):
         program = tmp_path / "lsm_server"

@@ -24,7 +24,6 @@ mod Failing
 mod Turning
 mod Opening
 mod Found
-mod LogsAgain
 mod EditsAgain
 mod Refusing
 mod Making

@@ -30,7 +30,7 @@ use Rattle.lsm_manifest.specs.Manifest.{AreEdits, IsManifest}
 use Rattle.lsm_manifest.specs.Shape.{Form, IsRefused, IsReplayed, IsShape}
 use Rattle.lsm_manifest.specs.declared.edit_fault.EditFault.{EditFault}
 use Rattle.lsm_manifest.specs.declared.log_fault.LogFault.{LogFault}
-use Rattle.lsm_manifest.proofs.CallerLemmas.{file_total, one_manifest, one_shape, refused_none, replayed_shape}
+use Rattle.lsm_manifest.proofs.CallerLemmas.{log_again, file_total, one_manifest, one_shape, refused_none, replayed_shape}
 use Rattle.lsm_table.specs.HeldTable.{entries_in, entries_or_none}
 use Rattle.lsm_table.specs.Registry.{Table}
 use Rattle.lsm_table.specs.TableReading.{table_at}
@@ -70,7 +70,6 @@ use Rattle.lsm_crash.specs.Refusing.{IsNotTheManifest, IsNotTheTables, IsNotWhat
 use Rattle.lsm_crash.proofs.Names.{texts_apart}
 use Rattle.lsm_crash.proofs.Found.{same_file}
 use Rattle.lsm_crash.proofs.Opening.{shows_one}
-use Rattle.lsm_crash.proofs.LogsAgain.{log_again}
 use Rattle.lsm_crash.proofs.EditsAgain.{edit_again}
 
 -- ---- the manifest

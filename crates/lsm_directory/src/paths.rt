@@ -8,10 +8,11 @@ ghost use Rattle.lsm_directory.specs.Holding.{IsFolderFault};
 
 use crate::faults::directory_fault::DirectoryFault;
 use crate::folder::holding::device;
-use lsm_folder::{FolderCalls, FolderFault, Reasons, SystemFolder};
+use lsm_folder::{FolderCalls, FolderFault, Reasons, SystemFolder, Witness};
 use std::alloc::Global;
 use std::fs::{self, File};
 use std::io::{self, Read};
+use std::marker::PhantomData;
 
 /// Where the words of a command line find files and folders: in the system, or elsewhere.
 pub trait Paths<C: FolderCalls> {
@@ -38,19 +39,23 @@ pub trait Paths<C: FolderCalls> {
         ensures place { IfOk result (λ f. IsAtPath path.now (C.place f)) };
 }
 
-/// The files and folders of the system.
+/// The files and folders of the system, with a witness of what is read in the folders.
 #[derive(Drop)]
-pub struct SystemPaths {
+pub struct SystemPaths<W: Witness> {
     files: HostRuntime,
+    by: PhantomData<W>,
 }
 
-impl SystemPaths {
-    pub fn new(files: HostRuntime) -> SystemPaths {
-        SystemPaths { files }
+impl<W: Witness> SystemPaths<W> {
+    pub fn new(files: HostRuntime) -> SystemPaths<W> {
+        SystemPaths {
+            files,
+            by: PhantomData,
+        }
     }
 }
 
-impl Paths<SystemFolder<HostRuntime>> for SystemPaths {
+impl<W: Witness> Paths<SystemFolder<HostRuntime, W>> for SystemPaths<W> {
     type Input = File;
 
     ghost text = { λ _ _. None };
@@ -67,7 +72,7 @@ impl Paths<SystemFolder<HostRuntime>> for SystemPaths {
         &self,
         path: &str,
         reasons: &Reasons,
-    ) -> Result<SystemFolder<HostRuntime>, FolderFault> {
+    ) -> Result<SystemFolder<HostRuntime, W>, FolderFault> {
         let Ok(files) = self.files.clone() else {
             return Err(FolderFault::OutOfMemory);
         };

@@ -4,6 +4,7 @@ pub mod Calls
 pub mod FolderFault
 pub mod MemoryFolder
 pub mod SystemFolder
+pub mod Truth
 -- What private functions and proofs cite alone
 pub mod Directory
 pub mod SystemFault

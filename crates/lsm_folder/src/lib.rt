@@ -29,23 +29,37 @@ mod memory_lock;
 mod memory_mark;
 mod stops;
 
+// Who sees the reads of a folder of the system.
+mod images;
+mod mute;
+mod witness;
+
 // A folder of the system.
 mod open_files;
 mod reasons;
+mod seen_log;
 mod system_calls;
 mod system_fault;
 mod system_files;
 mod system_folder;
 mod system_locks;
 mod system_mark;
+mod truth;
 
 pub use folder_calls::FolderCalls;
 pub use folder_fault::FolderFault;
+pub use images::Images;
 pub use lock_kind::LockKind;
 pub use mark::Mark;
 pub use memory_calls::memory_is_honest;
 pub use memory_folder::MemoryFolder;
 pub use memory_mark::MemoryMark;
+pub use mute::Mute;
 pub use reasons::Reasons;
 pub use system_folder::SystemFolder;
 pub use system_mark::SystemMark;
+pub use truth::{
+    compared_system_is_honest, system_is_honest, the_mute_cannot_tell,
+    the_mute_system_is_not_honest, truth_can_be_told,
+};
+pub use witness::Witness;

@@ -1,4 +1,5 @@
 -- What proofs of the crates above cite beside the public contracts.
+pub use Rattle.lsm_manifest.proofs.RecordLaws.{log_again}
 pub use Rattle.lsm_manifest.proofs.FileOrderLaws.{order_is}
 pub use Rattle.lsm_manifest.proofs.LevelLaws.{file_total, file_lt, file_ranks}
 pub use Rattle.lsm_manifest.proofs.LastLaws.{last_by-none, last_by-push, pointer_in-none}

@@ -6,6 +6,7 @@ mod system_descriptors;
 use crate::system_descriptors::SystemDescriptors;
 use lsm_channels::serve_opening;
 use lsm_directory::SystemPaths;
+use lsm_folder::Mute;
 
 fn main(rt: HostRuntime) {
     let Ok(paths) = rt.clone() else {
@@ -14,7 +15,7 @@ fn main(rt: HostRuntime) {
     let Ok(files) = rt.clone() else {
         return;
     };
-    let paths = SystemPaths::new(paths);
+    let paths = SystemPaths::<Mute>::new(paths);
     let descriptors = SystemDescriptors::new(files);
     serve_opening(&rt, &paths, &descriptors);
 }

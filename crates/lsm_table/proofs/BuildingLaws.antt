@@ -10,7 +10,7 @@ use Rattle.lsm_table.specs.declared.table_options.TableOptions.{TableOptions}
 use Rattle.lsm_table.specs.declared.footer.Footer.{Footer}
 use Rattle.lsm_table.specs.Footer.{footer_text}
 use Rattle.lsm_table.specs.StoredBlock.{trailer, stored}
-use Rattle.lsm_table.specs.Table.{DataBlock, DataBlocks, IsAfter, IsTable, last_of, concat}
+use Rattle.lsm_table.specs.Table.{AreApart, DataBlock, DataBlocks, IsAfter, IsTable, last_of, concat}
 use Rattle.lsm_table.specs.TableMaking.{AreFilled, AreBlocks, closed_when}
 use Rattle.lsm_table.specs.TableBuilding.{Grouped, closed_first, is_full, close_if, grouped, last_group, data_text, place, index_entry, index_of, index_block, file_of_groups}
 use Rattle.lsm_table.proofs.HandleLaws.{handle_is}
@@ -53,6 +53,21 @@ stand interval front bound ((e ∷ es) ∷ groups) g b small after =
       block = b.0;
     } in
     (here, g.0, self_le (internal_key (last_of e es)), next3)
+
+-- and each begins where the one before it ends
+pub index_apart : (interval offset : ℕ) (bound : Option InternalKey) (groups : List (List Entry)) → Good bound groups → offset + length (data_text interval groups) < 2 ^ 64 → AreApart offset (index_of interval offset groups)
+unfolding data_text index_of
+index_apart interval offset bound [] g small = tt
+index_apart interval offset bound ([] ∷ groups) g small = absurd g
+index_apart interval offset bound ((e ∷ es) ∷ groups) g small =
+    let block = block_bytes interval (e ∷ es) in
+    let l1 = length-stored block in
+    let l2 = length-append (stored block) (data_text interval groups) in
+    let handle = place offset block in
+    let later = index_apart interval (offset + length (stored block)) (Some (internal_key (last_of e es))) groups g.1 (omega (arith, small, l1, l2)) in
+    let end : offset + length (stored block) ≡ offset + length block + 5 = omega (arith, l1) in
+    let next = subst (λ (n : ℕ). AreApart n (index_of interval (offset + length (stored block)) groups)) end later in
+    (handle, handle_is handle (record { offset = omega (arith, small); size = omega (arith, small, l1, l2) }), omega arith, next)
 
 -- ---- ascending entries fall into good groups
 
@@ -199,6 +214,7 @@ file_built interval groups good blocks index small =
       footed = footer_written footer (record { offset = omega (arith, small, n1, n2, n3); size = omega (arith, small, n1, n2, n3, n5) }) (record { offset = omega (arith, small, n1, n2); size = omega (arith, small, n1, n2, n4) });
       held = record { before = front ++ stored meta; after = []; offset_is = refl; size_is = refl; body_is = ap (λ (x : List ℕ). (front ++ stored meta) ++ (contents ++ x)) (sym (append-nil (trailer contents))) };
       indexed = index;
+      apart = index_apart interval 0 None groups good (omega (arith, small, n1, n2, n3));
       blocks = subst (λ (x : List ℕ). DataBlocks x None (index_of interval 0 groups) groups) (sym (append_assoc front (stored meta) (stored contents))) there;
       entries_are = refl;
     }

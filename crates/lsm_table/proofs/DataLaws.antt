@@ -1,8 +1,8 @@
 -- What is read as data blocks is one after the other, and the other way round.
-use Rattle.std.proofs.Common.{◌≡◌, ℕ, ◌+◌, true, eqb, List, [], ◌∷◌, ◌++◌, length, Option, Some, None, Ok, refl, sym, ap, ◌∙◌, subst, arith}
+use Rattle.std.proofs.Common.{◌≡◌, ℕ, ◌+◌, ◌≤◌, true, eqb, leb, List, [], ◌∷◌, ◌++◌, length, Option, Some, None, Ok, refl, sym, ap, ◌∙◌, subst, arith}
 use Rattle.std.specs.List.{AllByRecursion}
 use Rattle.std.specs.Ordering.{is_lt, is_le}
-use Rattle.std.proofs.lemmas.Bool.{eqb-true}
+use Rattle.std.proofs.lemmas.Bool.{eqb-true, leb-true, le-leb}
 use Rattle.std.proofs.lemmas.List.{append-nil}
 use Rattle.lsm_codec.specs.Keys.{InternalKey, key_cmp}
 use Rattle.lsm_codec.specs.Entries.{Entry, internal_key, entry_cmp}
@@ -15,8 +15,8 @@ use Rattle.lsm_table.specs.declared.handle.Handle.{Handle}
 use Rattle.lsm_table.specs.Reading.{guarded}
 use Rattle.lsm_table.specs.Handle.{IsHandle, handle_at}
 use Rattle.lsm_table.specs.StoredBlock.{Holds, contents_at}
-use Rattle.lsm_table.specs.Table.{DataBlock, DataBlocks, IsAfter, last_of}
-use Rattle.lsm_table.specs.TableReading.{block_or, is_after, are_placed, data_block_at, data_at}
+use Rattle.lsm_table.specs.Table.{AreApart, DataBlock, DataBlocks, IsAfter, last_of}
+use Rattle.lsm_table.specs.TableReading.{block_or, is_after, are_placed, begins_behind, end_after, stands_behind, end_of, block_behind, data_block_at, data_at}
 use Rattle.lsm_table.proofs.ByteLists.{and_true}
 use Rattle.lsm_table.proofs.ReadingLaws.{bind_ok, guard_ok, ok_is, block_ok}
 use Rattle.lsm_table.proofs.HandleLaws.{handle_takes, handle_again}
@@ -93,15 +93,32 @@ is_after-true : (bound : Option InternalKey) (e : Entry) → IsAfter bound e →
 is_after-true None e h = refl
 is_after-true (Some b) e h = ap is_lt h
 
-pub data_takes : (index : List Entry) (body : List ℕ) (bound : Option InternalKey) (groups : List (List Entry)) → IsBytes body → ValuesFit index → data_at body bound index ≡ Ok groups → DataBlocks body bound index groups
+-- what the value spells is what is read of it
+read_again : (value : List ℕ) (handle : Handle) → IsHandle value handle → handle_at BadIndex value ≡ Ok (handle, [])
+read_again value handle h = ap (handle_at BadIndex) (sym (append-nil value)) ∙ handle_again BadIndex value [] handle h
+
+pub behind_is : (from : ℕ) (value : List ℕ) (handle : Handle) → IsHandle value handle → stands_behind from value ≡ leb from handle.offset
+unfolding stands_behind
+behind_is from value handle h = ap (begins_behind from) (read_again value handle h)
+
+pub end_is : (value : List ℕ) (handle : Handle) → IsHandle value handle → end_of value ≡ handle.offset + handle.size + 5
+unfolding end_of
+end_is value handle h = ap end_after (read_again value handle h)
+
+pub data_takes : (index : List Entry) (body : List ℕ) (from : ℕ) (bound : Option InternalKey) (groups : List (List Entry)) → IsBytes body → ValuesFit index → data_at body from bound index ≡ Ok groups
+    → DataBlocks body bound index groups × AreApart from index
 unfolding data_at
-data_takes [] body bound groups fits values e = subst (λ (x : List (List Entry)). DataBlocks body bound [] x) (ok_is [] groups e) tt
-data_takes (i ∷ index) body bound groups fits values e =
-    let b1 = bind_ok (data_block_at body bound i) _ groups e in
-    let d = data_block_takes body bound i b1.0 fits values.0 b1.1 in
-    let b2 = bind_ok (data_at body (Some (internal_key i)) index) _ groups b1.2 in
-    let later = data_takes index body (Some (internal_key i)) b2.0 fits values.1 b2.1 in
-    subst (λ (x : List (List Entry)). DataBlocks body bound (i ∷ index) x) (ok_is (b1.0 ∷ b2.0) groups b2.2) (join b1.0 d b2.0 later)
+data_takes [] body from bound groups fits values e = (subst (λ (x : List (List Entry)). DataBlocks body bound [] x) (ok_is [] groups e) tt, tt)
+data_takes (i ∷ index) body from bound groups fits values e =
+    let b1 = bind_ok (block_behind body from bound i) _ groups e in
+    let g1 = guard_ok (stands_behind from i.value) BadIndex (data_block_at body bound i) b1.0 b1.1 in
+    let d = data_block_takes body bound i b1.0 fits values.0 g1.1 in
+    let b2 = bind_ok (data_at body (end_of i.value) (Some (internal_key i)) index) _ groups b1.2 in
+    let later = data_takes index body (end_of i.value) (Some (internal_key i)) b2.0 fits values.1 b2.1 in
+    let h = d.1.handle in
+    let first : from ≤ h.offset = leb-true from h.offset (sym (behind_is from i.value h d.1.handle_is) ∙ g1.0) in
+    let apart : AreApart (h.offset + h.size + 5) index = subst (λ (n : ℕ). AreApart n index) (end_is i.value h d.1.handle_is) later.1 in
+    (subst (λ (x : List (List Entry)). DataBlocks body bound (i ∷ index) x) (ok_is (b1.0 ∷ b2.0) groups b2.2) (join b1.0 d b2.0 later.0), (h, d.1.handle_is, first, apart))
   where
     join : (es : List Entry) → (are_placed bound i es ≡ true) × DataBlock body i.value es → (gs : List (List Entry)) → DataBlocks body (Some (internal_key i)) index gs → DataBlocks body bound (i ∷ index) (es ∷ gs)
     join [] d gs later = absurd cc
@@ -109,15 +126,17 @@ data_takes (i ∷ index) body bound groups fits values e =
         let both = and_true (is_after bound e) (is_le (entry_cmp (last_of e es) i)) d.0 in
         (d.1, after_is bound e both.0, both.1, later)
 
-pub data_again : (index : List Entry) (body : List ℕ) (bound : Option InternalKey) (groups : List (List Entry)) → DataBlocks body bound index groups → data_at body bound index ≡ Ok groups
+pub data_again : (index : List Entry) (body : List ℕ) (from : ℕ) (bound : Option InternalKey) (groups : List (List Entry)) → DataBlocks body bound index groups → AreApart from index → data_at body from bound index ≡ Ok groups
 unfolding data_at
-data_again [] body bound [] d = refl
-data_again [] body bound (g ∷ gs) d = absurd d
-data_again (i ∷ index) body bound [] d = absurd d
-data_again (i ∷ index) body bound ([] ∷ gs) d = absurd d
-data_again (i ∷ index) body bound ((e ∷ es) ∷ gs) d =
+data_again [] body from bound [] d a = refl
+data_again [] body from bound (g ∷ gs) d a = absurd d
+data_again (i ∷ index) body from bound [] d a = absurd d
+data_again (i ∷ index) body from bound ([] ∷ gs) d a = absurd d
+data_again (i ∷ index) body from bound ((e ∷ es) ∷ gs) d a =
     let after = is_after-true bound e d.1 in
     let p : are_placed bound i (e ∷ es) ≡ true = rw (after, d.2) refl in
+    let behind : stands_behind from i.value ≡ true = behind_is from i.value a.0 a.1 ∙ le-leb from a.0.offset a.2 in
     let one = data_block_again body bound i (e ∷ es) p d.0 in
-    let later = data_again index body (Some (internal_key i)) gs d.3 in
-    rw (one, later) refl
+    let apart : AreApart (end_of i.value) index = subst (λ (n : ℕ). AreApart n index) (sym (end_is i.value a.0 a.1)) a.3 in
+    let later = data_again index body (end_of i.value) (Some (internal_key i)) gs d.3 apart in
+    rw (behind, one, later) refl

@@ -13,6 +13,7 @@ mod MakingLaws
 mod HeldTableLaws
 mod Telling
 mod OpenLaws
+mod BehindLaws
 mod GetLaws
 mod CloseLaws
 mod SettleLaws

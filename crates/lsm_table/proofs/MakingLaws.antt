@@ -14,7 +14,7 @@ use Rattle.lsm_table.specs.TableBuilding.{Grouped, is_full, grouped, last_group,
 use Rattle.lsm_table.specs.TableMaking.{entries_made, AreFilled, AreBlocks, closed_when, Made}
 use Rattle.lsm_table.proofs.StoredBlockLaws.{length-stored}
 use Rattle.lsm_table.proofs.DataLaws.{data_again}
-use Rattle.lsm_table.proofs.BuildingLaws.{Good, stand, any-first, good_groups, ascends_rest, AllAscend, index_ascends, grouped-nil, grouped-push, concat-append, concat-last, one_more, entries_of, grouped-entries, when-entries, file_built}
+use Rattle.lsm_table.proofs.BuildingLaws.{Good, stand, index_apart, any-first, good_groups, ascends_rest, AllAscend, index_ascends, grouped-nil, grouped-push, concat-append, concat-last, one_more, entries_of, grouped-entries, when-entries, file_built}
 
 -- ---- an open block without an entry
 
@@ -63,7 +63,8 @@ made_entries options entries front taken index m =
     let interval = options.restart_interval in
     let there = stand interval [] None m.groups (made_good options entries front taken index m) m.blocks (omega (arith, m.short, ap length m.front_is)) [] in
     let here = subst (λ (xs : List ℕ). DataBlocks xs None (index_of interval 0 m.groups) m.groups) (append-nil (data_text interval m.groups) ∙ sym m.front_is) there in
-    let read : data_at front None index.entries ≡ Ok m.groups = ap (data_at front None) m.index_is ∙ data_again (index_of interval 0 m.groups) front None m.groups here in
+    let apart = index_apart interval 0 None m.groups (made_good options entries front taken index m) (omega (arith, m.short, ap length m.front_is)) in
+    let read : data_at front 0 None index.entries ≡ Ok m.groups = ap (data_at front 0 None) m.index_is ∙ data_again (index_of interval 0 m.groups) front 0 None m.groups here apart in
     rw read (sym (made_parts options entries front taken index m))
 
 -- ---- one more block

@@ -80,14 +80,14 @@ rest_settled (Ok groups) = refl
 rest_settled (Err fault) = refl
 
 -- a table is opened, and then its data blocks are read
-pub opens_first : (file : List ℕ) → table_at file ≡ (opening_at file >>= λ index. data_at (body_of file) None index >>= λ groups. Ok (concat groups))
+pub opens_first : (file : List ℕ) → table_at file ≡ (opening_at file >>= λ index. data_at (body_of file) 0 None index >>= λ groups. Ok (concat groups))
 unfolding table_at opening_at
-opens_first file = three_then (footer_at file) (λ footer. contents_at (body_of file) footer.index) (λ contents. block_or (block_at contents)) (λ index. data_at (body_of file) None index >>= λ groups. Ok (concat groups))
+opens_first file = three_then (footer_at file) (λ footer. contents_at (body_of file) footer.index) (λ contents. block_or (block_at contents)) (λ index. data_at (body_of file) 0 None index >>= λ groups. Ok (concat groups))
 
-pub rest_of_table : (file body : List ℕ) (index : List Entry) → body ≡ body_of file → opening_at file ≡ Ok index → settled (data_at body None index) ≡ settled (table_at file)
+pub rest_of_table : (file body : List ℕ) (index : List Entry) → body ≡ body_of file → opening_at file ≡ Ok index → settled (data_at body 0 None index) ≡ settled (table_at file)
 rest_of_table file body index is e =
-    ap (λ (xs : List ℕ). settled (data_at xs None index)) is ∙ sym (ap settled (opens_first file) ∙ ap (λ (r : Result (List Entry) TableFault). settled (r >>= λ es. data_at (body_of file) None es >>= λ groups. Ok (concat groups))) e
-    ∙ rest_settled (data_at (body_of file) None index))
+    ap (λ (xs : List ℕ). settled (data_at xs 0 None index)) is ∙ sym (ap settled (opens_first file) ∙ ap (λ (r : Result (List Entry) TableFault). settled (r >>= λ es. data_at (body_of file) 0 None es >>= λ groups. Ok (concat groups))) e
+    ∙ rest_settled (data_at (body_of file) 0 None index))
 
 unless_opened : (memory : Bool) (fault : TableFault) (r : Result (List Entry) TableFault) (h : List Entry → Result (List Entry) TableFault) → FailsUnless memory fault (settled r) → FailsUnless memory fault (settled (r >>= h))
 unless_opened true fault r h f = tt
@@ -98,7 +98,7 @@ unless_opened false fault (Err e) h f = f
 pub fails_opening : (fault : TableFault) (file : List ℕ) → Fails fault (settled (opening_at file)) → Fails fault (settled (table_at file))
 fails_opening fault file f =
     subst (λ (r : Result (List Entry) TableFault). Fails fault (settled r)) (sym (opens_first file))
-    (unless_opened (is_memory fault) fault (opening_at file) (λ index. data_at (body_of file) None index >>= λ groups. Ok (concat groups)) f)
+    (unless_opened (is_memory fault) fault (opening_at file) (λ index. data_at (body_of file) 0 None index >>= λ groups. Ok (concat groups)) f)
 
 -- ---- the data block that an index entry names
 

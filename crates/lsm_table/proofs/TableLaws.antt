@@ -25,7 +25,8 @@ table_takes bytes es fits e =
     let contents_fit = held_fits body b1.0.index b2.0 body_fits held in
     let b3 = bind_ok (block_or (block_at b2.0)) _ es b2.2 in
     let indexed = block_takes b2.0 b3.0 contents_fit (block_ok (block_at b2.0) b3.0 b3.1) in
-    let b4 = bind_ok (data_at body None b3.0) _ es b3.2 in
+    let b4 = bind_ok (data_at body 0 None b3.0) _ es b3.2 in
+    let read = data_takes b3.0 body 0 None b4.0 body_fits (block_values b2.0 b3.0 contents_fit indexed) b4.1 in
     record {
       body = body;
       footer_text = footer_of bytes;
@@ -37,7 +38,8 @@ table_takes bytes es fits e =
       footed = footed.is;
       held = held;
       indexed = indexed;
-      blocks = data_takes b3.0 body None b4.0 body_fits (block_values b2.0 b3.0 contents_fit indexed) b4.1;
+      blocks = read.0;
+      apart = read.1;
       entries_are = ok_is (concat b4.0) es b4.2;
     }
 
@@ -48,7 +50,7 @@ table_again bytes es t =
     let body = (ends bytes t.body t.footer_text t.footer t.footed t.bytes_are).body_is in
     let held = contents_again t.body t.footer.index t.contents t.held in
     let index = block_again t.contents t.index t.indexed in
-    let blocks = data_again t.index t.body None t.groups t.blocks in
+    let blocks = data_again t.index t.body 0 None t.groups t.blocks t.apart in
     rw (footer, body, held, index, blocks) (ap (λ (x : List Entry). Ok x) t.entries_are)
 
 pub one_table : (bytes : List ℕ) (es fs : List Entry) → IsTable bytes es → IsTable bytes fs → es ≡ fs

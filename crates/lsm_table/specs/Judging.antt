@@ -13,8 +13,9 @@ comes_after (Some bound) key = is_lt (key_cmp bound key)
 
 -- What two cursors over an index tell while its data blocks are judged: one stands at the entry
 -- that comes next, the other is one entry behind when its key is asked for, and else at the same
--- place.
-pub record Judged (body : List ℕ) (index : HeldBlock) (before here : Position) : Type 0 where
-  pub left : settled (data_at body before.last (rest_of index here))
-      ≡ settled (data_at body None index.entries)
+-- place. What comes next does not begin before the offset.
+pub record Judged (body : List ℕ) (index : HeldBlock) (from : ℕ) (before here : Position)
+    : Type 0 where
+  pub left : settled (data_at body from before.last (rest_of index here))
+      ≡ settled (data_at body 0 None index.entries)
   pub same : rest_of index before ≡ rest_of index here

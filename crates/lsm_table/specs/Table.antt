@@ -1,6 +1,6 @@
 -- What a table is: data blocks, a metaindex block, an index block and a footer (LevelDB's
 -- `doc/table_format.md`).
-use Rattle.std.specs.Prelude.{◌≡◌, ℕ, true, List, [], ◌∷◌, ◌++◌, Option, Some, None}
+use Rattle.std.specs.Prelude.{◌≡◌, ℕ, ◌+◌, ◌≤◌, true, List, [], ◌∷◌, ◌++◌, Option, Some, None}
 use Rattle.std.specs.List.{flat_map}
 use Rattle.std.specs.Ordering.{is_le}
 use Rattle.std.specs.declared.cmp.Ordering.TheVariants.{Less}
@@ -31,8 +31,7 @@ last_of e [] = e
 last_of e (f ∷ fs) = last_of f fs
 
 -- The index names one data block after the other, each with an entry. Its keys part them: each is
--- at least the last key of its data block, and less than the first key of the next. The data blocks
--- may stand anywhere in the file.
+-- at least the last key of its data block, and less than the first key of the next.
 abbrev pub DataBlocks : List ℕ → Option InternalKey → List Entry → List (List Entry) → Type 0
 DataBlocks body bound [] [] = Unit {0}
 DataBlocks body bound [] (group ∷ groups) = ⊥
@@ -41,6 +40,14 @@ DataBlocks body bound (i ∷ index) ([] ∷ groups) = ⊥
 DataBlocks body bound (i ∷ index) ((e ∷ es) ∷ groups) =
     DataBlock body i.value (e ∷ es) × IsAfter bound e × (is_le (entry_cmp (last_of e es) i) ≡ true)
     × DataBlocks body (Some (internal_key i)) index groups
+
+-- The handles of index values name data blocks one behind the other: the first begins at this offset
+-- or behind it, and each other one where the trailer before it ends, or behind that (this project's
+-- rule: no byte is in two data blocks).
+abbrev pub AreApart : ℕ → List Entry → Type 0
+AreApart from [] = Unit {0}
+AreApart from (i ∷ index) = (handle : Handle) × IsHandle i.value handle × (from ≤ handle.offset)
+    × AreApart (handle.offset + handle.size + 5) index
 
 abbrev pub concat : List (List Entry) → List Entry
 concat groups = flat_map (λ group. group) groups
@@ -59,6 +66,7 @@ pub record IsTable (bytes : List ℕ) (entries : List Entry) : Type 0 where
   pub held : Holds body footer.index contents
   pub indexed : IsBlock contents index
   pub blocks : DataBlocks body None index groups
+  pub apart : AreApart 0 index
   pub entries_are : concat groups ≡ entries
 
 -- a table of these entries, of which there is one at least, and its first and last internal key

@@ -25,7 +25,7 @@ groups_or_none (Err fault) = []
 
 -- the entries of the closed data blocks, read by their index, and those of the open one
 unfoldable pub entries_made : List ℕ → List Entry → List Entry → List Entry
-entries_made front index taken = concat (groups_or_none (data_at front None index)) ++ taken
+entries_made front index taken = concat (groups_or_none (data_at front 0 None index)) ++ taken
 
 abbrev pub AreFilled : List (List Entry) → Type 0
 AreFilled [] = Unit {0}

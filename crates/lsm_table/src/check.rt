@@ -5,7 +5,8 @@ ghost use Rattle.std.specs.Option.{option_map};
 ghost use Rattle.lsm_codec.specs.KeyRef.{key_of};
 ghost use Rattle.lsm_block.specs.Block.{Ascends, entry_of};
 ghost use Rattle.lsm_table.specs.Reading.{Gives, settled};
-ghost use Rattle.lsm_table.specs.TableReading.{are_placed, data_block_at, data_at, table_at};
+ghost use Rattle.lsm_table.specs.TableReading.{are_placed, block_behind, data_block_at, data_at};
+ghost use Rattle.lsm_table.specs.TableReading.{end_of, table_at};
 ghost use Rattle.lsm_table.specs.HeldTable.{HeldTable, entries_in};
 ghost use Rattle.lsm_table.specs.OpenTable.{IsOpened, opening_at, block_named};
 ghost use Rattle.lsm_block.specs.Held.{last_after};
@@ -14,7 +15,7 @@ ghost use Rattle.lsm_table.specs.Judging.{comes_after};
 use crate::footer::{FOOTER, Footer};
 use crate::handle::Handle;
 use crate::held_block::parts;
-use crate::stored_block::contents_of;
+use crate::stored_block::{TRAILER, contents_of};
 use crate::table_fault::TableFault;
 use lsm_block::{BlockRef, Cursor, check_bytes};
 use lsm_codec::KeyRef;
@@ -108,20 +109,43 @@ fn judge_block(
     Ok(())
 }
 
+/// Judges the data block of an index entry, which may not begin before `from`, where the one before
+/// it ends. Answers where it ends itself.
+fn judge_block_behind(
+    body: &[u8],
+    from: u64,
+    bound: Option<KeyRef<'_>>,
+    key: &KeyRef<'_>,
+    spelled: &[u8],
+    cursor: &mut Cursor,
+) -> Result<u64, TableFault>
+    ensures judged { Gives (λ _. tt) result (settled (block_behind body.now from
+        (option_map key_of bound.entry) (entry_of (key_of key.now) spelled.now))) }
+    ensures end { IfOk result (λ n. n ≡ end_of spelled.now) }
+{
+    let (handle, _rest) = Handle::get(TableFault::BadIndex, spelled)?;
+    if handle.offset < from {
+        return Err(TableFault::BadIndex);
+    }
+    judge_block(body, bound, key, spelled, cursor)?;
+    Ok(handle.offset + handle.size + TRAILER as u64)
+}
+
 /// Judges the data blocks that an index names, one after another.
 fn judge_data(alloc: Global, body: &[u8], index: &BlockRef<'_>) -> Result<(), TableFault>
-    ensures { Gives (λ _. tt) result (settled (data_at body.now None index.now.entries)) }
+    ensures { Gives (λ _. tt) result (settled (data_at body.now 0 None index.now.entries)) }
 {
     let mut cursor = Cursor::start(alloc);
     let mut before = Cursor::start(alloc);
     let mut here = Cursor::start(alloc);
+    let mut end = 0u64;
     index.rewind(&mut before);
     index.rewind(&mut here);
     while let Some(spelled) = index.next(&mut here)? {
         let Some(key) = here.key() else {
             return Err(TableFault::BadIndex);
         };
-        judge_block(body, before.key(), &key, spelled, &mut cursor)?;
+        end = judge_block_behind(body, end, before.key(), &key, spelled, &mut cursor)?;
         let _ = index.next(&mut before)?;
     }
     Ok(())

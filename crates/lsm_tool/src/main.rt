@@ -6,6 +6,7 @@
 
 use lsm_commands::{refuse_words, run};
 use lsm_directory::SystemPaths;
+use lsm_folder::Mute;
 use lsm_terminal::{
     BesideLine, OneLine, Prompted, asking, at_terminal, hold_streams, shows_how_far,
 };
@@ -46,7 +47,7 @@ fn start<R: Threads + Wait + Clock + Sync>(rt: &R, host: HostRuntime) -> io::Res
     };
     let input = Prompted::new(host.stdin(), asks);
     let words = asking(host.alloc(), words, shows)?;
-    let paths = SystemPaths::new(host);
+    let paths = SystemPaths::<Mute>::new(host);
     let status = run(rt, &paths, words.as_slice(), input, &mut out, &mut err);
     let _ = err.end(status == 0);
     Ok(status)

@@ -7,23 +7,27 @@
         print(db.get(b"apple"))
 
 Keys and values are bytes. Every write is on the disk when its call returns. A database may be used
-by any number of threads. A call that fails raises `Error`, which has a number and a name.
+by any number of threads. A call that fails raises `Error`, which has a number and a name;
+`IOError`, `CorruptionError` and `TooLarge` are some of them.
 """
 
 from .database import DB, Iterator, Level, PrefixedDB, Snapshot, Statistics, WriteBatch
-from .errors import Closed, Ended, Error, Refused
+from .errors import Closed, CorruptionError, Ended, Error, IOError, Refused, TooLarge
 
 __all__ = [
     "DB",
     "Closed",
+    "CorruptionError",
     "Ended",
     "Error",
+    "IOError",
     "Iterator",
     "Level",
     "PrefixedDB",
     "Refused",
     "Snapshot",
     "Statistics",
+    "TooLarge",
     "WriteBatch",
 ]
-__version__ = "0.1.0"
+__version__ = "1.1.0"

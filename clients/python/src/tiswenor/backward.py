@@ -1,8 +1,8 @@
 """A range from its end to its start, of a server that shows keys in ascending order alone.
 
-The server shows the first pairs from a key on. So a page of last pairs is looked for: where the pairs
-of a part of the range do not end with its first page, one from a key between is asked for. What is
-read on the way is kept, and shown when its turn comes: each pair is read once.
+The server shows the first pairs from a key on. So a page of last pairs is looked for: where the
+pairs of a part of the range do not end with its first page, one from a key between is asked for.
+What is read on the way is kept, and shown when its turn comes: each pair is read once.
 """
 
 from __future__ import annotations
@@ -79,7 +79,8 @@ def between(low: bytes, high: Optional[bytes], tries: int) -> bytes:
     if alike == len(low):
         return low + bytes([end >> 1])
     more = len(low) - alike - 1 >> tries
-    return behind(low[: alike + 1 + more]) if more else low[:alike] + bytes([low[alike] + end >> 1])
+    middle = behind(low[: alike + 1 + more]) if more else None
+    return low[:alike] + bytes([low[alike] + end >> 1]) if middle is None else middle
 
 
 def _alike(low: bytes, high: Optional[bytes]) -> Tuple[int, int]:

@@ -95,12 +95,15 @@ class _Reads:
         prefix: Optional[Bytes] = None,
         include_key: bool = True,
         include_value: bool = True,
+        verify_checksums: Optional[bool] = True,
+        fill_cache: bool = True,
     ) -> Iterator:
         """The pairs of a range, in ascending order of their keys, or with `reverse` in descending
         order, as they are now; of a snapshot, as they were then.
 
         The range is that from `start` to `stop`, or that of all keys with a prefix. Without values
-        the iterator gives keys alone, without keys values alone.
+        the iterator gives keys alone, without keys values alone. The last two change nothing, as
+        those of `get`.
 
         Pairs come from the server in pages of some 64 KiB. It shows them in ascending order: to go
         backward costs some more requests, which look for a page that ends where it is to end.
@@ -314,6 +317,8 @@ class Snapshot(_Reads):
             if not self._db.closed:
                 self._db._ask(frames.release(self._number))
 
+    release = close
+
     def __enter__(self) -> Snapshot:
         return self
 
@@ -367,6 +372,8 @@ class WriteBatch:
 
     def append(self, source: WriteBatch) -> None:
         """Adds the writes of another batch behind those of this one."""
+        if not isinstance(source, WriteBatch):
+            raise TypeError("only a WriteBatch can be appended")
         self._writes.extend(source._writes)
 
     def approximate_size(self) -> int:
@@ -394,8 +401,8 @@ class WriteBatch:
 
 @dataclass(frozen=True)
 class _Range:
-    """The keys from `start` on that are below `stop`, if there is one. All begin with `front`, which
-    is not shown."""
+    """The keys from `start` on that are below `stop`, if there is one. All begin with `front`,
+    which is not shown."""
 
     start: bytes
     stop: Optional[bytes]
@@ -424,9 +431,24 @@ class _Range:
         return _Range(begin, end + b"\0" if include_stop else end, front)
 
 
+class _Page:
+    """What an iterator shows: all of the range from `low` on that is below `high`. It stands before
+    the pair of the number `at`."""
+
+    __slots__ = ("low", "high", "shown", "at")
+
+    def __init__(
+        self, low: Optional[bytes], high: Optional[bytes], shown: List[Any], at: int
+    ) -> None:
+        self.low = low
+        self.high = high
+        self.shown = shown
+        self.at = at
+
+
 class Iterator:
-    """The pairs of a range, or their keys or values alone. It stands between two of them. One thread
-    at a time may use it."""
+    """The pairs of a range, or their keys or values alone. It stands between two of them. One
+    thread at a time may use it."""
 
     def __init__(
         self,
@@ -463,12 +485,9 @@ class Iterator:
 
     def _stand(self, key: Optional[bytes]) -> None:
         """Goes before the first pair from a key on; behind all where there is no key."""
-        # What is shown of the range is all from the one key on that is below the other one.
-        self._low = self._high = key
-        self._shown: List[Any] = []
-        self._at = 0
         self._limit = _FIRST_PAGE
         self._backward: Optional[Backward] = None
+        self._page = _Page(key, key, [], 0)
 
     def __iter__(self) -> Iterator:
         return self
@@ -476,12 +495,13 @@ class Iterator:
     def __next__(self) -> Any:
         if self._reverse:
             return self._step_back()
-        at = self._at
-        if at == len(self._shown):
-            self._turn()
+        page = self._page
+        at = page.at
+        if at == len(page.shown):
+            page = self._turn()
             at = 0
-        self._at = at + 1
-        return self._shown[at]
+        page.at = at + 1
+        return page.shown[at]
 
     def prev(self) -> Any:
         """The pair on the other side: the one that `next` gave last, if it was the last call. Goes
@@ -490,17 +510,19 @@ class Iterator:
 
     def _step(self) -> Any:
         """Goes behind the next pair."""
-        if self._at == len(self._shown):
-            self._turn()
-        self._at += 1
-        return self._shown[self._at - 1]
+        page = self._page
+        if page.at == len(page.shown):
+            page = self._turn()
+        page.at += 1
+        return page.shown[page.at - 1]
 
     def _step_back(self) -> Any:
         """Goes before the pair before."""
-        if self._at == 0:
-            self._turn_back()
-        self._at -= 1
-        return self._shown[self._at]
+        page = self._page
+        if page.at == 0:
+            page = self._turn_back()
+        page.at -= 1
+        return page.shown[page.at]
 
     def _ask(
         self, low: bytes, high: Optional[bytes], limit: int
@@ -511,42 +533,47 @@ class Iterator:
             raise Closed("the iterator is closed")
         return frames.page(snapshot._ask(frames.scan(snapshot._when(), low, high, limit)))
 
-    def _turn(self) -> None:
-        """Reads the page behind. It has a pair, or none is left."""
-        low, stop = self._high, self._bounds.stop
+    def _turn(self) -> _Page:
+        """Reads the page behind. It has a pair, or none is left. A turn that is interrupted leaves
+        the iterator where it is."""
+        page, stop = self._page, self._bounds.stop
+        low = page.high
         if self._snapshot is None:
             raise Closed("the iterator is closed")
         if low is None or (stop is not None and low >= stop):
             raise StopIteration
         is_last, pairs = self._ask(low, stop, self._limit)
         if not pairs:
-            self._high = stop
+            page.high = stop
             raise StopIteration
         self._limit = 0
-        self._low = low
-        self._high = stop if is_last else pairs[-1][0] + b"\0"
-        self._shown = self._show(pairs)
-        self._at = 0
         self._backward = None
+        page = _Page(low, stop if is_last else pairs[-1][0] + b"\0", self._show(pairs), 0)
+        self._page = page
+        return page
 
-    def _turn_back(self) -> None:
-        """Reads a page before. It has a pair, or none is left."""
-        high, start = self._low, self._bounds.start
+    def _turn_back(self) -> _Page:
+        """Reads a page before. It has a pair, or none is left. A turn that is interrupted leaves
+        the iterator where it is, and what it had looked for is looked for again."""
+        page, start = self._page, self._bounds.start
+        high = page.low
         if self._snapshot is None:
             raise Closed("the iterator is closed")
         if high is not None and high <= start:
             raise StopIteration
-        if self._backward is None:
-            self._backward = Backward(self._ask, start, high, self._limit)
-        page = self._backward.page()
-        if page is None:
-            self._low = start
+        backward, self._backward = self._backward, None
+        if backward is None:
+            backward = Backward(self._ask, start, high, self._limit)
+        before = backward.page()
+        if before is None:
+            page.low = start
             raise StopIteration
         self._limit = 0
-        self._high = high
-        self._low, pairs = page
-        self._shown = self._show(pairs)
-        self._at = len(pairs)
+        low, pairs = before
+        page = _Page(low, high, self._show(pairs), len(pairs))
+        self._page = page
+        self._backward = backward
+        return page
 
     def _show(self, pairs: List[Tuple[bytes, bytes]]) -> List[Any]:
         """What is given for these pairs."""
@@ -562,8 +589,7 @@ class Iterator:
     def close(self) -> None:
         """Ends the iterator. A second call does nothing."""
         snapshot, self._snapshot = self._snapshot, None
-        self._shown = []
-        self._at = 0
+        self._stand(self._bounds.start)
         if snapshot is not None and self._owns_snapshot:
             snapshot.close()
 
@@ -580,7 +606,11 @@ class Iterator:
 
 
 def _bytes(content: Bytes) -> bytes:
-    return content if isinstance(content, bytes) else memoryview(content).tobytes()
+    if isinstance(content, bytes):
+        return content
+    view = memoryview(content)
+    frames.check(view.nbytes)
+    return view.tobytes()
 
 
 def _make_folder(path: PathLike) -> None:

@@ -27,12 +27,45 @@ NAMES = {
     204: "Unanswered",
 }
 
+# Refusals of a system's call, and of a folder that another program has.
+FAULTS = frozenset((9, 35, 36, 42, 52))
+
+# Refusals of bytes that are none of LevelDB's, and of files that do not go together.
+DAMAGES = frozenset((*range(2, 9), 10, *range(12, 16), *range(17, 29), *range(30, 34)))
+
+# What a refusal means, for people. The C library says the same.
+REASONS = {
+    1: "the server was refused memory",
+    9: "a call of the system failed",
+    11: "a file is there that was to be made",
+    16: "a table has compressed blocks, which are not read",
+    29: "its keys have an order of their own (a comparator)",
+    35: "a compaction could not read a table",
+    36: "a compaction could not write a table",
+    40: "level 0 is full, and nobody compacts",
+    41: "no sequence is left",
+    42: "a write failed before: open the database again",
+    43: "there is no such snapshot",
+    46: "no file number is left",
+    48: "no slot for a version is left",
+    49: "no number for a version is left",
+    50: "a version has no pin left",
+    51: "LevelDB has writes there that are in its log alone",
+    52: "another program has the database open",
+    200: "the request has none of the protocol's forms",
+    201: "an option is out of range",
+    202: "there is no database, and create_if_missing is not set",
+    203: "there is a database, and error_if_exists is set",
+    204: "no memory for the request or its answer: whether it was done is not known",
+}
+DAMAGED = "files of the database are damaged"
+
 
 class Error(Exception):
     """A call was not done. `number` and `name` say why, `detail` says more for people."""
 
     def __init__(self, number: int, name: str, detail: str = "") -> None:
-        super().__init__(number, name, detail)
+        Exception.__init__(self, number, name, detail)
         self.number = number
         self.name = name
         self.detail = detail
@@ -42,7 +75,50 @@ class Error(Exception):
 
 
 class Refused(Error):
-    """The server refused the request. Nothing of it was done, and other requests go on."""
+    """The server refused the request. Nothing of it was done, and other requests go on.
+
+    `path` is the folder of the database; None where no server was asked.
+    """
+
+    def __init__(
+        self, number: int, name: str, detail: str = "", path: Optional[str] = None
+    ) -> None:
+        Error.__init__(self, number, name, detail)
+        self.args = (number, name, detail, path)
+        self.path = path
+
+
+class IOError(Refused, OSError):
+    """A call of the system failed in the server, or another program has the database open.
+
+    It is an OSError too, as plyvel's is: `filename` is the folder of the database. The server does
+    not tell the system's number, so `errno` is None.
+    """
+
+    def __init__(
+        self, number: int, name: str, detail: str = "", path: Optional[str] = None
+    ) -> None:
+        Refused.__init__(self, number, name, detail, path)
+        self.filename = path
+
+
+class CorruptionError(Refused):
+    """Files of the database are damaged, missing, or none of LevelDB's."""
+
+
+class TooLarge(Refused):
+    """A limit was passed: `what` has `size` bytes (writes, for a batch of too many), or more than
+    `limit` where its size is None. `limit` is the most that there may be."""
+
+    def __init__(
+        self, what: str, size: Optional[int], limit: int, path: Optional[str] = None
+    ) -> None:
+        much = f"more than {limit}" if size is None else f"{size} of at most {limit}"
+        Refused.__init__(self, TOO_LARGE, "TooLarge", _at(path, f"{what}: {much}"), path)
+        self.args = (what, size, limit, path)
+        self.what = what
+        self.size = size
+        self.limit = limit
 
 
 class Closed(Error, RuntimeError):
@@ -52,7 +128,7 @@ class Closed(Error, RuntimeError):
     """
 
     def __init__(self, detail: str) -> None:
-        super().__init__(CLOSED, "Closed", detail)
+        Error.__init__(self, CLOSED, "Closed", detail)
         self.args = (detail,)
 
 
@@ -64,9 +140,20 @@ class Ended(Error):
     """
 
     def __init__(self, status: Optional[int] = None) -> None:
-        super().__init__(ENDED, "Ended", _told(status))
+        Error.__init__(self, ENDED, "Ended", _told(status))
         self.args = (status,)
         self.status = status
+
+
+def refused(number: int, name: str, path: Optional[str]) -> Refused:
+    """The refusal of a number, but for TooLarge, whose limit the number does not tell."""
+    kind = IOError if number in FAULTS else CorruptionError if number in DAMAGES else Refused
+    reason = DAMAGED if number in DAMAGES else REASONS.get(number, "")
+    return kind(number, name, _at(path, reason), path)
+
+
+def _at(path: Optional[str], reason: str) -> str:
+    return ": ".join(filter(None, (path, reason)))
 
 
 def _told(status: Optional[int]) -> str:

@@ -5,7 +5,7 @@ from __future__ import annotations
 import struct
 from typing import List, NoReturn, Optional, Sequence, Tuple
 
-from .errors import BAD_ANSWER, TOO_LARGE, Error, Refused
+from .errors import BAD_ANSWER, Error, TooLarge
 
 WRITE, READ, SCAN, SNAPSHOT, RELEASE, COMPACT, COLLECT, STATISTICS = (
     bytes([kind]) for kind in range(1, 9)
@@ -14,20 +14,39 @@ WRITE, READ, SCAN, SNAPSHOT, RELEASE, COMPACT, COLLECT, STATISTICS = (
 LONGEST_REQUEST = 8_388_608
 LONGEST_ANSWER = 16_777_216
 
+# The limits of a batch, as docs/FORMATS.md has them.
+LONGEST_KEY = 4_096
+LONGEST_VALUE = 1_048_576
+MOST_WRITES = 65_536
+LONGEST_BATCH = 4_194_304
+
 NOW = b"\0"
+
+# What may be too large.
+KEY_BYTES = "bytes of a key"
+VALUE_BYTES = "bytes of a value"
+BATCH_WRITES = "writes of a batch"
+BATCH_BYTES = "bytes of a batch's keys and values"
+REQUEST_BYTES = "bytes of a request"
+ANSWER_BYTES = "bytes of an answer"
 
 _LENGTH = struct.Struct("<I")
 _NUMBER = struct.Struct("<Q")
 
 
+def check(length: int) -> None:
+    """Refuses what has more bytes than the server reads at once."""
+    if length > LONGEST_REQUEST:
+        raise TooLarge(REQUEST_BYTES, length, LONGEST_REQUEST)
+
+
 def text(content: bytes) -> bytes:
+    check(len(content))
     return _LENGTH.pack(len(content)) + content
 
 
 def frame(request: bytes) -> bytes:
     """The request with its length before it; refused where it is longer than the server reads."""
-    if len(request) > LONGEST_REQUEST:
-        raise Refused(TOO_LARGE, "TooLarge", f"a request of {len(request)} bytes")
     return text(request)
 
 
@@ -41,6 +60,8 @@ def at(snapshot: int) -> bytes:
 
 
 def put(key: bytes, value: bytes) -> bytes:
+    check(len(key))
+    check(len(value))
     return b"".join((b"\1", _LENGTH.pack(len(key)), key, _LENGTH.pack(len(value)), value))
 
 
@@ -111,6 +132,27 @@ def page(body: bytes) -> Tuple[bool, List[Tuple[bytes, bytes]]]:
     if at != end or (not pairs and not is_last):
         bad_answer()
     return is_last, pairs
+
+
+def excess(request: bytes) -> Tuple[str, Optional[int], int]:
+    """What of a request that was refused as too large is so, how much it is, and its limit."""
+    if request[:1] != WRITE:
+        return ANSWER_BYTES, None, LONGEST_ANSWER
+    writes = total = 0
+    at = 1
+    while at < len(request):
+        is_put = request[at]
+        key, at = _text_at(request, at + 1)
+        value, at = _text_at(request, at) if is_put else (b"", at)
+        if len(key) > LONGEST_KEY:
+            return KEY_BYTES, len(key), LONGEST_KEY
+        if len(value) > LONGEST_VALUE:
+            return VALUE_BYTES, len(value), LONGEST_VALUE
+        writes += 1
+        total += len(key) + len(value)
+    if writes > MOST_WRITES:
+        return BATCH_WRITES, writes, MOST_WRITES
+    return BATCH_BYTES, total if total > LONGEST_BATCH else None, LONGEST_BATCH
 
 
 def bad_answer() -> NoReturn:

@@ -9,12 +9,13 @@ import shutil
 import socket
 import subprocess
 import threading
+import time
 import weakref
-from collections import deque
-from typing import Deque, List, Optional, Union
+from typing import List, Optional, Set, Tuple, Union
 
 from . import frames
-from .errors import LAST, NAMES, NO_SERVER, UNANSWERED, Closed, Ended, Error, Refused
+from .errors import LAST, NAMES, NO_SERVER, REASONS, TOO_LARGE, UNANSWERED
+from .errors import Closed, Ended, Error, Refused, TooLarge, refused
 
 PROGRAM = "lsm_server"
 VARIABLE = "TISWENOR_SERVER"
@@ -58,92 +59,145 @@ class ChannelEnded(Exception):
     """A channel was found at its end before a request was sent. Another one may do it."""
 
 
-class Channel:
-    """One end of a socket pair, for one request at a time.
+class AnswerMissed(Exception):
+    """A channel came to its end before an answer did."""
 
-    A signal handler may raise an exception, as KeyboardInterrupt, at any place of an exchange. If
-    the whole request was sent then, its answer is still owed, and the next exchange reads it first.
-    If it was not, the channel is broken.
+
+class Lease:
+    """Lives as long as a call: it is over once the call says so, or once nothing refers to it."""
+
+    __slots__ = ("is_over", "__weakref__")
+
+    def __init__(self) -> None:
+        self.is_over = False
+
+
+class Call:
+    """A request, and how far it and its answer have come.
+
+    A signal handler may raise an exception, as KeyboardInterrupt, at any place of a call. So what a
+    call has sent and what it got are noted in the same step of the interpreter in which it sends or
+    gets: another call can go on where this one was left.
     """
 
-    def __init__(self, end: socket.socket, owes_opening: bool = False) -> None:
+    __slots__ = ("request", "sent", "came", "channel", "woken", "_lease")
+
+    def __init__(self, request: bytes, lease: Lease) -> None:
+        self.request = request
+        self.sent: List[int] = []  # how many bytes at a time
+        self.came: List[bytes] = []
+        self.channel: Optional[Channel] = None
+        self.woken: Optional[threading.Lock] = None  # of a call that waits for a channel
+        self._lease = weakref.ref(lease)
+
+    @property
+    def is_over(self) -> bool:
+        lease = self._lease()
+        return lease is None or lease.is_over
+
+    @property
+    def is_write(self) -> bool:
+        return self.request[4:5] == frames.WRITE
+
+    def wake(self) -> None:
+        if self.woken is not None:
+            _release(self.woken)
+
+
+class Channel:
+    """One end of a socket pair, for one call at a time.
+
+    A call that was interrupted once a part of its request was sent stays under way: the next one on
+    this channel sends the rest first, and drops its answer.
+    """
+
+    def __init__(self, end: socket.socket) -> None:
         self._socket = end
-        # What came of the answer that is owed; None where none is.
-        self._owed: Optional[List[bytes]] = [] if owes_opening else None
-        self._is_sending = False
+        self._under_way: Optional[Call] = None
         self.has_failed = False
-        self.lease: Optional[Lease] = None
 
     @property
-    def is_free(self) -> bool:
-        return self.lease is None or self.lease.is_over
+    def is_left(self) -> bool:
+        """Whether a call was interrupted here, and is still under way."""
+        call = self._under_way
+        return call is not None and call.is_over and bool(call.sent)
 
     @property
-    def is_broken(self) -> bool:
-        return self.has_failed or (self._is_sending and self.is_free)
+    def is_left_write(self) -> bool:
+        call = self._under_way
+        return call is not None and call.is_write and self.is_left
 
-    def exchange(self, request: bytes) -> bytes:
+    def finish(self) -> None:
+        """Ends the call that was left here, if there is one."""
+        call = self._under_way
+        if call is None or not call.sent:
+            return
+        try:
+            self._go_on(call)
+        except (AnswerMissed, Error):
+            raise ChannelEnded from None
+        if self.has_failed:
+            raise ChannelEnded
+
+    def exchange(self, call: Call) -> bytes:
         """Sends a frame, and gives the frame that answers it, without its length."""
-        if self._owed is not None:
-            self.receive()
-            if self.has_failed:
-                raise ChannelEnded
-        self._is_sending = True
-        left = self._send(request)
-        self._owed = []
-        self._is_sending = False
-        answer = self.receive()
-        if left and not self.has_failed:  # of a request that the server has not read
+        self._under_way = call
+        return self._go_on(call)
+
+    def _go_on(self, call: Call) -> bytes:
+        try:
+            left = self._send(call)
+            answer = self._receive(call)
+            is_last = answer[0] in LAST
+            if left and not is_last:  # of a request that the server has not read
+                frames.bad_answer()
+        except OSError:
             self.has_failed = True
-            frames.bad_answer()
+            raise AnswerMissed from None
+        except Error:
+            self.has_failed = True
+            raise
+        if is_last:
+            self.has_failed = True
+            self.shut()
+        self._under_way = None
         return answer
 
-    def _send(self, request: bytes) -> int:
-        """Sends a frame, but for what is left of it once its answer comes: a server that has no
-        memory for a request does not read it. How many bytes are left."""
-        rest = memoryview(request)
-        while rest:
+    def _send(self, call: Call) -> int:
+        """Sends what is left of a frame, but for the rest once its answer comes: a server that has
+        no memory for a request does not read it. How many bytes that is."""
+        while True:
+            rest = memoryview(call.request)[sum(call.sent) :]
+            if not rest:
+                return 0
             try:
-                rest = rest[self._socket.send(rest, _AT_ONCE) :]
+                # One call for both: a signal handler runs before the bytes are sent, or after
+                # their number is noted, and not between.
+                call.sent.extend(map(self._socket.send, (rest,), (_AT_ONCE,)))
             except BlockingIOError:
                 waiting = select.poll()
                 waiting.register(self._socket, select.POLLIN | select.POLLOUT)
                 if any(events & select.POLLIN for _, events in waiting.poll()):
-                    break
-        return len(rest)
+                    return len(rest)
 
-    def receive(self) -> bytes:
-        """The answer that is owed. Where it is the last one, the channel is closed."""
-        owed = self._owed
-        assert owed is not None
-        try:
-            length = frames.length(self._until(owed, 4)[:4])
-            if not 1 <= length <= frames.LONGEST_ANSWER:
-                frames.bad_answer()
-            answer = self._until(owed, 4 + length)
-            if len(answer) != 4 + length:
-                frames.bad_answer()
-        except (OSError, Error):
-            self.has_failed = True
-            raise
-        self._owed = None
-        if answer[4] in LAST:
-            self.has_failed = True
-            self.shut()
+    def _receive(self, call: Call) -> bytes:
+        """The answer. Where it is the last one, the channel is closed."""
+        length = frames.length(self._until(call.came, 4)[:4])
+        if not 1 <= length <= frames.LONGEST_ANSWER:
+            frames.bad_answer()
+        answer = self._until(call.came, 4 + length)
+        if len(answer) != 4 + length:
+            frames.bad_answer()
         return answer[4:]
 
-    def _until(self, owed: List[bytes], count: int) -> bytes:
-        """All that came, once that are `count` bytes. It stays in `owed`."""
-        have = sum(map(len, owed))
-        while have < count:
-            room = max(count - have, _READ_AT_ONCE)
-            # One call for both: a signal handler runs before the bytes are taken, or after they
-            # are kept, and not between.
-            owed.extend(map(self._socket.recv, (room,)))
-            if not owed[-1]:
+    def _until(self, came: List[bytes], count: int) -> bytes:
+        """All that came, once that are `count` bytes. It stays in `came`."""
+        while sum(map(len, came)) < count:
+            room = max(count - sum(map(len, came)), _READ_AT_ONCE)
+            came.extend(map(self._socket.recv, (room,)))  # one call for both, as where it sends
+            if not came[-1]:
                 raise ConnectionResetError
-            have += len(owed[-1])
-        return b"".join(owed)
+        return b"".join(came)
 
     def shut(self) -> None:
         """Ends the channel, also for processes that have copies of its descriptor."""
@@ -158,22 +212,13 @@ class Channel:
         self._socket.close()
 
 
-class Lease:
-    """A call's right to a channel, from when it asks for one until it is over.
-
-    A channel has the last lease that it was given to, and is free once that is over. So whatever
-    exception ends a call, and wherever, no channel is lost.
-    """
-
-    __slots__ = ("is_over", "has_channel")
-
-    def __init__(self) -> None:
-        self.is_over = False
-        self.has_channel = False
-
-
 class Server:
-    """A running server, which has one database open. Any thread may ask it."""
+    """A running server, which has one database open. Any thread may ask it.
+
+    Calls stand in a line. The first one that has no channel takes one that no call before it has,
+    and is woken for that. There is no lock that an interrupted call could keep: a call is added, is
+    given its channel, and is over by one step of the interpreter each, and never goes back.
+    """
 
     def __init__(self, program: str, path: bytes, channels: int, workers: int, flags: int) -> None:
         if not 1 <= channels <= 62:
@@ -182,12 +227,15 @@ class Server:
             raise ValueError("workers must be 0 to 16")
         if len(path) > LONGEST_PATH:
             raise ValueError(f"the path has more than {LONGEST_PATH} bytes")
-        self._changed = threading.Condition()
-        self._waiting: Deque[Lease] = deque()  # who came first is served first
+        self._line: List[Call] = []
         self._is_closed = False
         self._is_forked = False
+        self._closing = threading.Lock()  # on which `close` waits
+        self._closing.acquire()
+        self._status_until: Optional[float] = None
+        self._path = path
         ours, self._process = _start(program, path, channels, workers, flags)
-        self._channels = [Channel(end, end is ours[0]) for end in ours]
+        self._channels = [Channel(end) for end in ours]
         try:
             self._opened()
         except BaseException:
@@ -196,59 +244,120 @@ class Server:
         _servers.add(self)
 
     def _opened(self) -> None:
+        """Waits for the answer to the opening, which was sent by another way."""
+        lease = Lease()
         try:
-            _body(self._channels[0].receive())
-        except OSError:
+            self._body(self._channels[0].exchange(Call(b"", lease)), b"")
+        except AnswerMissed:
             raise self._ended() from None
 
     def ask(self, request: bytes) -> bytes:
         """What follows the status in the answer to a request. Waits for a free channel."""
         framed = frames.frame(request)
-        if self._is_forked:  # another thread may have had the lock as the process was forked
-            raise _closed()
         while True:
             lease = Lease()
+            call = Call(framed, lease)
             try:
-                return _body(self._take(lease).exchange(framed))
+                return self._body(self._take(call).exchange(call), request)
             except ChannelEnded:
                 continue
-            except OSError:
+            except AnswerMissed:
                 raise self._ended() from None
             finally:
                 lease.is_over = True
-                with self._changed:
-                    self._changed.notify_all()
+                self._leave(call)
 
-    def _take(self, lease: Lease) -> Channel:
-        with self._changed:
-            self._waiting.append(lease)
-            while True:
-                if self._is_closed:
-                    raise _closed()
-                living = [channel for channel in self._channels if not channel.is_broken]
-                if not living:
-                    break
-                if self._is_first(lease):
-                    for channel in living:
-                        if channel.is_free:
-                            channel.lease = lease
-                            lease.has_channel = True
-                            return channel
-                self._changed.wait(_AT_LATEST)
-        raise self._ended()
+    def _take(self, call: Call) -> Channel:
+        """A channel of this call's own, on which nothing is under way."""
+        self._line.append(call)
+        channel = self._choose(call)
+        while channel is None:
+            self._sleep(call)
+            channel = self._choose(call)
+        call.channel = channel
+        if self.is_closed:
+            raise _closed()
+        self._wake()  # the next one may find another channel
+        if channel.is_left:
+            channel.finish()
+            self._wake()  # a write may have waited for that
+        return channel
 
-    def _is_first(self, lease: Lease) -> bool:
-        """Whether nobody waits who came before this lease."""
-        while self._waiting[0].is_over or self._waiting[0].has_channel:
-            self._waiting.popleft()
-        return self._waiting[0] is lease
+    def _choose(self, call: Call) -> Optional[Channel]:
+        """A free channel, if it is this call's turn and there is one.
+
+        A write takes the channel of a write that was interrupted, so that it comes behind it. Other
+        calls leave such channels to the last.
+        """
+        if self.is_closed:
+            raise _closed()
+        living = [channel for channel in self._channels if not channel.has_failed]
+        if not living:
+            raise self._ended()
+        taken = self._taken_before(call)
+        if taken is None:
+            return None
+        if call.is_write and any(channel.is_left_write for channel in living):
+            living = [channel for channel in living if channel.is_left_write]
+        free = [channel for channel in living if channel not in taken]
+        free.sort(key=lambda channel: channel.is_left)
+        return free[0] if free else None
+
+    def _taken_before(self, call: Call) -> Optional[Set[Channel]]:
+        """The channels of the calls before this one; None where one of these has none yet."""
+        taken: Set[Channel] = set()
+        for other in self._line.copy():
+            if other is call:
+                break
+            if other.is_over:
+                self._remove(other)  # it was interrupted where it left
+            elif other.channel is None:
+                return None
+            else:
+                taken.add(other.channel)
+        return taken
+
+    def _sleep(self, call: Call) -> None:
+        if call.woken is None:
+            call.woken = threading.Lock()
+            call.woken.acquire()  # and looks once more, as it may have been its turn before
+        else:
+            call.woken.acquire(True, _AT_LATEST)
+
+    def _leave(self, call: Call) -> None:
+        self._remove(call)
+        self._wake()
+
+    def _remove(self, call: Call) -> None:
+        try:
+            self._line.remove(call)
+        except ValueError:
+            pass  # another one did
+
+    def _wake(self) -> None:
+        """Wakes the first call that waits, if one does."""
+        if self._is_closed:
+            _release(self._closing)
+        for call in self._line.copy():
+            if call.channel is None and not call.is_over:
+                return call.wake()
+
+    def _body(self, answer: bytes, request: bytes) -> bytes:
+        """What follows the status 0; another status is raised."""
+        status = answer[0]
+        if status == 0:
+            return answer[1:]
+        raise _refusal(status, answer[1:], request, os.fsdecode(self._path))
 
     def _ended(self) -> Ended:
+        """Why no channel is left. The first time it waits a little for the server's end."""
         for channel in self._channels:
-            if channel.is_broken:
+            if channel.has_failed:
                 channel.shut()
+        if self._status_until is None:
+            self._status_until = time.monotonic() + _UNTIL_STATUS
         try:
-            return Ended(self._process.wait(_UNTIL_STATUS))
+            return Ended(self._process.wait(max(0, self._status_until - time.monotonic())))
         except subprocess.TimeoutExpired:
             return Ended()
 
@@ -264,13 +373,13 @@ class Server:
         """Waits for the calls under way, and then for the server's end; kills it after a minute."""
         if self._is_forked:
             return
-        with self._changed:
-            self._is_closed = True
-            self._changed.notify_all()
-            while not all(channel.is_free for channel in self._channels):
-                self._changed.wait(_AT_LATEST)
-            for channel in self._channels:
-                channel.shut()
+        self._is_closed = True
+        for call in self._line.copy():
+            call.wake()
+        while any(not call.is_over and call.channel is not None for call in self._line.copy()):
+            self._closing.acquire(True, _AT_LATEST)
+        for channel in self._channels:
+            channel.shut()
         try:
             self._process.wait(_UNTIL_END)
         except subprocess.TimeoutExpired:
@@ -285,24 +394,30 @@ class Server:
             channel.forget()
 
 
+def _refusal(status: int, name: bytes, request: bytes, path: str) -> Error:
+    """Why a request was answered by this status."""
+    named = name.decode("utf-8", "replace") or NAMES.get(status, "Refused")
+    if status == UNANSWERED:
+        return Error(status, named, REASONS[status])
+    if status == TOO_LARGE:
+        return TooLarge(*frames.excess(request), path)
+    return refused(status, named, path)
+
+
+def _release(lock: threading.Lock) -> None:
+    try:
+        lock.release()
+    except RuntimeError:
+        pass  # it was released before
+
+
 def _closed() -> Closed:
     return Closed("the database is not open in this process")
 
 
-def _body(answer: bytes) -> bytes:
-    """What follows the status 0; another status is raised."""
-    status = answer[0]
-    if status == 0:
-        return answer[1:]
-    name = answer[1:].decode("utf-8", "replace") or NAMES.get(status, "Refused")
-    if status == UNANSWERED:
-        raise Error(status, name, "no memory for the answer: whether it was done is not known")
-    raise Refused(status, name)
-
-
 def _start(
     program: str, path: bytes, channels: int, workers: int, flags: int
-) -> "tuple[List[socket.socket], subprocess.Popen[bytes]]":
+) -> "Tuple[List[socket.socket], subprocess.Popen[bytes]]":
     """Starts the server, with the opening request on its standard input. It gets a session of its
     own, so that signals from the terminal (as Ctrl-C) do not reach it."""
     ours: List[socket.socket] = []
@@ -344,8 +459,9 @@ def _start(
 
 
 def _following(ends: List[socket.socket]) -> List[int]:
-    """Copies of the descriptors, whose numbers follow one another. Only free numbers are taken."""
-    first = 64
+    """Copies of the descriptors, whose numbers follow one another. Only free numbers are taken, the
+    lowest ones: a process may have few."""
+    first = 3
     while True:
         copies: List[int] = []
         for number, end in enumerate(ends, first):

@@ -9,7 +9,7 @@ ghost use Rattle.lsm_storage.specs.FileShelf.{folder_of, file_told};
 
 use crate::account::Account;
 use crate::file::fault::device;
-use lsm_folder::{FolderCalls, SystemFolder};
+use lsm_folder::{FolderCalls, SystemFolder, Witness};
 use lsm_shelf::ShelfFault;
 use std::fs::{File, Files};
 
@@ -20,7 +20,7 @@ use std::fs::{File, Files};
 /// which order (`calls`), and for each refusal how far it came, and which refusal of which call of
 /// the folder it comes from (`stopped`). That reads answer what was written is the premise
 /// `Shelf::honest`, that the folders of the type are honest: proved of the folder in memory, and of
-/// the system's a premise. Forks are values on the same folder.
+/// the system's with a witness that compares. Forks are values on the same folder.
 pub struct FileShelf<C: FolderCalls> {
     pub(crate) folder: C,
     pub(crate) account: Account,
@@ -35,8 +35,8 @@ impl<C: FolderCalls> Drop for FileShelf<C> {
     }
 }
 
-/// A shelf on a folder of the system.
-pub type SystemShelf<R> = FileShelf<SystemFolder<R>>;
+/// A shelf on a folder of the system, of whose reads a witness lets through what it saw.
+pub type SystemShelf<R, W> = FileShelf<SystemFolder<R, W>>;
 
 impl<C: FolderCalls> FileShelf<C> {
     /// A shelf on this folder.
@@ -51,9 +51,11 @@ impl<C: FolderCalls> FileShelf<C> {
     }
 }
 
-impl<R: Files<File = File> + AllocGlobal + Clone + Drop> FileShelf<SystemFolder<R>> {
+impl<R: Files<File = File> + AllocGlobal + Clone + Drop, W: Witness>
+    FileShelf<SystemFolder<R, W>>
+{
     /// A shelf on the folder of this path. `Device` where it is no folder that can be opened.
-    pub fn open(rt: R, path: &str) -> Result<FileShelf<SystemFolder<R>>, ShelfFault>
+    pub fn open(rt: R, path: &str) -> Result<FileShelf<SystemFolder<R, W>>, ShelfFault>
         ensures calls { IfOk result (λ s. system_calls (folder_of s) ≡ opened ∷ []) }
         ensures place { IfOk result (λ s. IsAtPath path.now (system_place (folder_of s))) }
         ensures fresh { IfOk result (λ s.

@@ -11,14 +11,14 @@ use Rattle.lsm_table.proofs.check.judge_rest.Goals as goal
 pub returns-clause-held : goal.returns-clause-held
 returns-clause-held c =
     let file = c.args.file.now in
-    let read : settled (data_at c.parts-block.result.0.now None c.parts-block.result.1.entries) ≡ well = c.in_ok-judge_data.ensures in
+    let read : settled (data_at c.parts-block.result.0.now 0 None c.parts-block.result.1.entries) ≡ well = c.in_ok-judge_data.ensures in
     let whole = sym (rest_of_table file c.parts-block.result.0.now c.parts-block.result.1.entries c.parts-block.ensures.body c.parts-block.ensures.index) ∙ read in
     held_well file c.args.index (λ i. omega (arith, c.type_inv.file i)) whole c.requires
 
 pub returns-clause-exact : goal.returns-clause-exact
 returns-clause-exact c =
     let file = c.args.file.now in
-    let read : settled (data_at c.parts-block.result.0.now None c.parts-block.result.1.entries) ≡ well = c.in_ok-judge_data.ensures in
+    let read : settled (data_at c.parts-block.result.0.now 0 None c.parts-block.result.1.entries) ≡ well = c.in_ok-judge_data.ensures in
     reads_well file (sym (rest_of_table file c.parts-block.result.0.now c.parts-block.result.1.entries c.parts-block.ensures.body c.parts-block.ensures.index) ∙ read)
 
 pub returns-in_err-judge_data-clause-exact : goal.returns-in_err-judge_data-clause-exact

@@ -1,0 +1,157 @@
+"""Why a call was not done: the class, the number, and what the text says."""
+
+import mmap
+import os
+import pickle
+
+import pytest
+
+import tiswenor
+from tiswenor import errors
+
+KIB, MIB, GIB = 1 << 10, 1 << 20, 1 << 30
+
+
+def raised(call, *arguments, **options) -> tiswenor.Error:
+    with pytest.raises(tiswenor.Error) as error:
+        call(*arguments, **options)
+    return error.value
+
+
+def filled(folder, *batches):
+    with tiswenor.DB(folder, create_if_missing=True) as db:
+        for number in range(3):
+            with db.write_batch() as batch:
+                for key in range(200):
+                    batch.put(b"%d %03d" % (number, key), os.urandom(50))
+
+
+def change(folder, ending, at):
+    """Turns one byte of a file."""
+    path = next(path for path in sorted(folder.iterdir()) if ending in path.name)
+    content = bytearray(path.read_bytes())
+    content[at] ^= 1
+    path.write_bytes(content)
+
+
+@pytest.mark.parametrize("ending, at", [(".ldb", 1000), ("MANIFEST", 30)])
+def test_damage(folder, ending, at):
+    """A damaged table is found as it is read, or as the folder is opened."""
+    filled(folder)
+    change(folder, ending, at)
+
+    def read():
+        with tiswenor.DB(folder) as db:
+            return list(db)
+
+    error = raised(read)
+    assert type(error) is tiswenor.CorruptionError
+    assert error.path == str(folder)
+    assert error.number in errors.DAMAGES
+    assert str(error) == f"{error.number} {error.name}: {folder}: files of the database are damaged"
+
+
+def test_lost_table(folder):
+    filled(folder)
+    next(path for path in folder.iterdir() if path.suffix == ".ldb").unlink()
+    error = raised(lambda: list(tiswenor.DB(folder)))
+    assert type(error) is tiswenor.CorruptionError
+    assert (error.number, error.name) == (10, "Missing")
+
+
+def test_folder_in_use(folder, db):
+    error = raised(tiswenor.DB, folder)
+    assert type(error) is tiswenor.IOError
+    assert isinstance(error, (tiswenor.Refused, OSError))
+    assert error.filename == error.path == str(folder)
+    assert error.errno is None
+    assert str(error) == f"52 Locked: {folder}: another program has the database open"
+
+
+def test_folder_that_is_a_file(folder):
+    folder.write_bytes(b"")
+    error = raised(tiswenor.DB, folder)
+    assert type(error) is tiswenor.IOError
+    assert str(error) == f"9 Device: {folder}: a call of the system failed"
+
+
+def test_no_database(folder):
+    folder.mkdir()
+    error = raised(tiswenor.DB, folder)
+    assert type(error) is tiswenor.Refused
+    assert error.path == str(folder)
+    assert str(error).startswith(f"202 NoDatabase: {folder}: there is no database")
+
+
+@pytest.mark.parametrize(
+    "writes, what, size, limit",
+    [
+        ([(b"k" * 4097, b"")], "bytes of a key", 4097, 4 * KIB),
+        ([(b"a", b""), (b"k", bytes(MIB + 1))], "bytes of a value", MIB + 1, MIB),
+        ([(b"%d" % n, b"") for n in range(65537)], "writes of a batch", 65537, 65536),
+        (
+            [(b"%d" % n, bytes(MIB)) for n in range(5)],
+            "bytes of a batch's keys and values",
+            5 * MIB + 5,
+            4 * MIB,
+        ),
+        ([(b"%d" % n, bytes(MIB)) for n in range(9)], "bytes of a request", 9437275, 8 * MIB),
+    ],
+)
+def test_limits_of_writes(db, folder, writes, what, size, limit):
+    batch = db.write_batch()
+    for key, value in writes:
+        batch.put(key, value)
+    error = raised(batch.write)
+    assert type(error) is tiswenor.TooLarge
+    assert (error.number, error.name) == (39, "TooLarge")
+    assert (error.what, error.size, error.limit) == (what, size, limit)
+    assert str(error).endswith(f"{what}: {size} of at most {limit}")
+    assert list(db) == []
+
+
+def test_limit_of_answers(db):
+    db.put(b"key", bytes(MIB))
+    error = raised(db.get_many, [b"key"] * 17)
+    assert (error.what, error.size, error.limit) == ("bytes of an answer", None, 16 * MIB)
+    assert db.get(b"key") == bytes(MIB)
+
+
+def test_bytes_that_no_length_tells(db):
+    """Four bytes tell a length: 4 GiB are refused, before they are copied."""
+    try:
+        long = bytes(4 * GIB)
+        view = memoryview(mmap.mmap(-1, 4 * GIB, mmap.MAP_PRIVATE | mmap.MAP_ANONYMOUS))
+    except (MemoryError, OSError):
+        pytest.skip("no room for 4 GiB, also where they are not touched")
+    batch = db.write_batch()
+    for content in (long, view):
+        for call in (
+            lambda: db.put(b"key", content),
+            lambda: db.put(content, b"value"),
+            lambda: db.delete(content),
+            lambda: db.get(content),
+            lambda: list(db.iterator(start=content)),
+            lambda: batch.put(b"key", content),
+        ):
+            error = raised(call)
+            assert type(error) is tiswenor.TooLarge
+            assert (error.size, error.limit) == (4 * GIB, 8 * MIB)
+    batch.write()
+    assert list(db) == []
+
+
+def test_errors_are_copied():
+    for error in (
+        tiswenor.Error(250, "NoServer", "nowhere"),
+        tiswenor.Refused(40, "LevelZeroFull", "full", "/db"),
+        tiswenor.IOError(9, "Device", "failed", "/db"),
+        tiswenor.CorruptionError(15, "BadChecksum", "damaged", "/db"),
+        tiswenor.TooLarge("bytes of a key", 5000, 4096, "/db"),
+        tiswenor.Closed("closed"),
+        tiswenor.Ended(-9),
+    ):
+        copy = pickle.loads(pickle.dumps(error))
+        assert type(copy) is type(error)
+        assert str(copy) == str(error)
+        assert vars(copy) == vars(error)

@@ -1,0 +1,28 @@
+//! Who sees the reads of a run.
+
+ghost use Rattle.std.specs.Prelude.{◌≡◌, ◌+◌, ◌≤◌, ℕ, List, length, IfOk, IsTrue};
+
+use std::alloc::{AllocError, Global};
+
+/// Sees each read of a part that the system answers, before it is passed on. The folder is generic
+/// in it, so what is proved of a folder is proved with each witness; what a witness that compares
+/// lets through is the file's (`Images`), and the program's lets all through (`Mute`).
+pub trait Witness {
+    /// What it keeps of the bytes of a file that was made or read whole.
+    type Kept: Drop;
+
+    /// Those bytes.
+    ghost image: { Self.Kept → List ℕ };
+
+    /// In this run a read of `len` bytes at `offset` of a file of this image was answered so.
+    ghost happened: { (image : List ℕ) (offset len : ℕ) (bytes : List ℕ) → Type 0 };
+
+    /// Keeps a file's bytes.
+    fn keep(alloc: Global, bytes: &[u8]) -> Result<Self::Kept, AllocError>
+        ensures { IfOk result (λ k. image k ≡ bytes.now) };
+
+    /// Whether the answer to a read is passed on.
+    fn saw(kept: &Self::Kept, offset: usize, len: usize, bytes: &[u8]) -> bool
+        requires inside { offset + len ≤ length (image kept.now) }
+        ensures { IsTrue result → happened (image kept.now) offset len bytes.now };
+}
