@@ -8,6 +8,7 @@
 #   form.py       the pages of the book and of crates are short, drawings are well-formed, as scripts
 #                 draw them, and each is shown; all code is in fences
 #   links.py      of every page of the repository: each link leads to a file, and to a heading of it
+#   refusals.py   the table of refusals of docs/FORMATS.md has the numbers and names of the code
 #
 # Names of pages as words choose which pages' sessions and code are looked at. Runs the proved
 # program, or else the unproved build, which is made first where it is not there (some minutes);
@@ -48,5 +49,6 @@ count sessions python3 "$here/sessions.py" "$program" "${pages[@]}"
 count code python3 "$here/code.py" "${code[@]}"
 count form python3 "$here/form.py" "${code[@]}"
 count links python3 "$here/links.py"
+count refusals python3 "$here/refusals.py"
 echo "$passed passed, $failed failed"
 ((failed == 0))
