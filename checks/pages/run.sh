@@ -15,6 +15,7 @@
 #   checks.py     checks/README.md has each check of checks/checks.txt, and FIGURES.md no other
 #   definitions   the table in docs/PROVED.md of what a reader has to believe is as tools/definitions
 #                 makes it
+#   refusals.py   the table of refusals of docs/FORMATS.md has the numbers and names of the code
 #
 # Names of pages as words choose which pages' sessions and code are looked at. Runs the proved
 # program, or else the unproved build, which is made first where it is not there (some minutes);
@@ -63,5 +64,6 @@ count form python3 "$here/form.py" "${code[@]}"
 count links python3 "$here/links.py"
 count checks python3 "$here/checks.py"
 count definitions python3 "$top/tools/definitions" --check
+count refusals python3 "$here/refusals.py"
 echo "$passed passed, $failed failed"
 ((failed == 0))

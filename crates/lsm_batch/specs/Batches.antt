@@ -10,6 +10,7 @@ use Rattle.lsm_codec.specs.Entries.{Entry}
 use Rattle.lsm_codec.specs.Keys.{UserKey}
 use Rattle.lsm_codec.specs.declared.kind.Kind.{Kind}
 use Rattle.lsm_codec.specs.declared.kind.Kind.TheVariants.{Deletion, Value}
+use Rattle.lsm_batch.specs.Limits.{most_bytes, most_entries, most_key, most_value}
 use Rattle.lsm_batch.specs.declared.batch_fault.BatchFault.{BatchFault}
 use Rattle.lsm_batch.specs.declared.batch_fault.BatchFault.TheVariants.{EmptyBatch, KeyOrder}
 use Rattle.lsm_batch.specs.declared.batch_fault.BatchFault.TheVariants.{TooLarge}
@@ -26,14 +27,14 @@ value_of (Some value) = value
 abbrev pub size_of : Write → ℕ
 size_of w = length w.key + length (value_of w.value)
 
--- the key is over 4,096 bytes, or the value over 1 MiB
+-- the key or the value is over its limit
 abbrev pub IsLarge : Write → Type 0
-IsLarge w = (4096 < length w.key) ⊎ (1048576 < length (value_of w.value))
+IsLarge w = (most_key < length w.key) ⊎ (most_value < length (value_of w.value))
 
--- over 65,536 entries, over 4 MiB of keys and values, or a key or a value over its limit
+-- too many entries, too many bytes of keys and values, or a key or a value over its limit
 abbrev pub IsTooLarge : List Write → Type 0
-IsTooLarge ws = (65536 < length ws)
-    ⊎ ((4194304 < sum_by size_of ws) ⊎ ((w : Write) × Has ws w × IsLarge w))
+IsTooLarge ws = (most_entries < length ws)
+    ⊎ ((most_bytes < sum_by size_of ws) ⊎ ((w : Write) × Has ws w × IsLarge w))
 
 -- ---- order
 

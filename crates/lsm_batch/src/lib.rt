@@ -14,5 +14,6 @@ mod write;
 
 pub use batch::Batch;
 pub use batch_fault::BatchFault;
+pub use limits::{MOST_BYTES, MOST_ENTRIES, MOST_KEY, MOST_VALUE};
 pub use lsm_table::TableImage;
 pub use write::Write;

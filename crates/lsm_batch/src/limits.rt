@@ -1,33 +1,21 @@
 //! The limits of a batch, and the order of its keys.
 
-ghost use Rattle.std.specs.Prelude.{◌≡◌, ◌↔◌, ◌<◌, ◌^◌, length, IsTrue, IfSome, IfNone};
-ghost use Rattle.lsm_batch.specs.Batches.{IsLarge, IsLess, IsMisplaced, IsTooLarge, KeysRise};
-ghost use Rattle.lsm_batch.specs.Batches.{size_of};
+ghost use Rattle.std.specs.Prelude.{◌≡◌, ◌↔◌, length, IsTrue, IfSome, IfNone};
+ghost use Rattle.lsm_batch.specs.Batches.{IsLess, IsMisplaced, IsTooLarge, KeysRise};
 
 use crate::write::Write;
 
-// The most entries of a batch.
-const MOST_ENTRIES: usize = 65_536;
-// The most bytes of the keys and values of a batch.
-const MOST_BYTES: usize = 4_194_304;
-// The most bytes of a key, and of a value.
-const MOST_KEY: usize = 4_096;
+/// The most entries of a batch.
+pub const MOST_ENTRIES: usize = 65_536;
 
-const MOST_VALUE: usize = 1_048_576;
+/// The most bytes of the keys and values of a batch together, 4 MiB.
+pub const MOST_BYTES: usize = 4_194_304;
 
-// How many bytes key and value have, none where one of them is over its limit.
-fn fitting_size(write: &Write) -> Option<usize>
-    ensures size { IfSome result (λ n. n ≡ size_of write.now) }
-    ensures small { IfSome result (λ n. (IsLarge write.now → ⊥) × (n < 2 ^ 21)) }
-    ensures large { IfNone result (IsLarge write.now) }
-{
-    let key = write.key.as_slice().len();
-    let value = write.bytes().len();
-    if key > MOST_KEY || value > MOST_VALUE {
-        return None;
-    }
-    Some(key + value)
-}
+/// The most bytes of a key.
+pub const MOST_KEY: usize = 4_096;
+
+/// The most bytes of a value, 1 MiB.
+pub const MOST_VALUE: usize = 1_048_576;
 
 // Whether a batch is over a limit.
 pub(crate) fn is_too_large(writes: &[Write]) -> bool
@@ -38,7 +26,7 @@ pub(crate) fn is_too_large(writes: &[Write]) -> bool
     }
     let mut bytes = 0;
     for write in writes {
-        let Some(size) = fitting_size(write) else {
+        let Some(size) = write.fitting_size() else {
             return true;
         };
         bytes += size;

@@ -1,10 +1,11 @@
 //! What a batch does to one key.
 
-ghost use Rattle.std.specs.Prelude.{◌≡◌, ◌<◌, ◌^◌};
+ghost use Rattle.std.specs.Prelude.{◌≡◌, ◌<◌, ◌^◌, IfNone, IfSome};
 ghost use Rattle.lsm_codec.specs.KeyRef.{key_of};
 ghost use Rattle.lsm_codec.specs.Entries.{internal_key};
-ghost use Rattle.lsm_batch.specs.Batches.{kind_of, value_of, written_at};
+ghost use Rattle.lsm_batch.specs.Batches.{IsLarge, kind_of, size_of, value_of, written_at};
 
+use crate::limits::{MOST_KEY, MOST_VALUE};
 use lsm_codec::{Bytes, KeyRef, Kind};
 
 /// What a batch does to one user key.
@@ -47,5 +48,19 @@ impl Write {
             Some(value) => value.as_slice(),
             None => b"".as_slice(),
         }
+    }
+
+    /// How many bytes key and value have. None where one of them is over its limit.
+    pub fn fitting_size(&self) -> Option<usize>
+        ensures size { IfSome result (λ n. n ≡ size_of self.now) }
+        ensures small { IfSome result (λ n. (IsLarge self.now → ⊥) × (n < 2 ^ 21)) }
+        ensures large { IfNone result (IsLarge self.now) }
+    {
+        let key = self.key.as_slice().len();
+        let value = self.bytes().len();
+        if key > MOST_KEY || value > MOST_VALUE {
+            return None;
+        }
+        Some(key + value)
     }
 }

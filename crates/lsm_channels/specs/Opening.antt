@@ -3,7 +3,7 @@ use Rattle.std.specs.Prelude.{◌≡◌, ◌⊎◌, Bool, true, false, List}
 use Rattle.lsm_directory.specs.declared.folder.folder_file.FolderFile.{FolderFile}
 use Rattle.lsm_folder.specs.Calls.{Call}
 use Rattle.lsm_text.specs.declared.form.Form.TheVariants.{Hex}
-use Rattle.lsm_text.specs.declared.ingest_options.IngestOptions.{IngestOptions}
+use Rattle.lsm_requests.specs.declared.ingest_options.IngestOptions.{IngestOptions}
 use Rattle.lsm_cmd_write.specs.Preparing.{IsPrepared, IsUnprepared}
 use Rattle.lsm_cmd_write.specs.declared.ingesting.start.Start.{Start}
 use Rattle.lsm_cmd_write.specs.declared.ingesting.start.Start.TheVariants.{Open, Begin}

@@ -14,8 +14,9 @@ use lsm_cmd_write::{Prepared, Start, WriterFault, prepare};
 use lsm_directory::{Paths, open_at};
 use lsm_folder::{FolderCalls, Reasons};
 use lsm_frames::Opening;
+use lsm_requests::IngestOptions;
 use lsm_storage::FileShelf;
-use lsm_text::{Form, IngestOptions};
+use lsm_text::Form;
 use std::sync::Wait;
 use std::thread::Threads;
 

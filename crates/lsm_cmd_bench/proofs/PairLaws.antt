@@ -8,7 +8,7 @@ use Rattle.lsm_lines.proofs.CallerLemmas.{cut_more, cut_none}
 use Rattle.lsm_bulk_load.specs.Coming.{ComesNext}
 use Rattle.lsm_bulk_load.specs.Marks.{Marked}
 use Rattle.lsm_bulk_load.proofs.CallerLemmas.{came_more, came_none}
-use Rattle.lsm_text.specs.declared.benchmark.Benchmark.{Benchmark}
+use Rattle.lsm_requests.specs.declared.benchmark.Benchmark.{Benchmark}
 use Rattle.lsm_cmd_bench.specs.Filled.{Fills, Runs, RunsAll}
 use Rattle.lsm_cmd_bench.specs.Pairs.{ArePairs, IsPairAt}
 

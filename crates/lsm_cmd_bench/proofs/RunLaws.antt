@@ -5,8 +5,8 @@ use Rattle.lsm_folder.specs.Calls.{AreHonest}
 use Rattle.lsm_folder.specs.declared.folder_calls.FolderCalls.{Ghosts}
 use Rattle.lsm_state.specs.Held.{Held}
 use Rattle.lsm_storage.specs.declared.file.file_shelf.FileShelf.{FileShelf}
-use Rattle.lsm_text.specs.declared.bench_options.BenchOptions.{BenchOptions}
-use Rattle.lsm_text.specs.declared.benchmark.Benchmark.{Benchmark}
+use Rattle.lsm_requests.specs.declared.bench_options.BenchOptions.{BenchOptions}
+use Rattle.lsm_requests.specs.declared.benchmark.Benchmark.{Benchmark}
 use Rattle.lsm_directory.specs.Folders.{IsShelfAt, told_by}
 use Rattle.lsm_directory.specs.Logs.{NoneUnread}
 use Rattle.lsm_directory.specs.declared.folder.folder_file.FolderFile.{FolderFile}

@@ -7,9 +7,9 @@ use Rattle.lsm_folder.specs.declared.folder_calls.FolderCalls.{Ghosts}
 use Rattle.lsm_shelf.specs.Told.{Forked, Told}
 use Rattle.lsm_state.specs.Held.{Held, IsLawfulState}
 use Rattle.lsm_storage.specs.declared.file.file_shelf.FileShelf.{FileShelf}
-use Rattle.lsm_text.specs.declared.bench_options.BenchOptions.{BenchOptions}
+use Rattle.lsm_requests.specs.declared.bench_options.BenchOptions.{BenchOptions}
 use Rattle.lsm_text.specs.declared.form.Form.TheVariants.{Hex}
-use Rattle.lsm_text.specs.declared.ingest_options.IngestOptions.{IngestOptions}
+use Rattle.lsm_requests.specs.declared.ingest_options.IngestOptions.{IngestOptions}
 use Rattle.lsm_directory.specs.Folders.{IsShelfAt, told_by}
 use Rattle.lsm_directory.specs.Logs.{NoneUnread}
 use Rattle.lsm_directory.specs.declared.folder.folder_file.FolderFile.{FolderFile}

@@ -4,8 +4,8 @@ use Rattle.lsm_batch.specs.declared.write.Write.{Write}
 use Rattle.lsm_lines.specs.Cuts.{IsCut}
 use Rattle.lsm_bulk_load.specs.Coming.{CameIn}
 use Rattle.lsm_bulk_load.specs.Marks.{Marked}
-use Rattle.lsm_text.specs.declared.benchmark.Benchmark.{Benchmark}
-use Rattle.lsm_text.specs.declared.benchmark.Benchmark.TheVariants as benchmark
+use Rattle.lsm_requests.specs.declared.benchmark.Benchmark.{Benchmark}
+use Rattle.lsm_requests.specs.declared.benchmark.Benchmark.TheVariants as benchmark
 use Rattle.lsm_cmd_bench.specs.Pairs.{ArePairs}
 
 -- So many pairs were cut into batches, of each of which the last write of each key came in, in

@@ -2,16 +2,13 @@
 -- `benchmarks/db_bench.cc`).
 use Rattle.std.specs.Prelude.{◌≡◌, ℕ, zero, suc, ◌+◌, ◌/◌, ◌%◌, ◌<◌, ◌≤◌, ⊤, Bool, IsTrue, List, []}
 use Rattle.std.specs.Prelude.{◌∷◌, ◌++◌, length, Some}
+use Rattle.lsm_batch.specs.Limits.{most_value}
 use Rattle.lsm_batch.specs.declared.write.Write.{Write}
 
 -- the last decimal digits of a number, so many
 abbrev pub digits : ℕ → ℕ → List ℕ
 digits zero n = []
 digits (suc w) n = digits w (n / 10) ++ ((48 + n % 10) ∷ [])
-
--- the most bytes of a value, 1 MiB
-abbrev pub most_value : ℕ
-most_value = 1048576
 
 -- The key of this number gets a value of so many bytes, where a batch may have one.
 pub record IsPairOf (size number : ℕ) (w : Write) : Type 0 where

@@ -8,20 +8,18 @@ use crate::draws::Draws;
 use crate::filling::{Filling, fill};
 use crate::reading::{Found, read_all, read_drawn};
 use crate::report::{Measured, write_line};
+use lsm_batch::MOST_ENTRIES;
 use lsm_bulk_load::{Grown, Mark, Origin};
+use lsm_requests::{BenchOptions, Benchmark};
 use lsm_slots::Boarded;
 use lsm_store::{Background, Reader, Store};
 use lsm_table::{NamedShelf, Shelf};
-use lsm_text::{BenchOptions, Benchmark};
 use std::alloc::Global;
 use std::io::Write;
 use std::rt::Clock;
 use std::sync::Wait;
 use std::thread::{Threads, join};
 use std::time::Instant;
-
-// The most writes of a batch.
-const MOST_WRITES: usize = 65_536;
 
 /// What benchmarks run on beside the store: a shelf for batches, readers, and what draws for the
 /// thread of the benchmarks, and for one beside it.
@@ -176,7 +174,7 @@ fn run_one<N: Boarded, S: Shelf, O: Origin, R: Threads + Wait + Sync>(
         }
         Benchmark::FillRandom | Benchmark::Overwrite => {
             let (shelf, draws) = (&mut tools.shelf, &mut tools.draws);
-            let filling = drawn(options, keys, MOST_WRITES);
+            let filling = drawn(options, keys, MOST_ENTRIES);
             fill(rt, alloc, store, background, shelf, filling, draws, mark)
         }
         Benchmark::ReadRandom => {

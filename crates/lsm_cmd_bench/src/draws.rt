@@ -1,7 +1,7 @@
 //! What is drawn: numbers, and values.
 
 ghost use Rattle.std.specs.Prelude.{◌≡◌, ◌<◌, ◌≤◌, length, IfOk};
-ghost use Rattle.lsm_cmd_bench.specs.Pairs.{most_value};
+ghost use Rattle.lsm_batch.specs.Limits.{most_value};
 
 use rand_core::utils::NextWord;
 use rand_pcg::Pcg32;
@@ -20,7 +20,7 @@ pub(crate) struct Draws {
 
 impl Model for Draws {
     ghost use Rattle.std.specs.Prelude.{◌≡◌, length};
-    ghost use Rattle.lsm_cmd_bench.specs.Pairs.{most_value};
+    ghost use Rattle.lsm_batch.specs.Limits.{most_value};
 
     ghost Value = { Unit {0} };
 

@@ -10,7 +10,7 @@ ghost use Rattle.lsm_cmd_bench.specs.Pairs.{ArePairs, IsPairAt};
 use crate::bench_fault::BenchFault;
 use crate::draws::Draws;
 use crate::key::key_of;
-use lsm_batch::{Batch, Write as KeyWrite};
+use lsm_batch::{Batch, MOST_BYTES, Write as KeyWrite};
 use lsm_bulk_load::{Grown, Mark, Origin, bring_in};
 use lsm_codec::Bytes;
 use lsm_lines::{PutFault, WriteBuffer};
@@ -20,9 +20,6 @@ use lsm_store::{Background, Store};
 use lsm_table::{NamedShelf, Shelf};
 use std::alloc::{AllocError, Global};
 use std::sync::Wait;
-
-// The most bytes of the keys and values of a batch.
-const MOST_BYTES: usize = 4_194_304;
 
 /// How pairs come in: so many, of so many keys, by ascending ones or by drawn ones, each with a
 /// value of so many bytes, and so many in a batch at most.

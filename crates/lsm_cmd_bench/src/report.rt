@@ -1,6 +1,6 @@
 //! What is printed.
 
-use lsm_text::{BenchOptions, Benchmark};
+use lsm_requests::{BenchOptions, Benchmark};
 use std::io::{self, Write};
 
 /// What a benchmark came to: how many operations, how many bytes of keys and values, and how many

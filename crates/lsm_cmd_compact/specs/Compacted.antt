@@ -9,7 +9,7 @@ use Rattle.lsm_folder.specs.declared.lock_kind.LockKind.TheVariants.{Exclusive}
 use Rattle.lsm_folder.specs.declared.mark.Mark as mark
 use Rattle.lsm_shelf.specs.Refusals.{MayRefuse}
 use Rattle.lsm_storage.specs.declared.file.file_shelf.FileShelf.{FileShelf}
-use Rattle.lsm_text.specs.declared.request.CompactLine.{CompactLine}
+use Rattle.lsm_requests.specs.declared.compact_line.CompactLine.{CompactLine}
 use Rattle.lsm_cmd_compact.specs.Compacting.{IsCompacted, IsNotCompacted}
 use Rattle.lsm_directory.specs.Folders.{IsShelfAt, stored_at, told_by}
 use Rattle.lsm_directory.specs.Holding.{IsHeld}

@@ -3,8 +3,8 @@ use Rattle.std.proofs.Common.{◌≡◌, ℕ, List, Option, Some, None, Result, 
 use Rattle.std.specs.Prelude.{IfErr, IfSome, OnErr}
 use Rattle.lsm_cmd_convert.specs.Converted.{Answers, BeginsAnswer, Explains}
 use Rattle.lsm_text.specs.Printing.{Begins}
-use Rattle.lsm_text.specs.declared.conversion.Conversion.{Conversion}
-use Rattle.lsm_text.specs.declared.conversion.Conversion.TheVariants.{MakeTable, Dump, Manifest}
+use Rattle.lsm_requests.specs.declared.conversion.Conversion.{Conversion}
+use Rattle.lsm_requests.specs.declared.conversion.Conversion.TheVariants.{MakeTable, Dump, Manifest}
 use Rattle.lsm_text.specs.declared.fault.Fault.{Fault}
 use Rattle.lsm_text.specs.declared.fault.Fault.TheVariants.{Write}
 

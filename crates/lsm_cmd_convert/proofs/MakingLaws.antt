@@ -7,8 +7,8 @@ use Rattle.lsm_text.specs.EntryReading.{may_follow, in_front, joined, list_at}
 use Rattle.lsm_text.specs.declared.entry_reader.EntryReader.{EntryReader}
 use Rattle.lsm_text.specs.declared.entry_reader.LineFault.{LineFault}
 use Rattle.lsm_text.specs.declared.entry_reader.LineFault.TheVariants.{BadLine, OutOfMemory}
-use Rattle.lsm_text.specs.declared.conversion.Conversion.{Conversion}
-use Rattle.lsm_text.specs.declared.conversion.Conversion.TheVariants.{MakeTable}
+use Rattle.lsm_requests.specs.declared.conversion.Conversion.{Conversion}
+use Rattle.lsm_requests.specs.declared.conversion.Conversion.TheVariants.{MakeTable}
 use Rattle.lsm_text.specs.declared.fault.Fault.{Fault}
 use Rattle.std.specs.Prelude.{IfErr, IsErrAnd}
 use Rattle.lsm_text.specs.ReaderView.{before_of, rest_of, Stops}

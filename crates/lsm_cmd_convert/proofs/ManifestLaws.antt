@@ -12,7 +12,7 @@ use Rattle.lsm_manifest.specs.Edit.{IsEdit}
 use Rattle.lsm_manifest.specs.EditReading.{edit_at}
 use Rattle.lsm_manifest.specs.EditView.{Fails}
 use Rattle.lsm_manifest.specs.EditFit.{Change}
-use Rattle.lsm_text.specs.declared.conversion.Conversion.TheVariants.{Manifest}
+use Rattle.lsm_requests.specs.declared.conversion.Conversion.TheVariants.{Manifest}
 use Rattle.lsm_manifest.specs.Manifest.{AreEdits}
 use Rattle.lsm_cmd_convert.specs.Converted.{HasBadEdit, Explains}
 use Rattle.lsm_text.specs.Fault.{of_log, of_edit}

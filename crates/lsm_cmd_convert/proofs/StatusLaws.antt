@@ -2,7 +2,7 @@
 use Rattle.std.proofs.Common.{◌≡◌, ◌≢◌, ℕ, List, Option, IfErr, OnErr, OnOk}
 use Rattle.std.specs.Prelude.{Result, Ok, Err, IfSome}
 use Rattle.std.specs.Io.KnownBytes.{Keeps}
-use Rattle.lsm_text.specs.declared.conversion.Conversion.{Conversion}
+use Rattle.lsm_requests.specs.declared.conversion.Conversion.{Conversion}
 use Rattle.lsm_text.specs.declared.fault.Fault.{Fault}
 use Rattle.lsm_text.specs.declared.fault.Fault.TheVariants.{Write}
 use Rattle.lsm_cmd_convert.specs.Converted.{BeginsAnswer, Explains, IsNotConverted}

@@ -12,8 +12,8 @@ use Rattle.lsm_manifest.specs.EditFit.{Change}
 use Rattle.lsm_text.specs.ManifestPrinting.{manifest_text}
 use Rattle.lsm_table.specs.Table.{IsTable}
 use Rattle.lsm_table.specs.TableReading.{table_at}
-use Rattle.lsm_text.specs.declared.conversion.Conversion.{Conversion}
-use Rattle.lsm_text.specs.declared.conversion.Conversion.TheVariants.{MakeTable, Dump, Manifest}
+use Rattle.lsm_requests.specs.declared.conversion.Conversion.{Conversion}
+use Rattle.lsm_requests.specs.declared.conversion.Conversion.TheVariants.{MakeTable, Dump, Manifest}
 use Rattle.lsm_text.specs.declared.fault.Fault.{Fault}
 use Rattle.lsm_text.specs.declared.fault.Fault.TheVariants.{Read, Write, BadLine, OutOfMemory}
 use Rattle.lsm_text.specs.declared.fault.Fault.TheVariants.{Table, TooLarge, Log, Edit}

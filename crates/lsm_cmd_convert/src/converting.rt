@@ -9,17 +9,17 @@ ghost use Rattle.std.specs.Option.{option_map};
 ghost use Rattle.lsm_text.specs.EntryPrinting.{entry_list};
 ghost use Rattle.lsm_cmd_convert.specs.Converted.{Answers, BeginsAnswer, Explains};
 ghost use Rattle.lsm_text.specs.Printing.{Begins, Passes, Stops};
-ghost use Rattle.lsm_text.specs.declared.conversion.Conversion.TheVariants.{MakeTable, Dump};
-ghost use Rattle.lsm_text.specs.declared.conversion.Conversion.TheVariants.{Manifest};
+ghost use Rattle.lsm_requests.specs.declared.conversion.Conversion.TheVariants.{MakeTable, Dump};
+ghost use Rattle.lsm_requests.specs.declared.conversion.Conversion.TheVariants.{Manifest};
 ghost use Rattle.lsm_text.specs.declared.fault.Fault.TheVariants.{Write as WriteFault};
 ghost use Rattle.lsm_text.specs.declared.fault.Fault.TheVariants.{Read as ReadFault};
 ghost use Rattle.lsm_text.specs.declared.fault.Fault.TheVariants.{OutOfMemory};
 
 use lsm_manifest::{Edit, read_log};
+use lsm_requests::Conversion;
 use lsm_table::{Table, TableBuilder, TableIter, TableOptions};
 use lsm_text::{
-    Conversion, EntryReader, Fault, Printer, print_entry, push_edit, push_number, read_input,
-    write_output,
+    EntryReader, Fault, Printer, print_entry, push_edit, push_number, read_input, write_output,
 };
 use std::alloc::Global;
 use std::io::{Read, Write};

@@ -3,3 +3,4 @@ mod SpanLaws
 mod DueLaws
 mod DrawingLaws
 mod ShowLaws
+mod ScoreLaws

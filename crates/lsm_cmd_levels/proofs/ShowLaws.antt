@@ -26,8 +26,8 @@ use Rattle.lsm_directory.specs.declared.folder.folder_file.FolderFile.{FolderFil
 use Rattle.lsm_cmd_levels.specs.Dues.{IsDueNext}
 use Rattle.lsm_cmd_levels.specs.declared.due.Due.{Due}
 use Rattle.lsm_cmd_levels.specs.Layout.{FailsToLayOut, IsLaidOut, IsLayoutFault, IsNotNamed, IsShown, IsUnshown, LaysOutAt, Names, ReadsManifest, Shows, text_of}
-use Rattle.lsm_text.specs.declared.request.LevelsLine.{LevelsLine}
-use Rattle.lsm_text.specs.declared.levels_output.LevelsOutput.{LevelsOutput}
+use Rattle.lsm_requests.specs.declared.levels_line.LevelsLine.{LevelsLine}
+use Rattle.lsm_requests.specs.declared.levels_output.LevelsOutput.{LevelsOutput}
 
 -- ---- a shelf
 

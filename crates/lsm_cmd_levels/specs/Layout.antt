@@ -25,9 +25,9 @@ use Rattle.lsm_cmd_levels.specs.Drawing.{picture_text}
 use Rattle.lsm_cmd_levels.specs.Dues.{IsDueNext}
 use Rattle.lsm_cmd_levels.specs.Lines.{files_text, levels_text}
 use Rattle.lsm_cmd_levels.specs.declared.due.Due.{Due}
-use Rattle.lsm_text.specs.declared.request.LevelsLine.{LevelsLine}
-use Rattle.lsm_text.specs.declared.levels_output.LevelsOutput.{LevelsOutput}
-use Rattle.lsm_text.specs.declared.levels_output.LevelsOutput.TheVariants.{Levels, Files, Svg}
+use Rattle.lsm_requests.specs.declared.levels_line.LevelsLine.{LevelsLine}
+use Rattle.lsm_requests.specs.declared.levels_output.LevelsOutput.{LevelsOutput}
+use Rattle.lsm_requests.specs.declared.levels_output.LevelsOutput.TheVariants.{Levels, Files, Svg}
 
 -- ---- what is shown
 

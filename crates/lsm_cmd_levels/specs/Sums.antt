@@ -1,9 +1,11 @@
--- How much a level has and may have, by a shape alone (LevelDB's `doc/impl.md`, "Compactions", and
--- `VersionSet::Finalize` of `db/version_set.cc`).
-use Rattle.std.specs.Prelude.{ℕ, zero, suc, ◌+◌, ◌-◌, ◌*◌, ◌/◌, ◌^◌, List, [], length, get_or}
+-- How much a level has, by a shape alone (LevelDB's `doc/impl.md`, "Compactions", and
+-- `VersionSet::Finalize` of `db/version_set.cc`). What it may hold is what the choice of a
+-- compaction says (`lsm_picker`).
+use Rattle.std.specs.Prelude.{ℕ, zero, suc, ◌*◌, ◌/◌, List, [], length, get_or}
 use Rattle.std.specs.List.{sum_by}
 use Rattle.lsm_manifest.specs.declared.file_meta.FileMeta.{FileMeta}
 use Rattle.lsm_manifest.specs.declared.shape.Shape.{Shape}
+use Rattle.lsm_picker.specs.Scores.{limit, scale}
 
 -- the files of a level, in its order
 abbrev pub files_at : Shape → ℕ → List FileMeta
@@ -13,24 +15,24 @@ files_at s level = get_or s.levels level []
 abbrev pub bytes_of : List FileMeta → ℕ
 bytes_of fs = sum_by (λ (f : FileMeta). f.size) fs
 
--- A score of 1 is four files at level 0, 10,485,760 bytes at level 1, and ten times as much at each
--- further level. A weight is a score in parts, of which so many are 1.
-abbrev pub whole : ℕ
-whole = 104857600000
-
--- what each file of level 0, and each byte of another level, weighs
-abbrev pub scale : ℕ → ℕ
-scale zero = 26214400000
-scale (suc n) = 10 ^ (4 - n)
-
 -- what counts of a level: at level 0 files, at the others bytes
 abbrev pub load : ℕ → List FileMeta → ℕ
 load zero fs = length fs
 load (suc n) fs = bytes_of fs
 
--- the score of a level, 0 to 5, in parts
+-- the score of a level, 0 to 5, as a fraction: what its files count, over what it may hold
+abbrev pub score : ℕ → List FileMeta → ℕ × ℕ
+score level fs = (load level fs, limit level)
+
+-- ---- how the code compares and prints scores
+
+-- the score over the limit of level 5
 unfoldable pub weight : ℕ → List FileMeta → ℕ
-weight level fs = load level fs * scale level
+weight level fs = (score level fs).0 * scale level
+
+-- a score of 1
+abbrev pub whole : ℕ
+whole = limit 5
 
 -- the score in hundredths, rounded down; so it is 100 or more just where the score is 1 or more
 abbrev pub hundredths : ℕ → ℕ

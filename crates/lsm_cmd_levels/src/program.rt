@@ -12,8 +12,8 @@ use lsm_directory::{
     DirectoryFault, FolderFile, Known, Paths, files_beside, open_at, refuse, status_of,
 };
 use lsm_folder::{FolderCalls, Reasons};
+use lsm_requests::LevelsLine;
 use lsm_storage::FileShelf;
-use lsm_text::LevelsLine;
 use std::io::Write;
 use std::sync::Wait;
 

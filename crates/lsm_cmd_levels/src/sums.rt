@@ -2,12 +2,13 @@
 //! names; only more files than memory holds could come to more.
 
 ghost use Rattle.std.specs.Prelude.{◌≡◌, ◌+◌, ◌*◌, ◌≤◌, IfOk};
-ghost use Rattle.lsm_cmd_levels.specs.Sums.{bytes_of, files_at, load, scale, weight};
+ghost use Rattle.lsm_cmd_levels.specs.Sums.{bytes_of, files_at, load, weight};
+ghost use Rattle.lsm_picker.specs.Scores.{scale};
 
 use lsm_manifest::{FileMeta, Shape};
 use std::alloc::AllocError;
 
-/// A score of 1, in parts.
+/// A score of 1: the limit of level 5.
 pub(crate) const WHOLE: u128 = 104_857_600_000;
 
 /// The sum of two numbers.
@@ -56,7 +57,7 @@ fn load(level: usize, files: &[FileMeta]) -> Result<u128, AllocError>
     }
 }
 
-/// What each file of level 0, and each byte of another level, weighs.
+/// How often the limit of a level, 0 to 5, goes into that of level 5.
 fn scale(level: usize) -> u128
     requires { level ≤ 5 }
     ensures { result ≡ scale level }
@@ -71,7 +72,7 @@ fn scale(level: usize) -> u128
     }
 }
 
-/// The score of a level, 0 to 5, in parts.
+/// The score of a level, 0 to 5, over the limit of level 5.
 #[tactic(auto, unfolding(crate::specs::Sums::weight))]
 pub(crate) fn weight(level: usize, files: &[FileMeta]) -> Result<u128, AllocError>
     requires { level ≤ 5 }

@@ -9,7 +9,7 @@ use Rattle.lsm_shelf.specs.declared.shelf_fault.ShelfFault.{ShelfFault}
 use Rattle.lsm_state.specs.Held.{Held, IsLawfulState}
 use Rattle.lsm_state.specs.declared.state_fault.StateFault.{StateFault}
 use Rattle.lsm_text.specs.declared.form.Form.{Form}
-use Rattle.lsm_text.specs.declared.load_options.LoadOptions.{LoadOptions}
+use Rattle.lsm_requests.specs.declared.load_options.LoadOptions.{LoadOptions}
 use Rattle.lsm_directory.specs.declared.folder.folder_file.FolderFile.{FolderFile}
 use Rattle.lsm_lines.specs.Gathering.{Pending}
 use Rattle.lsm_lines.specs.Passing.{PassesLines}

@@ -2,7 +2,7 @@
 
 ghost use Rattle.std.specs.Prelude.{◌≡◌, ◌≢◌, IsFalse, OnErr, OnOk};
 ghost use Rattle.std.specs.Io.KnownBytes.{Keeps};
-ghost use Rattle.lsm_directory.specs.Inputs.{text_in};
+ghost use Rattle.lsm_requests.specs.Inputs.{text_in};
 ghost use Rattle.lsm_cmd_load.specs.LoadedAt.{FailsToLoad, LoadsAt};
 
 use crate::into_directory::load_into;
@@ -12,8 +12,8 @@ use lsm_bulk_load::{NoTeller, Teller};
 use lsm_cmd_write::prepare;
 use lsm_directory::{Known, Paths, Unopened, open_at, refuse, status_of};
 use lsm_folder::{FolderCalls, Reasons};
+use lsm_requests::{Input, LoadLine, LoadOptions};
 use lsm_storage::FileShelf;
-use lsm_text::{Input, LoadLine, LoadOptions};
 use std::io::{Read, Write};
 use std::sync::Wait;
 use std::thread::Threads;

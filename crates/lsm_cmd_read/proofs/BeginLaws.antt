@@ -15,10 +15,10 @@ use Rattle.lsm_directory.specs.declared.faults.directory_fault.DirectoryFault.Th
 use Rattle.lsm_iterators.specs.Seeking.{at_or_past}
 use Rattle.lsm_query.proofs.CallerLemmas.{past_pairs, some_scan}
 use Rattle.lsm_version.specs.Versions.{IsSound, Levels, files}
-use Rattle.lsm_text.specs.KeyBounds.{begins_so, is_from, is_to, is_within}
-use Rattle.lsm_text.specs.declared.key_bounds.KeyBounds.{KeyBounds}
+use Rattle.lsm_requests.specs.KeyBounds.{begins_so, is_from, is_to, is_within}
+use Rattle.lsm_requests.specs.declared.key_bounds.KeyBounds.{KeyBounds}
 use Rattle.lsm_text.specs.declared.form.Form.{Form}
-use Rattle.lsm_text.specs.declared.scan_options.ScanOptions.{ScanOptions}
+use Rattle.lsm_requests.specs.declared.scan_options.ScanOptions.{ScanOptions}
 use Rattle.lsm_cmd_read.specs.Scanned.{BeginsPrinting, LeavesScan, PrintsScan, at_most, count_line, lines_of, scan_text, within}
 
 -- ---- no key within the bounds is below their beginning

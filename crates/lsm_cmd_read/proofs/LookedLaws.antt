@@ -9,9 +9,9 @@ use Rattle.lsm_folder.specs.declared.mark.Mark as mark
 use Rattle.lsm_shelf.specs.Refusals.{MayRefuse}
 use Rattle.lsm_shelf.specs.Told.{Told}
 use Rattle.lsm_storage.specs.declared.file.file_shelf.FileShelf.{FileShelf}
-use Rattle.lsm_text.specs.declared.directory_command.DirectoryCommand.{DirectoryCommand}
+use Rattle.lsm_requests.specs.declared.directory_command.DirectoryCommand.{DirectoryCommand}
 use Rattle.lsm_text.specs.declared.form.Form.{Form}
-use Rattle.lsm_text.specs.declared.request.DirectoryLine.{DirectoryLine}
+use Rattle.lsm_requests.specs.declared.directory_line.DirectoryLine.{DirectoryLine}
 use Rattle.lsm_cmd_read.specs.Answers.{IsLookedInto, IsLookedIntoAsGiven, IsNotLookedInto}
 use Rattle.lsm_cmd_read.specs.Directory.{OnlyReads}
 use Rattle.lsm_directory.specs.Folders.{IsShelfAt, stored_at, told_by}

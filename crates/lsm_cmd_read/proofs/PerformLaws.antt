@@ -2,10 +2,10 @@
 use Rattle.std.proofs.Common.{◌≡◌, ◌≢◌, ℕ, List, Option, Some, None, refl}
 use Rattle.lsm_shelf.specs.Told.{Told}
 use Rattle.lsm_version.specs.Versions.{Levels}
-use Rattle.lsm_text.specs.declared.directory_command.DirectoryCommand.{DirectoryCommand}
+use Rattle.lsm_requests.specs.declared.directory_command.DirectoryCommand.{DirectoryCommand}
 use Rattle.lsm_text.specs.declared.form.Form.{Form}
-use Rattle.lsm_text.specs.declared.get_output.GetOutput.{GetOutput}
-use Rattle.lsm_text.specs.declared.get_output.GetOutput.TheVariants.{Line, Raw, Nothing}
+use Rattle.lsm_requests.specs.declared.get_output.GetOutput.{GetOutput}
+use Rattle.lsm_requests.specs.declared.get_output.GetOutput.TheVariants.{Line, Raw, Nothing}
 use Rattle.lsm_directory.specs.declared.faults.directory_fault.DirectoryFault.{DirectoryFault}
 use Rattle.lsm_directory.specs.declared.faults.directory_fault.DirectoryFault.TheVariants.{OutOfMemory, Write, Shelf, Manifest, Tables, Read, NumbersSpent, Locked, Absent}
 use Rattle.lsm_cmd_read.specs.Answers.{IsPerformFault}

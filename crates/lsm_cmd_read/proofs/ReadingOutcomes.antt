@@ -20,8 +20,8 @@ use Rattle.lsm_journal.specs.declared.open_fault.OpenFault.TheVariants as open_f
 use Rattle.lsm_journal.specs.declared.recover_fault.RecoverFault.{RecoverFault}
 use Rattle.lsm_journal.specs.declared.recover_fault.RecoverFault.TheVariants as recover_faults
 use Rattle.lsm_version.specs.Versions.{Levels}
-use Rattle.lsm_text.specs.declared.directory_command.DirectoryCommand.{DirectoryCommand}
-use Rattle.lsm_text.specs.declared.directory_command.DirectoryCommand.TheVariants.{Check, List as ListFiles, Get, Scan}
+use Rattle.lsm_requests.specs.declared.directory_command.DirectoryCommand.{DirectoryCommand}
+use Rattle.lsm_requests.specs.declared.directory_command.DirectoryCommand.TheVariants.{Check, List as ListFiles, Get, Scan}
 use Rattle.lsm_directory.specs.DirectoryFault.{of_open}
 use Rattle.lsm_cmd_read.specs.Answers.{HasNoNote, IsLookedIntoAsGiven, IsLookFault, IsNotLookedInto, IsPerformFault, Leaves, Prints, PrintsBefore, ReliesOn, SaysAbsent}
 use Rattle.lsm_text.specs.declared.form.Form.{Form}

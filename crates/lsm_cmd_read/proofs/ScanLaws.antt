@@ -12,11 +12,11 @@ use Rattle.lsm_codec.specs.Keys.{UserKey, UserLe}
 use Rattle.lsm_codec.specs.Lists.{Has}
 use Rattle.lsm_model.specs.Scanning.{Pair, UsersAscend}
 use Rattle.lsm_iterators.specs.Shown.{Showing, ShowsNext, user_shown, value_shown}
-use Rattle.lsm_text.specs.KeyBounds.{is_within}
-use Rattle.lsm_text.specs.declared.key_bounds.KeyBounds.{KeyBounds}
+use Rattle.lsm_requests.specs.KeyBounds.{is_within}
+use Rattle.lsm_requests.specs.declared.key_bounds.KeyBounds.{KeyBounds}
 use Rattle.lsm_text.specs.declared.form.Form.{Form}
-use Rattle.lsm_text.specs.declared.scan_options.ScanOptions.{ScanOptions}
-use Rattle.lsm_text.specs.declared.scan_output.ScanOutput.{ScanOutput}
+use Rattle.lsm_requests.specs.declared.scan_options.ScanOptions.{ScanOptions}
+use Rattle.lsm_requests.specs.declared.scan_output.ScanOutput.{ScanOutput}
 use Rattle.lsm_cmd_read.specs.Scanned.{BeginsPrinting, Fits, Passes, PassesNext, PrintsLines, asked_for, at_most, count_line, is_full, line_of, lines_of, scan_text, within}
 
 -- ---- the pairs within the bounds

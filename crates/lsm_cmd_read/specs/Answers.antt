@@ -10,10 +10,10 @@ use Rattle.lsm_shelf.specs.Told.{Told}
 use Rattle.lsm_table.specs.ReadFault.{IsMemoryOrShelf, ReadCounted}
 use Rattle.lsm_model.specs.Files.{all_entries}
 use Rattle.lsm_version.specs.Versions.{Levels, files}
-use Rattle.lsm_text.specs.declared.directory_command.DirectoryCommand.{DirectoryCommand}
-use Rattle.lsm_text.specs.declared.directory_command.DirectoryCommand.TheVariants.{Check, List as ListFiles, Get, Scan}
+use Rattle.lsm_requests.specs.declared.directory_command.DirectoryCommand.{DirectoryCommand}
+use Rattle.lsm_requests.specs.declared.directory_command.DirectoryCommand.TheVariants.{Check, List as ListFiles, Get, Scan}
 use Rattle.lsm_text.specs.declared.form.Form.{Form}
-use Rattle.lsm_text.specs.declared.get_output.GetOutput.TheVariants.{Line}
+use Rattle.lsm_requests.specs.declared.get_output.GetOutput.TheVariants.{Line}
 use Rattle.lsm_cmd_read.specs.Directory.{AreGiven, Holds}
 use Rattle.lsm_cmd_read.specs.Listing.{IsChecked, list_text, shown_answer}
 use Rattle.lsm_directory.specs.Logs.{AreThose, IsUnread, NoneUnread, log_lines, note_line}

@@ -10,8 +10,8 @@ pub use Rattle.lsm_verify.specs.Counts.{count_of}
 use Rattle.lsm_text.specs.ManifestPrinting.{key_word_in, number_line}
 use Rattle.lsm_text.specs.Spelling.{spelled}
 use Rattle.lsm_text.specs.declared.form.Form.{Form}
-use Rattle.lsm_text.specs.declared.get_output.GetOutput.{GetOutput}
-use Rattle.lsm_text.specs.declared.get_output.GetOutput.TheVariants.{Line, Raw, Nothing}
+use Rattle.lsm_requests.specs.declared.get_output.GetOutput.{GetOutput}
+use Rattle.lsm_requests.specs.declared.get_output.GetOutput.TheVariants.{Line, Raw, Nothing}
 use Rattle.lsm_directory.specs.Logs.{AppendsLogs, log_line}
 use Rattle.lsm_directory.specs.declared.folder.folder_file.FolderFile.{FolderFile}
 

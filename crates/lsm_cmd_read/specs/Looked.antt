@@ -8,7 +8,7 @@ use Rattle.lsm_folder.specs.declared.folder_calls.FolderCalls.{Ghosts}
 use Rattle.lsm_folder.specs.declared.mark.Mark as mark
 use Rattle.lsm_shelf.specs.Refusals.{MayRefuse}
 use Rattle.lsm_storage.specs.declared.file.file_shelf.FileShelf.{FileShelf}
-use Rattle.lsm_text.specs.declared.request.DirectoryLine.{DirectoryLine}
+use Rattle.lsm_requests.specs.declared.directory_line.DirectoryLine.{DirectoryLine}
 use Rattle.lsm_cmd_read.specs.Answers.{IsLookedInto, IsNotLookedInto}
 use Rattle.lsm_cmd_read.specs.Directory.{AreGiven, OnlyReads}
 use Rattle.lsm_directory.specs.Folders.{IsShelfAt, stored_at, told_by}

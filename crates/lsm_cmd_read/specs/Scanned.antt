@@ -9,12 +9,12 @@ use Rattle.lsm_model.specs.Scanning.{IsScan, Pair}
 use Rattle.lsm_version.specs.Versions.{Levels, files}
 use Rattle.lsm_text.specs.Spelling.{spelled}
 use Rattle.lsm_text.specs.declared.form.Form.{Form}
-use Rattle.lsm_text.specs.KeyBounds.{is_within}
+use Rattle.lsm_requests.specs.KeyBounds.{is_within}
 use Rattle.lsm_cmd_read.specs.JsonLines.{json_line}
-use Rattle.lsm_text.specs.declared.key_bounds.KeyBounds.{KeyBounds}
-use Rattle.lsm_text.specs.declared.scan_options.ScanOptions.{ScanOptions}
-use Rattle.lsm_text.specs.declared.scan_output.ScanOutput.{ScanOutput}
-use Rattle.lsm_text.specs.declared.scan_output.ScanOutput.TheVariants.{Pairs, Keys, Json, Count}
+use Rattle.lsm_requests.specs.declared.key_bounds.KeyBounds.{KeyBounds}
+use Rattle.lsm_requests.specs.declared.scan_options.ScanOptions.{ScanOptions}
+use Rattle.lsm_requests.specs.declared.scan_output.ScanOutput.{ScanOutput}
+use Rattle.lsm_requests.specs.declared.scan_output.ScanOutput.TheVariants.{Pairs, Keys, Json, Count}
 
 -- ---- the pairs that are asked for
 

@@ -4,7 +4,8 @@ ghost use Rattle.std.specs.Prelude.{◌≡◌, IfOk};
 ghost use Rattle.std.specs.Option.{option_map};
 ghost use Rattle.lsm_cmd_read.specs.Listing.{answer_text, shown_answer};
 
-use lsm_text::{Form, GetOutput};
+use lsm_requests::GetOutput;
+use lsm_text::Form;
 use std::alloc::{AllocError, Global};
 
 /// The line of an answer: `value V`, or `absent`.

@@ -2,7 +2,8 @@
 
 use lsm_directory::FolderFile;
 use lsm_folder::Reasons;
-use lsm_text::{DirectoryCommand, Form};
+use lsm_requests::DirectoryCommand;
+use lsm_text::Form;
 
 /// What is asked of a directory: the command; the form of keys and values; the files beside its
 /// tables, as `log_files` gives them, among which are the logs that are not read; whether `check`

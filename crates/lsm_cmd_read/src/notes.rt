@@ -6,7 +6,7 @@ ghost use Rattle.lsm_cmd_read.specs.Answers.{HasNoNote, WritesNotes};
 ghost use Rattle.lsm_directory.specs.Logs.{NoneUnread};
 
 use lsm_directory::{FolderFile, Wording, push_logs};
-use lsm_text::DirectoryCommand;
+use lsm_requests::DirectoryCommand;
 use std::alloc::Global;
 use std::io::{self, Write};
 

@@ -18,9 +18,9 @@ use lsm_directory::{
     DirectoryFault, FolderFile, Known, Paths, files_beside, open_at, refuse, status_of,
 };
 use lsm_folder::{FolderCalls, Reasons};
+use lsm_requests::{DirectoryCommand, DirectoryLine};
 use lsm_storage::FileShelf;
 use lsm_table::{Records, Shelf};
-use lsm_text::{DirectoryCommand, DirectoryLine};
 use std::alloc::{AllocError, Global};
 use std::io::Write;
 use std::marker::Brand;

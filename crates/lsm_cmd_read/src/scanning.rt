@@ -11,7 +11,7 @@ ghost use Rattle.lsm_cmd_read.specs.Scanned.{PrintsLines, PrintsScan, count_line
 ghost use Rattle.lsm_cmd_read.specs.JsonLines.{json_line};
 ghost use Rattle.lsm_cmd_read.specs.Scanned.{line_of, pair_line, scan_text};
 ghost use Rattle.lsm_cmd_read.specs.ReadFault.{IsAnswerFault, IsOutputFault};
-ghost use Rattle.lsm_text.specs.KeyBounds.{is_within};
+ghost use Rattle.lsm_requests.specs.KeyBounds.{is_within};
 ghost use Rattle.lsm_directory.specs.declared.faults.directory_fault.DirectoryFault.TheVariants.{Write as WriteFault};
 
 use crate::json_lines::append_json;
@@ -20,8 +20,9 @@ use lsm_directory::{DirectoryFault, OutputFault, flush, write_bytes};
 use lsm_model::is_at_most;
 use lsm_query::Scan;
 use lsm_reader::{Blocks, Direct};
+use lsm_requests::{KeyBounds, ScanOptions, ScanOutput};
 use lsm_table::{NamedShelf, Naming, Shelf};
-use lsm_text::{Form, KeyBounds, ScanOptions, ScanOutput};
+use lsm_text::Form;
 use lsm_version::Version;
 use std::alloc::{AllocError, Global};
 use std::io::Write;

@@ -3,7 +3,7 @@ use Rattle.std.proofs.Common.{◌≡◌, ℕ, List, codes, Option, Some, None, s
 use Rattle.std.specs.Prelude.{IfNone, IfOk, IfSome, Result, Ok, Err}
 use Rattle.lsm_batch.specs.declared.write.Write.{Write}
 use Rattle.lsm_text.specs.declared.form.Form.{Form}
-use Rattle.lsm_text.specs.declared.key_bounds.KeyBounds.{KeyBounds}
+use Rattle.lsm_requests.specs.declared.key_bounds.KeyBounds.{KeyBounds}
 use Rattle.lsm_script.specs.CommandLine.{IsCommandLine}
 use Rattle.lsm_script.specs.Words.{words_of}
 use Rattle.lsm_script.specs.declared.command.Command.{Command}

@@ -13,9 +13,9 @@ use Rattle.lsm_iterators.specs.Shown.{Showing, ShowsNext, user_shown, value_show
 use Rattle.lsm_shelf.specs.Told.{Becomes, Told}
 use Rattle.lsm_table.proofs.CallerLemmas.{read_counted_later}
 use Rattle.lsm_version.specs.Versions.{Levels, files}
-use Rattle.lsm_text.specs.KeyBounds.{is_within}
+use Rattle.lsm_requests.specs.KeyBounds.{is_within}
 use Rattle.lsm_text.specs.declared.form.Form.{Form}
-use Rattle.lsm_text.specs.declared.key_bounds.KeyBounds.{KeyBounds}
+use Rattle.lsm_requests.specs.declared.key_bounds.KeyBounds.{KeyBounds}
 use Rattle.lsm_cmd_shell.specs.Pairs.{IsScanFault, IsWrite, PrintsLeft, PrintsNext, PrintsVersion, Steps, limited, one_less, pair_line, pairs_text, shown}
 use Rattle.lsm_cmd_shell.specs.declared.pairs.ScanFault.{ScanFault}
 use Rattle.lsm_cmd_shell.specs.declared.pairs.ScanFault.TheVariants.{Read, NoMemory, Write}

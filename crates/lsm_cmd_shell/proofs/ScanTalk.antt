@@ -12,7 +12,7 @@ use Rattle.lsm_table.specs.declared.read_fault.ReadFault.{ReadFault}
 use Rattle.lsm_version.specs.Versions.{Levels, files}
 use Rattle.lsm_text.specs.declared.form.Form.{Form}
 use Rattle.lsm_state.specs.Held.{Held}
-use Rattle.lsm_text.specs.declared.key_bounds.KeyBounds.{KeyBounds}
+use Rattle.lsm_requests.specs.declared.key_bounds.KeyBounds.{KeyBounds}
 use Rattle.lsm_script.specs.ReplyText.{reply_text}
 use Rattle.lsm_script.specs.Steps.{OnDesk, stage}
 use Rattle.lsm_script.specs.declared.command_fault.CommandFault.TheVariants.{State}

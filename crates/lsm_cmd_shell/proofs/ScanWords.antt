@@ -4,7 +4,7 @@ use Rattle.std.proofs.lemmas.List.{get_or-append-add, get_or-map, length-append,
 use Rattle.std.proofs.Math.Seq.{get_or-append_seam, take-append_seam}
 use Rattle.lsm_text.specs.Numbers.{IsNumberWord}
 use Rattle.lsm_text.specs.declared.form.Form.{Form}
-use Rattle.lsm_text.specs.declared.key_bounds.KeyBounds.{KeyBounds}
+use Rattle.lsm_requests.specs.declared.key_bounds.KeyBounds.{KeyBounds}
 use Rattle.std.specs.Prelude.{IfNone, IfOk, IfSome, Result, Ok, Err}
 use Rattle.lsm_cmd_shell.specs.Asks.{AreEnds, HasLimit, IsScanRest, IsScanWords}
 use Rattle.lsm_cmd_shell.proofs.WordTexts.{Word, blank, more_texts, texts}

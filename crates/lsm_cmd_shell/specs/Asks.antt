@@ -6,7 +6,7 @@ use Rattle.lsm_batch.specs.declared.write.Write.{Write}
 use Rattle.lsm_text.specs.Numbers.{IsNumberWord}
 use Rattle.lsm_text.specs.Spelling.{IsWord}
 use Rattle.lsm_text.specs.declared.form.Form.{Form}
-use Rattle.lsm_text.specs.declared.key_bounds.KeyBounds.{KeyBounds}
+use Rattle.lsm_requests.specs.declared.key_bounds.KeyBounds.{KeyBounds}
 use Rattle.lsm_script.specs.CommandLine.{IsCommandLine}
 use Rattle.lsm_script.specs.Words.{words_of}
 use Rattle.lsm_cmd_shell.specs.declared.ask.Ask.{Ask}

@@ -9,10 +9,10 @@ use Rattle.lsm_iterators.specs.Shown.{Showing}
 use Rattle.lsm_shelf.specs.Told.{Told}
 use Rattle.lsm_table.specs.ReadFault.{IsMemoryOrShelf, ReadCounted}
 use Rattle.lsm_version.specs.Versions.{Levels, files}
-use Rattle.lsm_text.specs.KeyBounds.{is_within}
+use Rattle.lsm_requests.specs.KeyBounds.{is_within}
 use Rattle.lsm_text.specs.Spelling.{spelled}
 use Rattle.lsm_text.specs.declared.form.Form.{Form}
-use Rattle.lsm_text.specs.declared.key_bounds.KeyBounds.{KeyBounds}
+use Rattle.lsm_requests.specs.declared.key_bounds.KeyBounds.{KeyBounds}
 use Rattle.lsm_cmd_shell.specs.declared.pairs.Step.{Step}
 use Rattle.lsm_cmd_shell.specs.declared.pairs.Step.TheVariants.{End, Outside, Within}
 use Rattle.lsm_cmd_shell.specs.declared.pairs.ScanFault.{ScanFault}

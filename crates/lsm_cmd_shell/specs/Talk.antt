@@ -15,7 +15,7 @@ use Rattle.lsm_lines.specs.declared.line_reader.NextLine.TheVariants.{Line, TooL
 use Rattle.lsm_state.specs.declared.state_fault.StateFault.TheVariants.{Read as ReadRefused}
 use Rattle.lsm_text.specs.EntryList.{lines_of}
 use Rattle.lsm_text.specs.declared.form.Form.{Form}
-use Rattle.lsm_text.specs.declared.key_bounds.KeyBounds.{KeyBounds}
+use Rattle.lsm_requests.specs.declared.key_bounds.KeyBounds.{KeyBounds}
 use Rattle.lsm_script.specs.ReplyText.{reply_text}
 use Rattle.lsm_script.specs.Steps.{IsStep, Stage}
 use Rattle.lsm_script.specs.declared.command_fault.CommandFault.{CommandFault}

@@ -1,8 +1,8 @@
 //! What a line asks for.
 
 use lsm_batch::Write;
+use lsm_requests::KeyBounds;
 use lsm_script::Command;
-use lsm_text::KeyBounds;
 
 /// What a line asks for.
 #[derive(Debug, Drop)]

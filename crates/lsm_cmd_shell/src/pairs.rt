@@ -11,8 +11,9 @@ ghost use Rattle.lsm_cmd_shell.specs.declared.pairs.ScanFault.TheVariants.{NoMem
 ghost use Rattle.lsm_cmd_shell.specs.declared.pairs.ScanFault.TheVariants.{Write as WriteFault};
 
 use lsm_query::{Blocks, Direct, Scan};
+use lsm_requests::KeyBounds;
 use lsm_table::{NamedShelf, Naming, ReadFault, Shelf};
-use lsm_text::{Form, KeyBounds};
+use lsm_text::Form;
 use lsm_version::Version;
 use std::alloc::{AllocError, Global};
 use std::io::Write;

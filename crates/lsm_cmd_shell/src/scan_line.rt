@@ -1,10 +1,11 @@
 //! Lines that ask for a scan.
 
 ghost use Rattle.std.specs.Prelude.{ℕ, Option, IfNone, IfOk, IfSome, IsTrue, ◌↔◌, map};
-ghost use Rattle.lsm_text.specs.declared.key_bounds.KeyBounds.{KeyBounds};
+ghost use Rattle.lsm_requests.specs.declared.key_bounds.KeyBounds.{KeyBounds};
 ghost use Rattle.lsm_cmd_shell.specs.Asks.{AreEnds, HasLimit, IsScanRest, IsScanWords};
 
-use lsm_text::{Form, KeyBounds, number_in};
+use lsm_requests::KeyBounds;
+use lsm_text::{Form, number_in};
 use std::alloc::{AllocError, Global};
 
 /// The bounds that `[FROM [TO]]` spell.

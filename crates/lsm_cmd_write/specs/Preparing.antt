@@ -13,7 +13,7 @@ use Rattle.lsm_directory.specs.declared.faults.directory_fault.DirectoryFault.{D
 use Rattle.lsm_directory.specs.declared.folder.folder_file.FolderFile.{FolderFile}
 use Rattle.lsm_cmd_write.specs.Names.{Leads, LeadsNowhere}
 use Rattle.lsm_cmd_write.specs.WriterFault.{of_shelf}
-use Rattle.lsm_text.specs.declared.ingest_options.IngestOptions.{IngestOptions}
+use Rattle.lsm_requests.specs.declared.ingest_options.IngestOptions.{IngestOptions}
 use Rattle.lsm_cmd_write.specs.declared.ingesting.start.Start.{Start}
 use Rattle.lsm_cmd_write.specs.declared.faults.writer_fault.WriterFault.{WriterFault}
 use Rattle.lsm_cmd_write.specs.declared.faults.writer_fault.WriterFault.TheVariants.{Directory}

@@ -8,16 +8,16 @@ use Rattle.clap.specs.Words.{Text}
 use Rattle.lsm_folder.specs.declared.folder_calls.FolderCalls.{Ghosts}
 use Rattle.lsm_folder.specs.declared.mark.Mark as mark
 use Rattle.lsm_text.specs.Printing.{Begins}
-use Rattle.lsm_text.specs.Requests.{AskHelp, AskNothing, Asks, HaveUsageFault}
-use Rattle.lsm_text.specs.declared.input.Input.{Input}
-use Rattle.lsm_text.specs.declared.input.Input.TheVariants.{Standard}
-use Rattle.lsm_text.specs.declared.request.Request.{Request}
-use Rattle.lsm_text.specs.declared.request.Request.TheVariants.{Convert, Look, Levels}
-use Rattle.lsm_text.specs.declared.request.Request.TheVariants.{Write as WriteFolder, Load, Compact}
-use Rattle.lsm_text.specs.declared.request.Request.TheVariants.{Script, Shell, Bench}
-use Rattle.lsm_text.specs.declared.writing_command.WritingCommand.{WritingCommand}
-use Rattle.lsm_text.specs.declared.writing_command.WritingCommand.TheVariants.{Ingest, WriteKey}
-use Rattle.lsm_text.specs.declared.writing_command.WritingCommand.TheVariants.{Clean}
+use Rattle.lsm_grammar.specs.Requests.{AskHelp, AskNothing, Asks, HaveUsageFault}
+use Rattle.lsm_requests.specs.declared.input.Input.{Input}
+use Rattle.lsm_requests.specs.declared.input.Input.TheVariants.{Standard}
+use Rattle.lsm_grammar.specs.declared.request.Request.{Request}
+use Rattle.lsm_grammar.specs.declared.request.Request.TheVariants.{Convert, Look, Levels}
+use Rattle.lsm_grammar.specs.declared.request.Request.TheVariants.{Write as WriteFolder, Load, Compact}
+use Rattle.lsm_grammar.specs.declared.request.Request.TheVariants.{Script, Shell, Bench}
+use Rattle.lsm_grammar.specs.declared.writing_command.WritingCommand.{WritingCommand}
+use Rattle.lsm_grammar.specs.declared.writing_command.WritingCommand.TheVariants.{Ingest, WriteKey}
+use Rattle.lsm_grammar.specs.declared.writing_command.WritingCommand.TheVariants.{Clean}
 use Rattle.lsm_cmd_bench.specs.Benched.{BenchesAt}
 use Rattle.lsm_cmd_convert.specs.Converted.{IsConverted, IsUnconverted}
 use Rattle.lsm_cmd_convert.specs.Played.{IsPlayed, IsUnplayed}

@@ -6,7 +6,7 @@ ghost use Rattle.std.specs.IoError.{error_kind};
 ghost use Rattle.lsm_text.specs.Printing.{Begins};
 ghost use Rattle.lsm_commands.specs.Run.{AreDone, AreUsageFault, AreUndone, IsDone, IsUndone};
 ghost use Rattle.lsm_commands.specs.Run.{IsUnwritten, IsWritten};
-ghost use Rattle.lsm_directory.specs.Inputs.{text_in};
+ghost use Rattle.lsm_requests.specs.Inputs.{text_in};
 
 use lsm_cmd_bench::run_bench;
 use lsm_cmd_compact::run_compact;
@@ -18,7 +18,8 @@ use lsm_cmd_shell::run_shell;
 use lsm_cmd_write::{run_clean, run_ingest, run_write};
 use lsm_directory::{Known, Paths, refuse, status_of};
 use lsm_folder::FolderCalls;
-use lsm_text::{CommandLine, Fault, Request, WritingCommand, WritingLine, read_line, write_output};
+use lsm_grammar::{CommandLine, Request, WritingCommand, WritingLine, read_line};
+use lsm_text::{Fault, write_output};
 use std::convert::AsStr;
 use std::io::{self, ErrorKind, Read, Write};
 use std::rt::Clock;

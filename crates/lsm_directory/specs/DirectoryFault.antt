@@ -1,6 +1,5 @@
 -- Why a command on a directory is refused, and what it prints of that: this project's rule.
 use Rattle.std.specs.Prelude.{ℕ, List, [], codes, Option, Some, None}
-use Rattle.lsm_text.specs.declared.directory_command.DirectoryCommand.TheVariants.{Check}
 use Rattle.lsm_table.specs.declared.read_fault.ReadFault.{ReadFault}
 use Rattle.lsm_shelf.specs.declared.shelf_fault.ShelfFault.{ShelfFault}
 use Rattle.lsm_shelf.specs.ShelfFault as shelf

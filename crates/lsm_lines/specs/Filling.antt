@@ -4,6 +4,7 @@ use Rattle.std.specs.Io.KnownBytes.{IsAtEnd}
 use Rattle.lsm_text.specs.BatchText.{IsWriteLine}
 use Rattle.lsm_text.specs.declared.form.Form.{Form}
 use Rattle.lsm_batch.specs.Batches.{IsTooLarge}
+use Rattle.lsm_batch.specs.Limits.{most_entries}
 use Rattle.lsm_batch.specs.declared.write.Write.{Write}
 use Rattle.lsm_lines.specs.Gathering.{Reads, Stops}
 use Rattle.lsm_lines.specs.declared.filling.FillEnd.{FillEnd}
@@ -31,7 +32,8 @@ abbrev pub IsFilled : Form → (old new : Option (List ℕ)) → (before after :
     → Type 0
 IsFilled form old new before after (Over w) =
     Fills form old new before (after ++ w ∷ []) × IsTooLarge (after ++ w ∷ [])
-IsFilled form old new before after Enough = Fills form old new before after × (65536 ≤ length after)
+IsFilled form old new before after Enough = Fills form old new before after
+    × (most_entries ≤ length after)
 IsFilled form old new before after End =
     (left : Option (List ℕ)) × Fills form old left before after × IsAtEnd left
 IsFilled form old new before after (Stopped fault) =

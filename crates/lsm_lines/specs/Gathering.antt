@@ -6,6 +6,7 @@ use Rattle.lsm_text.specs.EntryList.{lines_of}
 use Rattle.lsm_text.specs.BatchText.{AreWriteLines, IsWriteLine}
 use Rattle.lsm_text.specs.declared.form.Form.{Form}
 use Rattle.lsm_batch.specs.Batches.{IsBatch, IsLarge, IsTooLarge}
+use Rattle.lsm_batch.specs.Limits.{most_entries}
 use Rattle.lsm_batch.specs.declared.write.Write.{Write}
 use Rattle.lsm_lines.specs.LastWrites.{KeepsLast}
 use Rattle.lsm_lines.specs.Reading.{most_of_line}
@@ -58,7 +59,7 @@ pub record Pending : Type 0 where
 
 -- as many as a batch may have, or with those that are held back they would pass a limit
 abbrev pub IsFull : List Write → List Write → Type 0
-IsFull ws held = (65536 ≤ length ws) ⊎ IsTooLarge (ws ++ held)
+IsFull ws held = (most_entries ≤ length ws) ⊎ IsTooLarge (ws ++ held)
 
 -- Lines were read, whose writes stand behind the one that was held back. Of all these the first are
 -- gathered, and none is left over but the one that is held back now.

@@ -10,13 +10,10 @@ ghost use Rattle.lsm_lines.specs.Filling.{IsFilled, IsNoWrite};
 use crate::line_reader::{LineReader, NextLine};
 use crate::write_buffer::{PutFault, WriteBuffer};
 use crate::write_line_fault::WriteLineFault;
-use lsm_batch::Write;
+use lsm_batch::{MOST_ENTRIES, Write};
 use lsm_text::{BatchTextFault, Form, LineSyntaxFault, batch_in, write_in};
 use std::alloc::Global;
 use std::io::Read;
-
-// The most writes of a batch.
-const MOST_WRITES: usize = 65_536;
 
 /// What ends the filling of a buffer.
 #[derive(Debug, Drop)]
@@ -84,7 +81,7 @@ pub(crate) fn fill<I: Read + Drop>(
 ) -> FillEnd
     ensures { IsFilled form lines.old.left lines.new.left buffer.old buffer.new result }
 {
-    'lines: while buffer.len() < MOST_WRITES {
+    'lines: while buffer.len() < MOST_ENTRIES {
         let write = match next_write(alloc, form, lines) {
             Ok(Some(write)) => write,
             Ok(None) => return FillEnd::End,

@@ -7,18 +7,9 @@ ghost use Rattle.lsm_lines.specs.Buffering.{IsPutRefusal};
 ghost use Rattle.lsm_lines.specs.LastWrites.{KeepsLast};
 
 use crate::last_writes::last_of_each;
-use lsm_batch::{Batch, Write};
+use lsm_batch::{Batch, MOST_BYTES, MOST_ENTRIES, Write};
 use std::alloc::{AllocError, Global};
 use std::marker::Model;
-
-// The most writes of a batch.
-const MOST_WRITES: usize = 65_536;
-// The most bytes of the keys and values of a batch.
-const MOST_BYTES: usize = 4_194_304;
-// The most bytes of a key, and of a value.
-const MOST_KEY: usize = 4_096;
-
-const MOST_VALUE: usize = 1_048_576;
 
 /// Why a write is not put.
 #[derive(Debug, Drop)]
@@ -52,23 +43,6 @@ impl Model for WriteBuffer {
         × (IsTooLarge b.writes.items → ⊥) };
 }
 
-/// How many bytes key and value have, none where one of them is over its limit.
-fn fitting_size(write: &Write) -> Option<usize>
-    ensures size { IfSome result (λ n. n ≡ size_of write.now) }
-    ensures small { IfSome result (λ n. (IsLarge write.now → ⊥) × (n < 2 ^ 21)) }
-    ensures large { IfNone result (IsLarge write.now) }
-{
-    let key = write.key.as_slice().len();
-    let value = match &write.value {
-        Some(value) => value.as_slice().len(),
-        None => 0,
-    };
-    if key > MOST_KEY || value > MOST_VALUE {
-        return None;
-    }
-    Some(key + value)
-}
-
 impl WriteBuffer {
     /// No write is put yet.
     pub fn new(alloc: Global) -> WriteBuffer
@@ -96,10 +70,10 @@ impl WriteBuffer {
         ensures err { OnErr result (self.new ≡ self.old) }
         ensures refused { IfErr result (IsPutRefusal self.old write) }
     {
-        let Some(size) = fitting_size(&write) else {
+        let Some(size) = write.fitting_size() else {
             return Err(PutFault::Large);
         };
-        if self.writes.len() >= MOST_WRITES || self.bytes + size > MOST_BYTES {
+        if self.writes.len() >= MOST_ENTRIES || self.bytes + size > MOST_BYTES {
             return Err(PutFault::Full(write));
         }
         let Ok(()) = self.writes.push(write) else {

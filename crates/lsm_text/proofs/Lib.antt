@@ -1,6 +1,4 @@
-pub mod KeyBoundLaws
 pub mod PartLaws
-pub mod BenchmarkLaws
 pub mod WordLaws
 pub mod NumberLaws
 pub mod SequenceLaws
@@ -17,7 +15,4 @@ pub mod BatchLaws
 pub mod WriteWordLaws
 pub mod WriteLineLaws
 pub mod OneBatch
-pub mod GrammarLaws
-pub mod HelpLaws
-pub mod HelpLines
 pub mod CallerLemmas

@@ -12,7 +12,8 @@ use Rattle.hex.proofs.HexLemmas.{decode_of-ok}
 use Rattle.lsm_codec.specs.declared.kind.Kind.{Kind}
 use Rattle.lsm_codec.specs.declared.kind.Kind.TheVariants.{Deletion, Value}
 use Rattle.lsm_codec.specs.Entries.{Entry}
-use Rattle.lsm_text.specs.EntryList.{IsBytesWord, IsAction, IsEntryLine, most_key, most_value}
+use Rattle.lsm_batch.specs.Limits.{most_key, most_value}
+use Rattle.lsm_text.specs.EntryList.{IsBytesWord, IsAction, IsEntryLine}
 use Rattle.lsm_text.specs.EntryReading.{◌>>=◌, parts_at, bytes_at, sequence_at, put_at, action_at, entry_at}
 use Rattle.lsm_text.proofs.PartLaws.{HasNo, parts_take, parts_again}
 use Rattle.lsm_text.proofs.WordLaws.{bytes_takes, bytes_again}

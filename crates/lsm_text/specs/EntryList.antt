@@ -3,6 +3,7 @@
 use Rattle.std.specs.Prelude.{◌≡◌, ℕ, ◌-◌, ◌^◌, ◌<◌, ◌≤◌, ◌==◌, ⊤, cond, List, [], ◌∷◌, ◌++◌}
 use Rattle.std.specs.Prelude.{length, take, codes, Ok}
 use Rattle.hex.specs.Hex.{decode_of}
+use Rattle.lsm_batch.specs.Limits.{most_key, most_value}
 use Rattle.lsm_codec.specs.declared.kind.Kind.{Kind}
 use Rattle.lsm_codec.specs.declared.kind.Kind.TheVariants.{Deletion, Value}
 use Rattle.lsm_codec.specs.Entries.{Entry}
@@ -17,13 +18,6 @@ with_first c (line ∷ lines) = (c ∷ line) ∷ lines
 unfoldable pub lines_of : List ℕ → List (List ℕ)
 lines_of [] = []
 lines_of (c ∷ cs) = cond (c == 10) ([] ∷ lines_of cs) (with_first c (lines_of cs))
-
--- the most bytes of a user key, and of a value
-abbrev pub most_key : ℕ
-most_key = 4096
-
-abbrev pub most_value : ℕ
-most_value = 1048576
 
 -- a word for bytes: two hex digits of either case a byte, or `.` for no bytes
 abbrev pub IsBytesWord : List ℕ → List ℕ → Type 0

@@ -6,7 +6,7 @@ use Rattle.hex.specs.Hex.{encode_lower, IsBytes}
 use Rattle.lsm_codec.specs.declared.kind.Kind.{Kind}
 use Rattle.lsm_codec.specs.declared.kind.Kind.TheVariants.{Deletion, Value}
 use Rattle.lsm_codec.specs.Entries.{Entry}
-use Rattle.lsm_text.specs.EntryList.{most_key, most_value}
+use Rattle.lsm_batch.specs.Limits.{most_key, most_value}
 
 abbrev pub bytes_word : List ℕ → List ℕ
 bytes_word [] = codes "."

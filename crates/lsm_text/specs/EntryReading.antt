@@ -9,7 +9,8 @@ use Rattle.hex.specs.declared.error.FromHexError.{FromHexError}
 use Rattle.lsm_codec.specs.declared.kind.Kind.{Kind}
 use Rattle.lsm_codec.specs.declared.kind.Kind.TheVariants.{Deletion, Value}
 use Rattle.lsm_codec.specs.Entries.{Entry, entry_cmp}
-use Rattle.lsm_text.specs.EntryList.{lines_of, most_key, most_value}
+use Rattle.lsm_batch.specs.Limits.{most_key, most_value}
+use Rattle.lsm_text.specs.EntryList.{lines_of}
 
 infixl 10 ◌>>=◌
 abbrev pub ◌>>=◌ : {A B : Type 0} → Option A → (A → Option B) → Option B

@@ -2,15 +2,10 @@
 pub mod Numbers
 pub mod EntryList
 pub mod EntryReading
-pub mod KeyBounds
 pub mod EntryPrinting
 pub mod Printing
 pub mod Spelling
 pub mod SyntaxFault
-pub mod Grammar
-pub mod Pages
-pub mod Benchmarks
-pub mod Requests
 pub mod BatchText
 pub mod EntryView
 pub mod ReaderView

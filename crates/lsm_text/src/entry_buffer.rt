@@ -4,14 +4,9 @@ ghost use Rattle.std.specs.Prelude.{◌≡◌, ◌<◌, ◌^◌, IfOk};
 
 use crate::text_parts::parts;
 use crate::words::{read_bytes, sequence};
+use lsm_batch::{MOST_KEY, MOST_VALUE};
 use lsm_codec::{KeyRef, Kind};
 use std::alloc::{AllocError, Global};
-
-/// The most bytes of a user key.
-const MAX_KEY: usize = 4096;
-
-/// The most bytes of a value.
-const MAX_VALUE: usize = 1_048_576;
 
 /// An entry in memory of its own.
 #[derive(Debug, Drop)]
@@ -61,7 +56,7 @@ impl EntryBuffer {
         let Some((seq, action)) = parts(b' ', rest) else {
             return Ok(false);
         };
-        if !read_bytes(&mut self.user, MAX_KEY, key)? {
+        if !read_bytes(&mut self.user, MOST_KEY, key)? {
             return Ok(false);
         }
         let Some(seq) = sequence(seq) else {
@@ -90,6 +85,6 @@ impl EntryBuffer {
             return Ok(false);
         }
         self.kind = Kind::Value;
-        read_bytes(&mut self.value, MAX_VALUE, word)
+        read_bytes(&mut self.value, MOST_VALUE, word)
     }
 }

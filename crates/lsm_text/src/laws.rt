@@ -1,6 +1,6 @@
 //! Laws of texts and of words, as contracts of functions that do nothing.
 
-ghost use Rattle.std.specs.Prelude.{◌≡◌, ◌≢◌, ◌∷◌, ℕ, [], List, All, codes, ◌⊎◌};
+ghost use Rattle.std.specs.Prelude.{◌≡◌, ◌≢◌, ℕ, [], List, All, ◌⊎◌};
 ghost use Rattle.hex.specs.Hex.{IsBytes};
 ghost use Rattle.lsm_codec.specs.Entries.{Entry};
 ghost use Rattle.lsm_block.specs.Block.{Ascends};
@@ -8,9 +8,7 @@ ghost use Rattle.lsm_batch.specs.declared.write.Write.{Write};
 ghost use Rattle.lsm_text.specs.BatchText.{IsBatchText};
 ghost use Rattle.lsm_text.specs.EntryList.{IsEntryList, IsFirstBadLine};
 ghost use Rattle.lsm_text.specs.EntryPrinting.{IsListable, entry_list};
-ghost use Rattle.lsm_text.specs.Requests.{AskHelp, HaveUsageFault, word_of};
 ghost use Rattle.lsm_text.specs.Spelling.{IsClear, IsWord, spelled};
-ghost use Rattle.lsm_text.specs.declared.command_name.CommandName.{CommandName};
 ghost use Rattle.lsm_text.specs.declared.form.Form.{Form};
 
 /// A text is a list of entries, or has a first bad line; it is at most one list, and not both; its
@@ -42,17 +40,6 @@ pub fn one_word()
     ensures clear { (form : Form) (word bytes : List ℕ) → IsWord form word bytes
         → All IsClear word }
     ensures some { (form : Form) (word bytes : List ℕ) → IsWord form word bytes → word ≢ [] }
-{}
-
-/// `help`, alone or before the name of a command, asks for help, and so does `--help`, alone or
-/// behind it. No fault is in these words.
-pub fn help_is_no_fault()
-    ensures named { (name : CommandName) → AskHelp (codes "help" ∷ word_of name ∷ [])
-        × (HaveUsageFault (codes "help" ∷ word_of name ∷ []) → ⊥) }
-    ensures behind { (name : CommandName) → AskHelp (word_of name ∷ codes "--help" ∷ [])
-        × (HaveUsageFault (word_of name ∷ codes "--help" ∷ []) → ⊥) }
-    ensures alone { AskHelp (codes "help" ∷ []) × (HaveUsageFault (codes "help" ∷ []) → ⊥) }
-    ensures option { AskHelp (codes "--help" ∷ []) × (HaveUsageFault (codes "--help" ∷ []) → ⊥) }
 {}
 
 /// A law: in one form a text spells one batch at most.

@@ -3,13 +3,14 @@
 ghost use Rattle.std.specs.Prelude.{◌≡◌, ◌≢◌};
 ghost use Rattle.std.specs.Io.KnownBytes.{Keeps};
 ghost use Rattle.lsm_cmd_convert.specs.Converted.{IsConverted, IsNotConverted, IsUnconverted};
-ghost use Rattle.lsm_directory.specs.Inputs.{text_in};
+ghost use Rattle.lsm_requests.specs.Inputs.{text_in};
 ghost use Rattle.lsm_text.specs.declared.fault.Fault.{Fault};
 
 use crate::converting::perform;
 use lsm_directory::{Known, Paths, Unopened, refuse, status_of};
 use lsm_folder::FolderCalls;
-use lsm_text::{Conversion, Fault, Input};
+use lsm_requests::{Conversion, Input};
+use lsm_text::Fault;
 use std::alloc::Global;
 use std::io::{Read, Write};
 

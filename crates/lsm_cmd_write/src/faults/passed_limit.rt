@@ -1,16 +1,7 @@
 //! Which limit a batch passes, for people.
 
-use lsm_batch::Write as KeyWrite;
+use lsm_batch::{MOST_BYTES, MOST_ENTRIES, MOST_KEY, MOST_VALUE, Write as KeyWrite};
 use std::io::{self, Write};
-
-/// The most entries of a batch, the most bytes of its keys and values, and of one of them.
-const MOST_ENTRIES: usize = 65_536;
-
-const MOST_BYTES: usize = 4_194_304;
-
-const MOST_KEY: usize = 4_096;
-
-const MOST_VALUE: usize = 1_048_576;
 
 /// How many bytes the value has.
 fn value_size(write: &KeyWrite) -> usize {

@@ -10,8 +10,8 @@ use crate::ingesting::start::Prepared;
 use crate::names::start_among;
 use lsm_directory::{FolderFile, folder_names, hold, logs_among};
 use lsm_folder::{FolderCalls, LockKind};
+use lsm_requests::IngestOptions;
 use lsm_table::ShelfFault;
-use lsm_text::IngestOptions;
 use std::alloc::Global;
 use std::sync::Wait;
 

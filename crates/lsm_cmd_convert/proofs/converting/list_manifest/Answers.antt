@@ -2,7 +2,7 @@ use Rattle.std.proofs.Common.{◌<◌, ℕ, List, [], length, rules, sym, ◌∙
 use Rattle.std.proofs.lemmas.List.{get_or_default}
 use Rattle.lsm_manifest.specs.Log.{IsLog}
 use Rattle.lsm_text.specs.Fault.{of_log, of_edit}
-use Rattle.lsm_text.specs.declared.conversion.Conversion.TheVariants.{Manifest}
+use Rattle.lsm_requests.specs.declared.conversion.Conversion.TheVariants.{Manifest}
 use Rattle.lsm_cmd_convert.proofs.MakingLaws.{explained_err}
 use Rattle.lsm_cmd_convert.proofs.ManifestLaws.{printed_none, printed_more, printed_all, log_explained, edit_explained}
 use Rattle.lsm_cmd_convert.proofs.converting.list_manifest.Goals as goal

@@ -4,7 +4,7 @@ use Rattle.lsm_text.specs.ReaderView.{before_of, rest_of}
 use Rattle.lsm_text.specs.EntryView.{entry_of}
 use Rattle.lsm_block.specs.declared.build_fault.BuildFault.{BuildFault}
 use Rattle.lsm_text.specs.Fault.{of_line, of_build}
-use Rattle.lsm_text.specs.declared.conversion.Conversion.TheVariants.{MakeTable}
+use Rattle.lsm_requests.specs.declared.conversion.Conversion.TheVariants.{MakeTable}
 use Rattle.lsm_cmd_convert.proofs.MakingLaws.{next_ascends, at_next, at_end, line_explained, add_explained, finish_explained, explained_err}
 use Rattle.lsm_cmd_convert.proofs.converting.make_table.Goals as goal
 

@@ -1,6 +1,6 @@
 use Rattle.std.proofs.Common.{ap}
 use Rattle.lsm_text.specs.EntryPrinting.{entry_list}
-use Rattle.lsm_text.specs.declared.conversion.Conversion.TheVariants.{Dump}
+use Rattle.lsm_requests.specs.declared.conversion.Conversion.TheVariants.{Dump}
 use Rattle.lsm_cmd_convert.proofs.AnswerLaws.{begins_answer, write_explained}
 use Rattle.lsm_cmd_convert.proofs.converting.print_table.Goals as goal
 

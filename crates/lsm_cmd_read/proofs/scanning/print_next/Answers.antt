@@ -2,7 +2,7 @@ use Rattle.std.proofs.Common.{◌≢◌, List, true, false, ◌≡◌, ◌∷◌
 use Rattle.lsm_codec.specs.Keys.{UserKey, UserLe}
 use Rattle.lsm_model.specs.Scanning.{Pair}
 use Rattle.lsm_iterators.specs.Shown.{user_shown, value_shown}
-use Rattle.lsm_text.specs.KeyBounds.{is_within}
+use Rattle.lsm_requests.specs.KeyBounds.{is_within}
 use Rattle.lsm_cmd_read.specs.Scanned.{Passes}
 use Rattle.lsm_cmd_read.proofs.ScanLaws.{next_none, next_passed}
 use Rattle.lsm_cmd_read.proofs.scanning.print_next.Goals as goal

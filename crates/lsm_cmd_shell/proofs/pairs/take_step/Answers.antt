@@ -1,7 +1,7 @@
 use Rattle.std.proofs.Common.{◌≡◌, ◌≢◌, false, sym, ap, ◌∙◌, subst}
 use Rattle.lsm_codec.specs.Keys.{UserKey, UserLe}
 use Rattle.lsm_iterators.specs.Shown.{user_shown}
-use Rattle.lsm_text.specs.KeyBounds.{is_within}
+use Rattle.lsm_requests.specs.KeyBounds.{is_within}
 use Rattle.lsm_cmd_shell.proofs.PairLaws.{ends_last}
 use Rattle.lsm_cmd_shell.proofs.pairs.take_step.Goals as goal
 

@@ -1,5 +1,6 @@
 use Rattle.std.proofs.Common.{◌≡◌, ◌-◌, ◌<◌, ◌++◌, ◌∷◌, [], length, rules, arith, ap, sym, subst, ◌∙◌}
 use Rattle.lsm_batch.specs.declared.write.Write.{Write}
+use Rattle.lsm_batch.specs.Limits.{most_entries}
 use Rattle.lsm_lines.specs.Filling.{Fills}
 use Rattle.lsm_lines.proofs.BufferLaws.{length_more}
 use Rattle.lsm_lines.proofs.GatherLaws.{fills_more, fills_none, fills_over, takes_begins}
@@ -19,7 +20,7 @@ returns-in-Err g c = (c.lines.lines.left, c.lines.invariant, c.in-Err.ensures.st
 pub lines-smaller : goal.lines-smaller
 lines-smaller g c =
     let count = ap (length {A = Write}) c.in-Ok.ensures.ok ∙ length_more c.lines.buffer c.in-Ok-Some.write in
-    let less : 65536 - length c.put.new.self < 65536 - length c.lines.buffer = omega (arith, count, c.len.ensures.len, c.lines-test.true) in
+    let less : most_entries - length c.put.new.self < most_entries - length c.lines.buffer = omega (arith, count, c.len.ensures.len, c.lines-test.true) in
     less
 
 pub lines-preserved : goal.lines-preserved

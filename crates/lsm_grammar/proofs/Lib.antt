@@ -1,0 +1,4 @@
+pub mod BenchmarkLaws
+pub mod GrammarLaws
+pub mod HelpLaws
+pub mod HelpLines

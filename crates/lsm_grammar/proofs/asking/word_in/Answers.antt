@@ -1,0 +1,9 @@
+use Rattle.std.proofs.Common.{◌∙◌}
+use Rattle.clap.specs.Words.{found_of}
+use Rattle.clap.proofs.WalkLemmas.{first_value-rows}
+use Rattle.lsm_grammar.specs.Requests.{word_in}
+use Rattle.lsm_grammar.proofs.asking.word_in.Goals as goal
+
+pub returns : goal.returns
+unfolding word_in
+returns c = c.get_str.ensures ∙ first_value-rows (found_of c.args.found.now) c.args.name.now

@@ -1,0 +1,12 @@
+//! Commands on a folder, from standard input.
+
+use lsm_requests::IngestOptions;
+
+/// Commands on the folder of this path, one a line of standard input: it is opened or begun as a
+/// batch that is to come in asks for. Workers, 1 to 16, compact beside; none where it is not said.
+#[derive(Clone, Copy, Debug)]
+pub struct ShellLine<'a> {
+    pub path: &'a str,
+    pub options: IngestOptions,
+    pub workers: Option<usize>,
+}

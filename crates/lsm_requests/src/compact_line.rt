@@ -1,0 +1,10 @@
+//! A compaction.
+
+use crate::compact_options::CompactOptions;
+
+/// A compaction: of the folder of this path, with these options.
+#[derive(Clone, Copy, Debug)]
+pub struct CompactLine<'a> {
+    pub path: &'a str,
+    pub options: CompactOptions,
+}

@@ -1,0 +1,15 @@
+//! A command on a folder that is only read.
+
+use crate::directory_command::DirectoryCommand;
+use lsm_text::Form;
+
+/// A command on a directory that is only read, and the path of that.
+#[derive(Debug, Drop)]
+pub struct DirectoryLine<'a> {
+    pub path: &'a str,
+    pub command: DirectoryCommand,
+    /// How keys and values are spelled: `Text` where there is `--text`.
+    pub form: Form,
+    /// Whether it is to say on standard error how far it is: where there is `--progress`.
+    pub progress: bool,
+}

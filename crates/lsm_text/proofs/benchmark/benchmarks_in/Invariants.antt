@@ -1,9 +1,0 @@
-use Rattle.std.proofs.Common.{length}
-use Rattle.lsm_text.proofs.BenchmarkLaws.{HasNamed}
-use Rattle.lsm_text.proofs.benchmark.benchmarks_in.Given as goal
-
-abbrev pub invariant-names : goal.invariant-names
-invariant-names l = HasNamed l.word l.found.items l.rest
-
-abbrev pub decreases-names : goal.decreases-names
-decreases-names l = length l.rest

@@ -1,7 +1,0 @@
-use Rattle.std.proofs.Common.{rules}
-use Rattle.lsm_text.specs.Grammar.{bare}
-use Rattle.lsm_text.proofs.grammar.bare.Goals as goal
-
-pub returns : goal.returns
-unfolding bare
-returns c = search rules
