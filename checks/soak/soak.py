@@ -26,7 +26,14 @@ ROUND = {1: 2000, 10: 10000, 1000: 50000}
 IN_ORDER, EVERYWHERE = 9, 40
 # Once so many bytes came in, LevelDB has long left its memory too, and its own bytes are the measure.
 MEASURED = 16 << 20
-OF_LEVELDB = {("random", 1): 8, ("streams", 1): 16, ("overwriting", 1): 30}
+OF_LEVELDB = {
+    ("random", 1): 14,
+    ("random", 10): 12,
+    ("streams", 1): 14,
+    ("streams", 10): 12,
+    ("overwriting", 1): 30,
+    ("overwriting", 10): 20,
+}
 
 
 def mixed(x):
