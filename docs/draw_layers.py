@@ -38,8 +38,6 @@ CRATES = {
     "lsm_grammar": ("program", "command line, help"),
     "lsm_requests": ("program", "what commands are asked for"),
     "lsm_text": ("program", "keys, lines, refusals"),
-    "lsm_refusals": ("program", "refusals of a database"),
-    "lsm_opening": ("database", "a database in a folder, opened"),
     "lsm_store": ("database", "lock, readers, workers"),
     "lsm_script": ("database", "lists of commands, as text too"),
     "lsm_state": ("database", "what the lock guards"),
