@@ -22,7 +22,7 @@ use lsm_table::{NamedShelf, Registry, Shelf};
 use std::alloc::{AllocError, Global};
 use std::sync::{Arc, Wait};
 
-/// The next job of the state; none where there is none.
+/// The next job of the state; none where there is no choice.
 #[tactic(auto, using(crate::proofs::CompactingLaws::step_none))]
 fn next_job<N: Boarded, S: Shelf>(
     state: &mut State<N, S>,
@@ -31,14 +31,14 @@ fn next_job<N: Boarded, S: Shelf>(
     ensures step { IsCompactingStep S.honest state.old state.new }
     ensures refused { IfErr result IsOfReserving }
 {
-    match state.reserve_next(alloc) {
+    match state.reserve(alloc) {
         Ok(Some(job)) => Ok(Some(job)),
         Ok(None) => Ok(None),
         Err(fault) => Err(fault),
     }
 }
 
-/// The next job, which the state reserves under the lock; none where there is none.
+/// The next job, which the state reserves under the lock; none where there is no choice.
 fn reserve<N: Boarded, S: Shelf, K: Invariant, R: Wait>(
     rt: &R,
     alloc: Global,

@@ -5,4 +5,4 @@ pub returns-in-Ok-Some-clause-step : goal.returns-in-Ok-Some-clause-step
 returns-in-Ok-Some-clause-step g c =
     let ok = rw c.in-Ok-Some.field-0-is at c.in-Ok-Some.ensures.ok in
     let event = rw c.in-Ok-Some.field-0-is at c.in-Ok-Some.ensures.event in
-    step_reserved g.S.Shelf.honest c.args.state.now c.reserve_next.new.self c.in-Ok-Some.job _ _ ok event
+    step_reserved g.S.Shelf.honest c.args.state.now c.reserve.new.self c.in-Ok-Some.job _ _ ok event
