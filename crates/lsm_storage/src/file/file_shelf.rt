@@ -51,9 +51,7 @@ impl<C: FolderCalls> FileShelf<C> {
     }
 }
 
-impl<R: Files<File = File> + AllocGlobal + Clone + Drop, W: Witness>
-    FileShelf<SystemFolder<R, W>>
-{
+impl<R: Files<File = File> + AllocGlobal + Clone + Drop, W: Witness> FileShelf<SystemFolder<R, W>> {
     /// A shelf on the folder of this path. `Device` where it is no folder that can be opened.
     pub fn open(rt: R, path: &str) -> Result<FileShelf<SystemFolder<R, W>>, ShelfFault>
         ensures calls { IfOk result (λ s. system_calls (folder_of s) ≡ opened ∷ []) }
