@@ -1,6 +1,5 @@
 use Rattle.lsm_directory.proofs.CallerLemmas.{shelf_over}
-use Rattle.lsm_cmd_write.specs.Preparing.{IsPrepared}
-use Rattle.lsm_cmd_bench.specs.Benched.{plainly}
+use Rattle.lsm_opening.specs.Preparing.{IsPrepared, plainly}
 use Rattle.lsm_cmd_bench.proofs.RunLaws.{benches_at}
 use Rattle.lsm_cmd_bench.proofs.program.bench_at.Goals as goal
 
