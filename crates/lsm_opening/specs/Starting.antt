@@ -24,7 +24,9 @@ use Rattle.lsm_opening.specs.WriterFault.{of_manifest, of_open, of_shelf}
 use Rattle.lsm_opening.specs.declared.start.Start.{Start}
 use Rattle.lsm_opening.specs.declared.start.Start.TheVariants.{Open, Begin}
 use Rattle.lsm_opening.specs.declared.faults.writer_fault.WriterFault.{WriterFault}
-use Rattle.lsm_opening.specs.declared.faults.writer_fault.WriterFault.TheVariants.{OutOfMemory, Directory, UnflushedLog}
+use Rattle.lsm_opening.specs.declared.faults.writer_fault.WriterFault.TheVariants.{OutOfMemory}
+use Rattle.lsm_opening.specs.declared.faults.writer_fault.WriterFault.TheVariants.{Directory}
+use Rattle.lsm_opening.specs.declared.faults.writer_fault.WriterFault.TheVariants.{UnflushedLog}
 
 -- ---- the manifest that is there is read first
 
@@ -41,8 +43,8 @@ pub record IsRead (Holds : Form → Type 0) (was is : Told) : Type 0 where
 abbrev pub whole_size : Form → ℕ
 whole_size shape = length (record_of [] (whole_edit shape))
 
--- From so many bytes on a new manifest is due, where a whole one has this size: twice as many, or the
--- least, where that is more, and at most as many as options may say. So a large version is not
+-- From so many bytes on a new manifest is due, where a whole one has this size: twice as many, or
+-- the least, where that is more, and at most as many as options may say. So a large version is not
 -- written anew at every change.
 abbrev pub limit_for : ℕ → ℕ → ℕ
 limit_for least size = max least (2 * min size 268435456)
@@ -54,8 +56,8 @@ FindsLimit o logs limit was is =
     IsRead (λ shape. NoneUnread shape.log shape.prev_log logs
     × (limit ≡ limit_for o.manifest_limit (whole_size shape))) was is
 
--- The manifest could not be read; or by its numbers this is the first of the logs that LevelDB would
--- read; or memory ran out behind it.
+-- The manifest could not be read; or by its numbers this is the first of the logs that LevelDB
+-- would read; or memory ran out behind it.
 abbrev pub IsUnflushed : (Asked → ShelfFault → Type 0) → List FolderFile → WriterFault → Told
     → Told → Type 0
 IsUnflushed Refused logs e was is =
@@ -96,10 +98,11 @@ pub record OpensWith (Honest : Type 0) (o : Options) (logs : List FolderFile) (h
 abbrev pub IsStartedWith : Type 0 → Options → Start → List FolderFile → Held → Told → Told
     → Type 0
 IsStartedWith Honest o Open logs h was is = OpensWith Honest o logs h was is
-IsStartedWith Honest o (Begin number) logs h was is = NoneUnread 0 0 logs × IsNewWith o number h was is
+IsStartedWith Honest o (Begin number) logs h was is =
+    NoneUnread 0 0 logs × IsNewWith o number h was is
 
--- Why there is no database on the shelf: no number is left; or its refusal, which call that was, and
--- what it counted.
+-- Why there is no database on the shelf: no number is left; or its refusal, which call that was,
+-- and what it counted.
 abbrev pub IsUncreated : ℕ → (Asked → ShelfFault → Type 0) → WriterFault → Told → Told → Type 0
 IsUncreated number Refused e was is =
     ((e ≡ Directory NumbersSpent) × (number ≡ 2 ^ 64 - 1) × (is ≡ was))
@@ -133,8 +136,8 @@ IsNotOpenedWith Stored Refused Honest o logs e was is =
 abbrev pub IsOutOfMemory : WriterFault → Told → Told → Type 0
 IsOutOfMemory e was is = (e ≡ OutOfMemory) × (is ≡ was)
 
--- Why there is no such state. `Stored` says which images the shelf gave for which numbers, `Refused`
--- which calls it may refuse with which faults.
+-- Why there is no such state. `Stored` says which images the shelf gave for which numbers,
+-- `Refused` which calls it may refuse with which faults.
 abbrev pub IsStartRefusalWith : (ℕ → List ℕ → Type 0) → (Asked → ShelfFault → Type 0) → Type 0
     → Options → Start → List FolderFile → WriterFault → Told → Told → Type 0
 IsStartRefusalWith Stored Refused Honest o Open logs e was is =
@@ -155,7 +158,8 @@ IsStarted Honest start logs h was is = IsStartedWith Honest usual start logs h w
 
 -- Memory ran out before the shelf was asked for anything; or no database was begun so.
 abbrev pub IsBeginRefusal : ℕ → (Asked → ShelfFault → Type 0) → WriterFault → Told → Told → Type 0
-IsBeginRefusal number Refused e was is = IsOutOfMemory e was is ⊎ IsUncreated number Refused e was is
+IsBeginRefusal number Refused e was is =
+    IsOutOfMemory e was is ⊎ IsUncreated number Refused e was is
 
 -- That; or the one that is there was not opened so.
 abbrev pub IsOpeningRefusal : (ℕ → List ℕ → Type 0) → (Asked → ShelfFault → Type 0) → Type 0
