@@ -12,8 +12,8 @@ use Rattle.lsm_directory.specs.Logs.{NoneUnread}
 use Rattle.lsm_directory.specs.declared.folder.folder_file.FolderFile.{FolderFile}
 use Rattle.lsm_bulk_load.specs.Marks.{Marked, marked_in}
 use Rattle.lsm_opening.specs.Preparing.{IsPrepared, plainly}
-use Rattle.lsm_opening.specs.declared.start.Start.{Start}
-use Rattle.lsm_opening.specs.declared.start.Start.TheVariants.{Begin}
+use Rattle.lsm_opening.specs.declared.prepared.Start.{Start}
+use Rattle.lsm_opening.specs.declared.prepared.Start.TheVariants.{Begin}
 use Rattle.lsm_cmd_bench.specs.Benched.{BenchesAt, IsBenchedOn}
 use Rattle.lsm_cmd_bench.specs.Filled.{RunsAll}
 

@@ -14,7 +14,7 @@ use Rattle.lsm_directory.specs.declared.folder.folder_file.FolderFile.{FolderFil
 use Rattle.lsm_bulk_load.specs.Marks.{marked_in}
 use Rattle.lsm_opening.specs.Preparing.{IsPrepared, plainly}
 use Rattle.lsm_opening.specs.Starting.{IsNew}
-use Rattle.lsm_opening.specs.declared.start.Start.TheVariants.{Begin}
+use Rattle.lsm_opening.specs.declared.prepared.Start.TheVariants.{Begin}
 use Rattle.lsm_cmd_bench.specs.Filled.{RunsAll}
 
 -- A database was begun on the shelf, whose manifest has this number; into it came what the

@@ -4,7 +4,7 @@ ghost use Rattle.std.specs.Prelude.{◌≡◌, ◌≢◌, IfOk, OnOk};
 ghost use Rattle.std.specs.Io.KnownBytes.{Keeps};
 ghost use Rattle.lsm_cmd_bench.specs.Benched.{BenchesAt};
 ghost use Rattle.lsm_directory.specs.Logs.{NoneUnread};
-ghost use Rattle.lsm_opening.specs.declared.start.Start.TheVariants.{Begin};
+ghost use Rattle.lsm_opening.specs.declared.prepared.Start.TheVariants.{Begin};
 
 use crate::bench_fault::BenchFault;
 use crate::running::run_on;

@@ -17,7 +17,7 @@ use Rattle.lsm_opening.specs.Compactions.{IsSwept, Refuses}
 use Rattle.lsm_opening.specs.Starting.{IsStartRefusal, IsStarted}
 use Rattle.lsm_opening.specs.declared.faults.writer_fault.WriterFault.TheVariants.{OutOfMemory}
 use Rattle.lsm_opening.specs.declared.faults.writer_fault.WriterFault.TheVariants.{Read}
-use Rattle.lsm_opening.specs.declared.start.Start.{Start}
+use Rattle.lsm_opening.specs.declared.prepared.Start.{Start}
 use Rattle.lsm_bulk_load.specs.Ending.{IsIdle}
 use Rattle.lsm_bulk_load.specs.Loading.{IsLoaded, IsUnloaded}
 use Rattle.lsm_bulk_load.specs.Marks.{marked_in}

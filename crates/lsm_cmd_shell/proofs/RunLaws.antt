@@ -11,7 +11,7 @@ use Rattle.lsm_directory.specs.Folders.{IsShelfAt, stored_at, told_by}
 use Rattle.lsm_directory.specs.declared.folder.folder_file.FolderFile.{FolderFile}
 use Rattle.lsm_opening.specs.Preparing.{IsPrepared}
 use Rattle.lsm_opening.specs.declared.faults.compact_fault.CompactFault.{CompactFault}
-use Rattle.lsm_opening.specs.declared.start.Start.{Start}
+use Rattle.lsm_opening.specs.declared.prepared.Start.{Start}
 use Rattle.lsm_cmd_shell.specs.Conversing.{IsConversed, IsUnconversed}
 use Rattle.lsm_cmd_shell.specs.Talked.{FailsToTalk, TalksAt}
 

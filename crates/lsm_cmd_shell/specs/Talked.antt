@@ -13,7 +13,7 @@ use Rattle.lsm_directory.specs.Folders.{IsShelfAt, stored_at, told_by}
 use Rattle.lsm_directory.specs.declared.folder.folder_file.FolderFile.{FolderFile}
 use Rattle.lsm_opening.specs.Preparing.{IsPrepared}
 use Rattle.lsm_opening.specs.declared.faults.compact_fault.CompactFault.{CompactFault}
-use Rattle.lsm_opening.specs.declared.start.Start.{Start}
+use Rattle.lsm_opening.specs.declared.prepared.Start.{Start}
 use Rattle.lsm_cmd_shell.specs.Conversing.{IsConversed, IsUnconversed}
 
 module _ {C M : Type 0} (folders : Ghosts C M) where

@@ -21,7 +21,7 @@ use Rattle.lsm_cmd_write.specs.declared.cleaning.kept.Kept.{Kept}
 use Rattle.lsm_opening.specs.declared.faults.writer_fault.WriterFault.{WriterFault}
 use Rattle.lsm_opening.specs.declared.faults.writer_fault.WriterFault.TheVariants.{Write as WriteFault}
 use Rattle.lsm_directory.specs.declared.folder.folder_file.FolderFile.{FolderFile}
-use Rattle.lsm_opening.specs.declared.start.Start.{Start}
+use Rattle.lsm_opening.specs.declared.prepared.Start.{Start}
 
 module _ {C M : Type 0} (folders : Ghosts C M) where
   -- ---- what was done on it

@@ -7,7 +7,7 @@ use Rattle.lsm_shelf.specs.declared.shelf_fault.ShelfFault.{ShelfFault}
 use Rattle.lsm_shelf.specs.Told.{Told}
 use Rattle.lsm_batch.specs.declared.write.Write.{Write}
 use Rattle.lsm_directory.specs.declared.folder.folder_file.FolderFile.{FolderFile}
-use Rattle.lsm_opening.specs.declared.start.Start.{Start}
+use Rattle.lsm_opening.specs.declared.prepared.Start.{Start}
 use Rattle.lsm_cmd_write.specs.Ingesting.{IsIngestFault, IsNotBroughtIn}
 use Rattle.lsm_opening.specs.declared.faults.writer_fault.WriterFault.{WriterFault}
 use Rattle.lsm_opening.specs.declared.faults.writer_fault.WriterFault.TheVariants.{Write as WriteFault}

@@ -3,6 +3,6 @@ mod NameLaws
 mod Looked
 mod PartsLaws
 mod StartLaws
-mod Forks
+mod ForkLaws
 mod SweepLaws
 mod CallerLemmas

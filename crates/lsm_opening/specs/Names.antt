@@ -7,8 +7,8 @@ use Rattle.lsm_directory.specs.FileNames.{IsFileName, is_of_database, number_of}
 use Rattle.lsm_directory.specs.declared.faults.directory_fault.DirectoryFault.TheVariants.{NumbersSpent}
 use Rattle.lsm_directory.specs.declared.folder.file_kind.FileKind.{FileKind}
 use Rattle.lsm_directory.specs.declared.folder.file_kind.FileKind.TheVariants.{Manifest}
-use Rattle.lsm_opening.specs.declared.start.Start.{Start}
-use Rattle.lsm_opening.specs.declared.start.Start.TheVariants.{Open, Begin}
+use Rattle.lsm_opening.specs.declared.prepared.Start.{Start}
+use Rattle.lsm_opening.specs.declared.prepared.Start.TheVariants.{Open, Begin}
 use Rattle.lsm_opening.specs.declared.faults.writer_fault.WriterFault.{WriterFault}
 use Rattle.lsm_opening.specs.declared.faults.writer_fault.WriterFault.TheVariants.{Directory}
 use Rattle.lsm_opening.specs.declared.faults.writer_fault.WriterFault.TheVariants.{LostCurrent}

@@ -16,7 +16,7 @@ use Rattle.lsm_opening.specs.Names.{Leads, LeadsNowhere}
 use Rattle.lsm_opening.specs.WriterFault.{of_shelf}
 use Rattle.lsm_text.specs.declared.form.Form.TheVariants.{Hex}
 use Rattle.lsm_text.specs.declared.ingest_options.IngestOptions.{IngestOptions}
-use Rattle.lsm_opening.specs.declared.start.Start.{Start}
+use Rattle.lsm_opening.specs.declared.prepared.Start.{Start}
 use Rattle.lsm_opening.specs.declared.faults.writer_fault.WriterFault.{WriterFault}
 use Rattle.lsm_opening.specs.declared.faults.writer_fault.WriterFault.TheVariants.{Directory}
 

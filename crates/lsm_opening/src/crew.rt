@@ -6,7 +6,7 @@ ghost use Rattle.lsm_state.specs.Held.{Held};
 ghost use Rattle.lsm_store.specs.Compacting.{IsSeated};
 ghost use Rattle.lsm_store.specs.Readers.{SeatsPinners};
 
-use crate::forks::forks;
+use crate::forking::forks;
 use lsm_slots::Boarded;
 use lsm_state::State;
 use lsm_store::{Invariant, Lawful, Store};

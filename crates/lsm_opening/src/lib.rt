@@ -13,15 +13,15 @@ mod parts;
 // A folder is held and looked at: to which database its names lead, and which logs are beside it.
 mod holding;
 mod names;
+mod prepared;
 mod preparing;
-mod start;
 
 // A database is begun or opened.
 mod starting;
 
 // A store beside its workers, and what is removed behind them.
 mod crew;
-mod forks;
+mod forking;
 mod sweeping;
 
 // Why not, and what is told of that.
@@ -30,11 +30,11 @@ mod faults;
 pub use crew::Crew;
 pub use faults::compact_fault::CompactFault;
 pub use faults::writer_fault::WriterFault;
-pub use forks::forks;
+pub use forking::forks;
 pub use holding::held_shelf;
 pub use names::{is_temporary, manifest_in, table_in};
 pub use parts::NewParts;
+pub use prepared::{Prepared, Start};
 pub use preparing::{plainly, prepare};
-pub use start::{Prepared, Start};
 pub use starting::{begin, open, start, start_with};
 pub use sweeping::sweep;

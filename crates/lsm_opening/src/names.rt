@@ -12,7 +12,7 @@ ghost use Rattle.lsm_opening.specs.Names.{IsManifestName, IsNumbered, IsOfDataba
 ghost use Rattle.lsm_opening.specs.Names.{LeadsNowhere};
 
 use crate::faults::writer_fault::WriterFault;
-use crate::start::Start;
+use crate::prepared::Start;
 use lsm_directory::{DirectoryFault, FileKind};
 
 /// Whether a name is `CURRENT`.

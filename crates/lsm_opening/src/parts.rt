@@ -121,7 +121,7 @@ impl<N: Boarded, S: Shelf> Model for Parts<N, S> {
     ghost view = { λ p. p.options };
 
     ghost invariant = { λ p.
-      AreNamed N.board N.history p.options p.publisher p.pinners.items p.history };
+        AreNamed N.board N.history p.options p.publisher p.pinners.items p.history };
 }
 
 impl<N: Boarded, S: Shelf> Parts<N, S> {

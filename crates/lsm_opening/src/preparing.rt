@@ -7,7 +7,7 @@ ghost use Rattle.lsm_opening.specs.Preparing.{OnlyLocks, StopsLooking, plainly};
 
 use crate::faults::writer_fault::WriterFault;
 use crate::names::start_among;
-use crate::start::Prepared;
+use crate::prepared::Prepared;
 use lsm_directory::{FolderFile, folder_names, hold, logs_among};
 use lsm_folder::{FolderCalls, LockKind};
 use lsm_table::ShelfFault;

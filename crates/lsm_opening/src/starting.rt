@@ -16,7 +16,7 @@ ghost use Rattle.lsm_store.specs.Readers.{SeatsPinners};
 
 use crate::faults::writer_fault::WriterFault;
 use crate::parts::{NewParts, Parts, usual_parts};
-use crate::start::{Prepared, Start};
+use crate::prepared::{Prepared, Start};
 use lsm_directory::{DirectoryFault, FolderFile, first_unread};
 use lsm_journal::{Journal, Recovered};
 use lsm_manifest::{Edit, LogWriter, Shape, replayed_shapes, whole_edit_replays};
@@ -108,9 +108,7 @@ fn create<N: Boarded, S: Shelf, R: Wait>(
         history,
     } = parts;
     let board = (publisher, pinners);
-    match State::create_under(
-        rt, alloc, shelf, options, registry, board, history, number,
-    ) {
+    match State::create_under(rt, alloc, shelf, options, registry, board, history, number) {
         Ok(state) => Ok(state),
         Err(fault) => Err(WriterFault::of_shelf(fault)),
     }

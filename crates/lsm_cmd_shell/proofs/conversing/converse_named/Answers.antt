@@ -7,7 +7,7 @@ use Rattle.lsm_text.specs.declared.form.Form.{Form}
 use Rattle.lsm_directory.specs.declared.folder.folder_file.FolderFile.{FolderFile}
 use Rattle.lsm_script.specs.Steps.{OnDesk, Stage, clear, stage}
 use Rattle.lsm_opening.specs.Starting.{IsStarted}
-use Rattle.lsm_opening.specs.declared.start.Start.{Start}
+use Rattle.lsm_opening.specs.declared.prepared.Start.{Start}
 use Rattle.lsm_cmd_shell.specs.Conversing.{Converses}
 use Rattle.lsm_cmd_shell.specs.Talk.{IsTalk}
 use Rattle.lsm_cmd_shell.specs.declared.talk_fault.TalkFault.{TalkFault}

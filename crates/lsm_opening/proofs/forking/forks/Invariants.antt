@@ -1,6 +1,6 @@
 use Rattle.std.proofs.Common.{◌≡◌, replicate, vec_len}
 use Rattle.lsm_shelf.specs.Told.{Forked, fresh}
-use Rattle.lsm_opening.proofs.forks.forks.Given as goal
+use Rattle.lsm_opening.proofs.forking.forks.Given as goal
 
 abbrev pub invariant-loop : goal.invariant-loop
 invariant-loop g l = record {

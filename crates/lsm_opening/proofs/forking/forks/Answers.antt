@@ -1,8 +1,8 @@
 use Rattle.std.proofs.Common.{◌+◌, ◌++◌, ◌∷◌, [], List, ap, ◌∙◌}
 use Rattle.lsm_shelf.specs.Told.{Told, fresh}
 use Rattle.lsm_shelf.proofs.CallerLemmas.{forked_once, forked_then}
-use Rattle.lsm_opening.proofs.Forks.{one_more}
-use Rattle.lsm_opening.proofs.forks.forks.Goals as goal
+use Rattle.lsm_opening.proofs.ForkLaws.{one_more}
+use Rattle.lsm_opening.proofs.forking.forks.Goals as goal
 
 pub returns-in_err-push-clause-told : goal.returns-in_err-push-clause-told
 returns-in_err-push-clause-told g c = forked_then _ _ _ c.loop.invariant.told (forked_once _ _ c.in_ok-fork.ensures.ok)
