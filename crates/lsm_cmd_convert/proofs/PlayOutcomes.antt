@@ -49,8 +49,8 @@ none_left rs i h cut = subst (λ (ys : List Reply). Has ys cut.0) (drop_all i rs
 pub not_begun : (Refused : Asked → ShelfFault → Type 0) (e : WriterFault) (was is : Told) → IsBeginRefusal 1 Refused e was is
     → (e ≡ OutOfMemory) ⊎ ((fault : ShelfFault) × (e ≡ of_shelf fault) × IsCreateRefusal fault was is)
 not_begun Refused e was is (inl memory) = inl memory.0
-not_begun Refused e was is (inr (inl spent)) = absurd (let same = spent.1 in omega arith)
-not_begun Refused e was is (inr (inr refused)) = inr (refused.0, refused.1, refused.2.0)
+not_begun Refused e was is (inr (inl (spent, last, same))) = absurd (omega (arith, last))
+not_begun Refused e was is (inr (inr (fault, same, refused, asked, counted))) = inr (fault, same, refused)
 
 created_history : (publisher : Known) (pinners : List Known) → history_of (created_state usual publisher pinners) ≡ nothing
 created_history publisher pinners = refl

@@ -1,5 +1,5 @@
 -- The state with which a command or the server begins (this project's rule).
-use Rattle.std.specs.Prelude.{◌≡◌, ℕ, ◌-◌, ◌*◌, ◌^◌, ◌×◌, ◌⊎◌, false, List, [], length, max, min}
+use Rattle.std.specs.Prelude.{◌≡◌, ℕ, ◌-◌, ◌*◌, ◌^◌, ◌⊎◌, false, List, [], length, max, min}
 use Rattle.lsm_pins.specs.Known.{Known}
 use Rattle.lsm_shelf.specs.Asked.{Asked}
 use Rattle.lsm_shelf.specs.declared.shelf_fault.ShelfFault.{ShelfFault}

@@ -49,7 +49,6 @@ fn whole_size(alloc: Global, shape: &Shape) -> Result<usize, AllocError>
 }
 
 /// The same of what was read of a manifest.
-#[tactic(auto, using(crate::proofs::StartLaws::found_fits))]
 fn found_size(alloc: Global, found: &Recovered) -> Result<usize, AllocError>
     requires { IsRecovered found.now.journal found.now.shape found.now.rest }
     ensures { IfOk result (λ n. n ≡ whole_size found.now.shape) }
