@@ -1,3 +1,4 @@
+mod KeepingLaws
 mod KnownLaws
 mod SeenLaws
 mod PinLaws

@@ -5,6 +5,7 @@ ghost use Rattle.std.specs.Option.{option_map};
 ghost use Rattle.lsm_codec.specs.Entries.{answer};
 ghost use Rattle.lsm_model.specs.Scanning.{IsScan};
 ghost use Rattle.lsm_iterators.specs.Seeking.{at_or_past};
+ghost use Rattle.lsm_channels.specs.Keeping.{IsKeptQuietly};
 ghost use Rattle.lsm_channels.specs.Pinning.{HasLearnt, IsUnpinned, PinsCurrent};
 ghost use Rattle.lsm_store.specs.Readers.{IsIdle, IsPromised};
 ghost use Rattle.lsm_table.specs.ReadFault.{IsMemoryOrShelf};
@@ -14,7 +15,7 @@ use lsm_query::{Scan, get_by, scan_from_by};
 use lsm_reader::Cached;
 use lsm_slots::Boarded;
 use lsm_state::{State, StateFault};
-use lsm_store::{Reader, Store};
+use lsm_store::{Invariant, Reader, Store};
 use lsm_table::{ReadFault, Shelf};
 use lsm_version::Version;
 use std::alloc::Global;
@@ -108,7 +109,12 @@ impl<N: Boarded, S: Shelf> LockedVersion<N, S> {
     }
 
     /// Gives the pin back.
-    pub(crate) fn end<R: Wait>(self, rt: &R, store: &Store<N, S>) -> Reader<N, S>
+    pub(crate) fn end<K: Invariant, R: Wait>(
+        self,
+        rt: &R,
+        store: &Store<N, S, K>,
+    ) -> Reader<N, S>
+        requires quiet { IsKeptQuietly K.keeps }
         ensures reader { result ≡ self }
         ensures idle { IsIdle result }
     {

@@ -1,13 +1,14 @@
 //! By whose pin a version is read.
 
 ghost use Rattle.std.specs.Prelude.{◌≡◌, IfErr, IfOk, OnErr};
+ghost use Rattle.lsm_channels.specs.Keeping.{IsKeptQuietly};
 ghost use Rattle.lsm_channels.specs.Pinning.{HasLearnt, IsPinnedBy, IsUnpinned, KnowsSame, seen_by};
 ghost use Rattle.lsm_store.specs.Readers.{unpinned};
 
 use crate::locked_version::LockedVersion;
 use lsm_slots::Boarded;
 use lsm_state::{State, StateFault};
-use lsm_store::{Reader, Store, View};
+use lsm_store::{Invariant, Reader, Store, View};
 use lsm_table::Shelf;
 use std::sync::Wait;
 
@@ -47,7 +48,12 @@ impl<N: Boarded, S: Shelf> Pin<N, S> {
 
     /// Gives the pin back.
     #[tactic(auto, using(crate::proofs::PinLaws::ended_idle))]
-    pub(crate) fn end<R: Wait>(self, rt: &R, store: &Store<N, S>) -> Reader<N, S>
+    pub(crate) fn end<K: Invariant, R: Wait>(
+        self,
+        rt: &R,
+        store: &Store<N, S, K>,
+    ) -> Reader<N, S>
+        requires quiet { IsKeptQuietly K.keeps }
         ensures { result ≡ unpinned (seen_by self) }
     {
         match self {

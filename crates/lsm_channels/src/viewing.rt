@@ -10,6 +10,7 @@ ghost use Rattle.lsm_channels.specs.Reading.{IsUnseen};
 ghost use Rattle.lsm_channels.specs.Seen.{IsAsGiven, IsGiven, IsNotLive, Learns, Sees, is_other};
 ghost use Rattle.lsm_channels.specs.Seen.{snapshot_in};
 ghost use Rattle.std.specs.List.{list_any};
+ghost use Rattle.lsm_channels.specs.Keeping.{IsKeptQuietly, IsKnown};
 ghost use Rattle.lsm_channels.specs.Served.{IsToldBy};
 ghost use Rattle.lsm_store.specs.Readers.{refreshed};
 
@@ -21,7 +22,7 @@ use lsm_frames::When;
 use lsm_history::Memory;
 use lsm_slots::Boarded;
 use lsm_state::{State, StateFault};
-use lsm_store::{Reader, Store};
+use lsm_store::{Invariant, Reader, Store};
 use lsm_table::Shelf;
 use std::sync::Wait;
 
@@ -122,16 +123,18 @@ fn view_of<N: Boarded, S: Shelf>(
 /// A view of all that has come in, and the sequence at which it is read: the last one, or the
 /// snapshot's. The version is pinned under the lock.
 #[tactic(auto, using(crate::proofs::KnownLaws::told_later))]
-pub(crate) fn view_at<N: Boarded, S: Shelf, R: Wait>(
+pub(crate) fn view_at<N: Boarded, S: Shelf, K: Invariant, R: Wait>(
     rt: &R,
-    store: &Store<N, S>,
+    store: &Store<N, S, K>,
     reader: ChannelReader<N, S>,
     memory: &mut Memory<N>,
     taken: &[(u64, u64)],
     when: When,
 ) -> Result<(ChannelView<N, S>, u64), (ChannelReader<N, S>, StateFault)>
+    requires quiet { IsKeptQuietly K.keeps }
     ensures sees { IfOk result (λ r. Sees when taken.now reader r.0 memory.old memory.new r.1) }
     ensures known { IsLater memory.new memory.old }
+    ensures kept { IsKnown K.keeps memory.new }
     ensures later { IfErr result (λ e. IsLater e.0.history reader.history) }
     ensures refused { IfErr result (λ e. IsUnseen when taken.now memory.old memory.new e.1) }
 {
