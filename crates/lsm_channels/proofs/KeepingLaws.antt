@@ -1,59 +1,128 @@
 -- What the lock keeps.
-use Rattle.std.proofs.Common.{◌≡◌, ℕ, List, [], ◌∷◌, ◌++◌, sym, ap, ◌∙◌, subst, inl, inr}
+use Rattle.std.proofs.Common.{◌≡◌, ℕ, suc, List, [], ◌∷◌, ◌++◌, Option, None, Some, Result, Ok, Err, IfErr, IfOk, OnErr, OnOk, refl, sym, ap, ◌∙◌, subst, inl, inr}
 use Rattle.std.proofs.Math.Logic.{∥∥₁_map}
 use Rattle.lsm_batch.specs.declared.write.Write.{Write}
 use Rattle.lsm_codec.specs.Entries.{Entry}
+use Rattle.lsm_codec.specs.Lists.{Has}
 use Rattle.lsm_frames.specs.Requests.{Asked, IsRequest, Writes, Reads, Scans, Snapshots, Releases, Compacts, Collects, Statistics}
+use Rattle.lsm_model.specs.Plain.{Plain}
+use Rattle.lsm_model.specs.Runs.{Event, Run, Ingest, Snapshot, Release, Reserve, Cancel, Draw, Install, Spend, Nothing}
 use Rattle.lsm_shelf.specs.Asked as shelf
 use Rattle.lsm_shelf.specs.declared.shelf_fault.ShelfFault.{ShelfFault}
-use Rattle.lsm_state.specs.Held.{Held}
+use Rattle.lsm_state.specs.Held.{Held, plain}
 use Rattle.lsm_store.specs.Background.{IsIngestStep}
-use Rattle.lsm_store.specs.Compacting.{IsKeptByCompaction, IsSeated}
-use Rattle.lsm_channels.specs.Keeping.{HasGrown, IsAskedFor, IsKeptByAsked, IsKeptByRequests, IsKeptQuietly, IsKnown}
-use Rattle.lsm_channels.specs.Served.{IsToldBy}
+use Rattle.lsm_store.specs.Compacting.{IsKeptByCompaction, IsOfWorkers, IsSeated}
+use Rattle.lsm_channels.specs.Keeping.{BringsNothing, HasComeTo, IsAskedFor, IsKeptByAsked, IsKeptByRequests, IsKeptQuietly, IsKnown, IsQuietStep}
+use Rattle.lsm_channels.specs.Served.{IsLent, IsToldBy}
+use Rattle.lsm_channels.specs.Snapshots.{ReleasesAt, TakesAt}
+
+-- ---- quiet steps
+
+none_of : (e : Event) → Has [] e → BringsNothing e
+none_of e h = absurd h
+
+one_of : (x : Event) → BringsNothing x → (e : Event) → Has (x ∷ []) e → BringsNothing e
+one_of x quiet e (inl same) = subst BringsNothing same quiet
+one_of x quiet e (inr h) = absurd h
+
+two_of : (x y : Event) → BringsNothing x → BringsNothing y → (e : Event) → Has (x ∷ y ∷ []) e → BringsNothing e
+two_of x y one two e (inl same) = subst BringsNothing same one
+two_of x y one two e (inr h) = one_of y two e h
+
+-- the machine sees nothing of it
+pub quiet_look : (Honest : Type 0) (was is : Held) → plain is ≡ plain was → is.history ≡ was.history → IsQuietStep Honest was is
+quiet_look Honest was is same history = record { events = []; none = none_of; run = same; history = history }
+
+pub quiet_same : (Honest : Type 0) (was is : Held) → is ≡ was → IsQuietStep Honest was is
+quiet_same Honest was is same = quiet_look Honest was is (ap plain same) (ap (λ (h : Held). h.history) same)
+
+quiet_take : (Honest : Type 0) (was is : Held) (number sequence : ℕ) → TakesAt was is number sequence → IsQuietStep Honest was is
+quiet_take Honest was is number sequence t = record {
+  events = Snapshot ∷ [];
+  none = one_of Snapshot tt;
+  run = (
+    plain is,
+    ap plain t.left ∙ ap (λ (n : ℕ). record (plain was) { snapshots = was.snapshots.taken ++ (n, sequence) ∷ []; next_id = suc n }) t.number_is
+    ∙ ap (λ (q : ℕ). record (plain was) { snapshots = was.snapshots.taken ++ (was.snapshots.next, q) ∷ []; next_id = suc was.snapshots.next }) t.sequence_is,
+    refl,
+  );
+  history = ap (λ (h : Held). h.history) t.left;
+}
+
+quiet_release : (Honest : Type 0) (was is : Held) (number : ℕ) → ReleasesAt was is number → IsQuietStep Honest was is
+quiet_release Honest was is number t = record {
+  events = Release number ∷ [];
+  none = one_of (Release number) tt;
+  run = (plain is, ap plain t.left, refl);
+  history = ap (λ (h : Held). h.history) t.left;
+}
+
+pub quiet_taken : {E : Type 0} (Honest : Type 0) (P : ℕ × ℕ → Type 0) (was is : Held) (r : Result (ℕ × ℕ) E) → IfOk r (λ x. TakesAt was is x.0 x.1 × P x) → OnErr r (is ≡ was)
+    → IsQuietStep Honest was is
+quiet_taken Honest P was is (Ok x) ok err = quiet_take Honest was is x.0 x.1 ok.0
+quiet_taken Honest P was is (Err e) ok err = quiet_same Honest was is err
+
+pub quiet_released : {E : Type 0} (Honest : Type 0) (was is : Held) (number : ℕ) (r : Result (Unit {0}) E) → OnOk r (ReleasesAt was is number) → OnErr r (is ≡ was) → IsQuietStep Honest was is
+quiet_released Honest was is number (Ok x) ok err = quiet_release Honest was is number ok
+quiet_released Honest was is number (Err e) ok err = quiet_same Honest was is err
+
+of_workers : (e : Event) → IsOfWorkers e → BringsNothing e
+of_workers (Ingest entries) h = h
+of_workers Snapshot h = tt
+of_workers (Release id) h = tt
+of_workers (Reserve plan job) h = tt
+of_workers (Cancel ticket) h = tt
+of_workers (Draw ticket) h = tt
+of_workers (Install ticket) h = tt
+of_workers Spend h = tt
+of_workers Nothing h = tt
+
+-- ---- facts that are kept
 
 -- what brings nothing in keeps the fact of the lock
-pub kept_on : (keeps : Held → Type 0) (was is : Held) → IsKeptQuietly keeps → is.history ≡ was.history → ∥ keeps was ∥₁ → ∥ keeps is ∥₁
-kept_on keeps was is quiet same kept = ∥∥₁_map kept (quiet was is same)
-
--- so does what changes nothing
-pub kept_same : (keeps : Held → Type 0) (was is : Held) → IsKeptQuietly keeps → is ≡ was → ∥ keeps was ∥₁ → ∥ keeps is ∥₁
-kept_same keeps was is quiet same kept = kept_on keeps was is quiet (ap (λ (h : Held). h.history) same) kept
+pub kept_on : (Honest : Type 0) (keeps : Held → Type 0) (was is : Held) → IsKeptQuietly Honest keeps → IsQuietStep Honest was is → ∥ keeps was ∥₁ → ∥ keeps is ∥₁
+kept_on Honest keeps was is quiet step kept = ∥∥₁_map kept (quiet was is step)
 
 -- what is known is what had come in in a state of which the fact held
 pub known_by : (keeps : Held → Type 0) (h : Held) (knew knows : List Entry) → IsToldBy h knew knows → ∥ keeps h ∥₁ → IsKnown keeps knows
 known_by keeps h knew knows told kept = (h, kept, told.known)
 
-pub quiet_compaction : (Honest : Type 0) (keeps : Held → Type 0) → IsKeptQuietly keeps → IsKeptByCompaction Honest keeps
-quiet_compaction Honest keeps quiet was is step = quiet was is step.found.history
+pub lent_by : (keeps : Held → Type 0) (h : Held) (knew knows : List Entry) → ∥ keeps h ∥₁ → IsToldBy h knew knows → IsLent keeps h knew knows
+lent_by keeps h knew knows kept told = record { kept = kept; told = told }
+
+pub quiet_compaction : (Honest : Type 0) (keeps : Held → Type 0) → IsKeptQuietly Honest keeps → IsKeptByCompaction Honest keeps
+quiet_compaction Honest keeps quiet was is step =
+    quiet was is (record { events = step.run.events; none = λ e has. of_workers e (step.run.only e has); run = step.run.run; history = step.found.history })
 
 -- ---- the fact of a server
 
-pub grown_quiet : (gives : List ℕ → Type 0) (found : List Entry) → IsKeptQuietly (λ h. HasGrown gives found h.history)
-grown_quiet gives found was is same grown = subst (λ (es : List Entry). HasGrown gives found es) (sym same) grown
+pub come_quiet : (Honest : Type 0) (gives : List ℕ → Type 0) (found : Held) → IsKeptQuietly Honest (HasComeTo Honest gives found)
+come_quiet Honest gives found was is step come = (None ∷ come.0, (was, come.1, step))
 
-grown_by : (Refused : shelf.Asked → ShelfFault → Type 0) (gives : List ℕ → Type 0) (found : List Entry) (batch : List Write) (was is : Held) → IsAskedFor gives batch
-    → IsIngestStep Refused batch was is → HasGrown gives found was.history → HasGrown gives found is.history
-grown_by Refused gives found batch was is asked (inl b) grown = (batch ∷ grown.0, (was, grown.1, asked, b.3.history))
-grown_by Refused gives found batch was is asked (inr k) grown = grown_quiet gives found was is k.3.history grown
+-- a batch that is asked for comes in, or is refused
+come_by : (Honest : Type 0) (Refused : shelf.Asked → ShelfFault → Type 0) (gives : List ℕ → Type 0) (found : Held) (batch : List Write) (was is : Held) → IsAskedFor gives batch
+    → IsIngestStep Refused batch was is → HasComeTo Honest gives found was → HasComeTo Honest gives found is
+come_by Honest Refused gives found batch was is asked (inl b) come = (Some batch ∷ come.0, (was, come.1, (asked, b)))
+come_by Honest Refused gives found batch was is asked (inr k) come =
+    come_quiet Honest gives found was is (record { events = Spend ∷ []; none = one_of Spend tt; run = (plain is, k.3.event, refl); history = k.3.history }) come
 
-grown_asked : (Refused : shelf.Asked → ShelfFault → Type 0) (gives : List ℕ → Type 0) (found : List Entry) (content : List ℕ) (asked : Asked) → gives content → IsRequest content asked
-    → IsKeptByAsked Refused asked (λ h. HasGrown gives found h.history)
-grown_asked Refused gives found content (Writes ws) given request =
-    λ batch last was is step grown. grown_by Refused gives found batch was is (record { content = content; given = given; writes = ws; request = request; last = last }) step grown
-grown_asked Refused gives found content (Reads when keys) given request = tt
-grown_asked Refused gives found content (Scans s) given request = tt
-grown_asked Refused gives found content Snapshots given request = tt
-grown_asked Refused gives found content (Releases number) given request = tt
-grown_asked Refused gives found content Compacts given request = tt
-grown_asked Refused gives found content Collects given request = tt
-grown_asked Refused gives found content Statistics given request = tt
+come_asked : (Honest : Type 0) (Refused : shelf.Asked → ShelfFault → Type 0) (gives : List ℕ → Type 0) (found : Held) (content : List ℕ) (asked : Asked) → gives content → IsRequest content asked
+    → IsKeptByAsked Refused asked (HasComeTo Honest gives found)
+come_asked Honest Refused gives found content (Writes ws) given request =
+    λ batch last was is step come.
+        come_by Honest Refused gives found batch was is (record { content = content; given = given; writes = ws; request = request; last = last }) step come
+come_asked Honest Refused gives found content (Reads when keys) given request = tt
+come_asked Honest Refused gives found content (Scans s) given request = tt
+come_asked Honest Refused gives found content Snapshots given request = tt
+come_asked Honest Refused gives found content (Releases number) given request = tt
+come_asked Honest Refused gives found content Compacts given request = tt
+come_asked Honest Refused gives found content Collects given request = tt
+come_asked Honest Refused gives found content Statistics given request = tt
 
 -- each request that may come keeps it
-pub grown_requests : (Refused : shelf.Asked → ShelfFault → Type 0) (comes gives : List ℕ → Type 0) (found : List Entry) → ((content : List ℕ) → comes content → gives content)
-    → IsKeptByRequests Refused comes (λ h. HasGrown gives found h.history)
-grown_requests Refused comes gives found may content asked given request = grown_asked Refused gives found content asked (may content given) request
+pub come_requests : (Honest : Type 0) (Refused : shelf.Asked → ShelfFault → Type 0) (gives : List ℕ → Type 0) (found : Held) → IsKeptByRequests Refused gives (HasComeTo Honest gives found)
+come_requests Honest Refused gives found content asked given request = come_asked Honest Refused gives found content asked given request
 
 -- it holds of the state that was found
-pub grown_found : (gives : List ℕ → Type 0) (found : List Entry) (state h : Held) → state.history ≡ found → IsSeated state h → HasGrown gives found h.history
-grown_found gives found state h same seated = ([], ap (λ (s : Held). s.history) seated.1 ∙ same)
+pub come_found : (Honest : Type 0) (gives : List ℕ → Type 0) (found h : Held) → IsSeated found h → HasComeTo Honest gives found h
+come_found Honest gives found h seated = ([], seated)

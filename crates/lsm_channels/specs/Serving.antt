@@ -14,13 +14,13 @@ use Rattle.lsm_wire.specs.Conversing.{IsConversation}
 use Rattle.lsm_wire.specs.Happenings.{Happening, Went, IsUnanswered, IsWritten}
 use Rattle.lsm_channels.specs.Answered.{done_frame, refusal_frame}
 use Rattle.lsm_channels.specs.Answering.{IsAnswered}
-use Rattle.lsm_channels.specs.Keeping.{HasGrown, IsKnown}
+use Rattle.lsm_channels.specs.Keeping.{HasComeTo, IsKnown}
 use Rattle.lsm_channels.specs.Served.{Served}
 use Rattle.lsm_channels.specs.Starting.{IsStarted, options_for}
 
 -- The frame answers what is asked, as `IsAnswered` has it; and all that is known then had come in in a state of which the lock's fact held.
 abbrev pub Answers : Type 0 → (shelf.Asked → ShelfFault → Type 0) → (Held → Type 0) → Asked → (before after : Served) → (frame : List ℕ) → Type 0
-Answers Honest Refused keeps asked before after frame = IsAnswered Honest Refused asked before after frame × IsKnown keeps after.known
+Answers Honest Refused keeps asked before after frame = IsAnswered Honest Refused keeps asked before after frame × IsKnown keeps after.known
 
 -- ---- one channel
 
@@ -105,4 +105,4 @@ pub record IsDatabaseServed (Honest : Type 0) (Refused : shelf.Asked → ShelfFa
   pub found : Held
   pub told : Told
   pub started : IsStarted Honest (options_for channels) start logs found was told
-  pub served : AreServed Honest Refused (λ h. HasGrown gives found.history h.history) ws rs
+  pub served : AreServed Honest Refused (HasComeTo Honest gives found) ws rs

@@ -33,7 +33,7 @@ fn answer<N: Boarded, S: Shelf, K: Invariant, W: Wire, R: Threads + Wait + Sync>
     wire: &mut W,
     content: &[u8],
 ) -> (Session<N, S>, bool)
-    requires quiet { IsKeptQuietly K.keeps }
+    requires quiet { IsKeptQuietly S.honest K.keeps }
     requires asked { IsKeptByRequests (S.refuses N.place) W.gives K.keeps }
     requires given { W.gives content.now }
     requires known { IsKnown K.keeps session.known }
@@ -64,7 +64,7 @@ fn take_turn<N: Boarded, S: Shelf, K: Invariant, W: Wire, R: Threads + Wait + Sy
     session: Session<N, S>,
     wire: &mut W,
 ) -> (Session<N, S>, bool)
-    requires quiet { IsKeptQuietly K.keeps }
+    requires quiet { IsKeptQuietly S.honest K.keeps }
     requires asked { IsKeptByRequests (S.refuses N.place) W.gives K.keeps }
     requires known { IsKnown K.keeps session.known }
     ensures turn { IsTurnOrEnd (Answers S.honest (S.refuses N.place) K.keeps) result.1
@@ -96,7 +96,7 @@ pub(crate) fn serve<N: Boarded, S: Shelf, K: Invariant, W: Wire, R: Threads + Wa
     background: &Background,
     channel: Channel<N, S, W>,
 ) -> Channel<N, S, W>
-    requires quiet { IsKeptQuietly K.keeps }
+    requires quiet { IsKeptQuietly S.honest K.keeps }
     requires asked { IsKeptByRequests (S.refuses N.place) W.gives K.keeps }
     requires known { IsKnown K.keeps channel.session.known }
     ensures served { IsConversation (Answers S.honest (S.refuses N.place) K.keeps)

@@ -102,7 +102,7 @@ impl<N: Boarded, S: Shelf> ChannelView<N, S> {
         rt: &R,
         store: &Store<N, S, K>,
     ) -> ChannelReader<N, S>
-        requires quiet { IsKeptQuietly K.keeps }
+        requires quiet { IsKeptQuietly S.honest K.keeps }
         ensures { result ≡ unpinned self }
     {
         let ChannelView { pin, blocks } = self;

@@ -3,7 +3,7 @@
 ghost use Rattle.std.specs.Prelude.{◌≡◌, All, IfErr, IfOk, IsTrue, OnOk};
 ghost use Rattle.lsm_history.specs.History.{IsLater};
 ghost use Rattle.lsm_channels.specs.Compacting.{IsCompactFault, IsCompacted, IsSettled};
-ghost use Rattle.lsm_channels.specs.Keeping.{IsKeptQuietly, IsKnown};
+ghost use Rattle.lsm_channels.specs.Keeping.{IsKeptQuietly, IsKnown, IsQuietStep};
 ghost use Rattle.lsm_channels.specs.Served.{IsToldBy};
 ghost use Rattle.lsm_shelf.specs.Told.{Forked};
 ghost use Rattle.lsm_store.specs.Workers.{IsOfReserving, IsWorkersEnd};
@@ -39,7 +39,7 @@ fn work<N: Boarded, S: Shelf, K: Invariant, R: Threads + Wait + Sync>(
     store: &Store<N, S, K>,
     shelf: &mut NamedShelf<N, S>,
 ) -> Result<(), WorkerFault>
-    requires quiet { IsKeptQuietly K.keeps }
+    requires quiet { IsKeptQuietly S.honest K.keeps }
     ensures told { Forked shelf.old shelf.new }
     ensures refused { IfErr result (IsCompactFault S.honest) }
 {
@@ -62,7 +62,7 @@ fn is_settled<N: Boarded, S: Shelf>(
     ensures told { IsToldBy state.old memory.old memory.new }
     ensures settled { S.honest → IfOk result (λ b. IsTrue b → IsSettled state.old) }
     ensures refused { IfErr result IsOfReserving }
-    ensures history { state.new.history ≡ state.old.history }
+    ensures quiet { IsQuietStep S.honest state.old state.new }
 {
     catch_up(state, memory);
     match state.reserve(alloc) {
@@ -83,8 +83,8 @@ fn look<N: Boarded, S: Shelf, K: Invariant, R: Wait>(
     store: &Store<N, S, K>,
     memory: &mut Memory<N>,
 ) -> Result<bool, StateFault>
-    requires quiet { IsKeptQuietly K.keeps }
-    ensures settled { IfOk result (λ b. IsTrue b → IsCompacted S.honest memory.old memory.new) }
+    requires quiet { IsKeptQuietly S.honest K.keeps }
+    ensures settled { IfOk result (λ b. IsTrue b → IsCompacted S.honest K.keeps memory.old memory.new) }
     ensures known { IsLater memory.new memory.old }
     ensures refused { IfErr result IsOfReserving }
     ensures kept { IsKnown K.keeps memory.new }
@@ -102,8 +102,8 @@ fn compact_once<N: Boarded, S: Shelf, K: Invariant, R: Threads + Wait + Sync>(
     memory: &mut Memory<N>,
     shelf: &mut NamedShelf<N, S>,
 ) -> Result<bool, WorkerFault>
-    requires quiet { IsKeptQuietly K.keeps }
-    ensures settled { IfOk result (λ b. IsTrue b → IsCompacted S.honest memory.old memory.new) }
+    requires quiet { IsKeptQuietly S.honest K.keeps }
+    ensures settled { IfOk result (λ b. IsTrue b → IsCompacted S.honest K.keeps memory.old memory.new) }
     ensures known { IsLater memory.new memory.old }
     ensures told { Forked shelf.old shelf.new }
     ensures refused { IfErr result (IsCompactFault S.honest) }
@@ -126,8 +126,8 @@ pub(crate) fn compact<N: Boarded, S: Shelf, K: Invariant, R: Threads + Wait + Sy
     memory: &mut Memory<N>,
     shelf: &mut NamedShelf<N, S>,
 ) -> Result<(), WorkerFault>
-    requires quiet { IsKeptQuietly K.keeps }
-    ensures compacted { OnOk result (IsCompacted S.honest memory.old memory.new) }
+    requires quiet { IsKeptQuietly S.honest K.keeps }
+    ensures compacted { OnOk result (IsCompacted S.honest K.keeps memory.old memory.new) }
     ensures known { IsLater memory.new memory.old }
     ensures told { Forked shelf.old shelf.new }
     ensures refused { IfErr result (IsCompactFault S.honest) }

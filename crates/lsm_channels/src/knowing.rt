@@ -46,7 +46,7 @@ pub(crate) fn note<N: Boarded, S: Shelf, K: Invariant, R: Wait>(
     memory: &mut Memory<N>,
     other: Memory<N>,
 )
-    requires quiet { IsKeptQuietly K.keeps }
+    requires quiet { IsKeptQuietly S.honest K.keeps }
     ensures later { IsLater memory.new memory.old }
     ensures other { IsLater memory.new other }
     ensures kept { IsKnown K.keeps memory.new }
@@ -67,7 +67,7 @@ pub(crate) fn remember<N: Boarded, S: Shelf, K: Invariant, R: Wait>(
     rt: &R,
     store: &Store<N, S, K>,
 ) -> Memory<N>
-    requires quiet { IsKeptQuietly K.keeps }
+    requires quiet { IsKeptQuietly S.honest K.keeps }
     ensures kept { IsKnown K.keeps result }
 {
     memory_of(&mut store.lock(rt).state)

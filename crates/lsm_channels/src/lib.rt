@@ -31,7 +31,6 @@ mod saying;
 mod viewing;
 
 // Frames over wires, a thread for each channel.
-mod asked;
 mod channel;
 mod channel_thread;
 mod opened;

@@ -6,6 +6,7 @@ ghost use Rattle.lsm_codec.specs.Entries.{answer};
 ghost use Rattle.lsm_model.specs.Scanning.{IsScan};
 ghost use Rattle.lsm_iterators.specs.Seeking.{at_or_past};
 ghost use Rattle.lsm_channels.specs.Keeping.{IsKeptQuietly};
+ghost use Rattle.lsm_state.specs.Held.{plain};
 ghost use Rattle.lsm_channels.specs.Pinning.{HasLearnt, IsUnpinned, PinsCurrent};
 ghost use Rattle.lsm_store.specs.Readers.{IsIdle, IsPromised};
 ghost use Rattle.lsm_table.specs.ReadFault.{IsMemoryOrShelf};
@@ -54,6 +55,7 @@ impl<N: Boarded, S: Shelf> LockedVersion<N, S> {
         ensures pinned { OnOk result (PinsCurrent state.old.slots state.new.slots) }
         ensures reader { IfOk result (λ l. l ≡ reader) }
         ensures rest { state.new ≡ record state.old { slots = state.new.slots } }
+        ensures plain { plain state.new ≡ plain state.old }
         ensures err { OnErr result (state.new ≡ state.old) }
         ensures back { IfErr result (λ e. e.0 ≡ reader) }
         ensures refused { IfErr result (λ e. IsUnpinned state.old e.1) }
@@ -114,7 +116,7 @@ impl<N: Boarded, S: Shelf> LockedVersion<N, S> {
         rt: &R,
         store: &Store<N, S, K>,
     ) -> Reader<N, S>
-        requires quiet { IsKeptQuietly K.keeps }
+        requires quiet { IsKeptQuietly S.honest K.keeps }
         ensures reader { result ≡ self }
         ensures idle { IsIdle result }
     {

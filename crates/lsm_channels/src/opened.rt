@@ -43,7 +43,7 @@ fn man<N: Boarded, S: Shelf, K: Invariant, R: Wait>(
     readers: Vec<Reader<N, S>>,
     shelf: &mut NamedShelf<N, S>,
 ) -> Result<Vec<Session<N, S>>, ShelfFault>
-    requires quiet { IsKeptQuietly K.keeps }
+    requires quiet { IsKeptQuietly S.honest K.keeps }
     ensures fresh { IfOk result (λ v. All (IsFresh K.keeps) v.items) }
 {
     let mut sessions = Vec::new(alloc);
@@ -73,7 +73,7 @@ fn open_store<N: Boarded, S: Shelf, K: Invariant, R: Wait>(
 ) -> Result<(Store<N, S, K>, Vec<Session<N, S>>), ShelfFault>
     requires seats { SeatsPinners state }
     requires kept { (h : Held) → IsSeated state h → K.keeps h }
-    requires quiet { IsKeptQuietly K.keeps }
+    requires quiet { IsKeptQuietly S.honest K.keeps }
     ensures fresh { IfOk result (λ r. All (IsFresh K.keeps) r.1.items) }
 {
     let reading = shelf.fork(alloc)?;
@@ -96,7 +96,7 @@ pub(crate) fn open_state<N: Boarded, S: Shelf, K: Invariant, R: Wait>(
 ) -> Result<Opened<N, S, K>, ShelfFault>
     requires seats { SeatsPinners state }
     requires kept { (h : Held) → IsSeated state h → K.keeps h }
-    requires quiet { IsKeptQuietly K.keeps }
+    requires quiet { IsKeptQuietly S.honest K.keeps }
     ensures fresh { IfOk result (λ o. All (IsFresh K.keeps) o.sessions.items) }
 {
     let (store, sessions) = open_store(rt, alloc, state, shelf)?;

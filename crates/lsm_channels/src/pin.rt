@@ -2,6 +2,7 @@
 
 ghost use Rattle.std.specs.Prelude.{◌≡◌, IfErr, IfOk, OnErr};
 ghost use Rattle.lsm_channels.specs.Keeping.{IsKeptQuietly};
+ghost use Rattle.lsm_state.specs.Held.{plain};
 ghost use Rattle.lsm_channels.specs.Pinning.{HasLearnt, IsPinnedBy, IsUnpinned, KnowsSame, seen_by};
 ghost use Rattle.lsm_store.specs.Readers.{unpinned};
 
@@ -33,6 +34,7 @@ impl<N: Boarded, S: Shelf> Pin<N, S> {
         ensures seen { IfOk result (λ p. KnowsSame reader (seen_by p)) }
         ensures pinned { IfOk result (IsPinnedBy state.old.slots state.new.slots) }
         ensures rest { state.new ≡ record state.old { slots = state.new.slots } }
+        ensures plain { plain state.new ≡ plain state.old }
         ensures err { OnErr result (state.new ≡ state.old) }
         ensures back { IfErr result (λ e. KnowsSame reader e.0) }
         ensures refused { IfErr result (λ e. IsUnpinned state.old e.1) }
@@ -53,7 +55,7 @@ impl<N: Boarded, S: Shelf> Pin<N, S> {
         rt: &R,
         store: &Store<N, S, K>,
     ) -> Reader<N, S>
-        requires quiet { IsKeptQuietly K.keeps }
+        requires quiet { IsKeptQuietly S.honest K.keeps }
         ensures { result ≡ unpinned (seen_by self) }
     {
         match self {

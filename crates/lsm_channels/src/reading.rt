@@ -116,13 +116,13 @@ pub(crate) fn read<N: Boarded, S: Shelf, K: Invariant, R: Wait>(
     when: When,
     keys: Keys<'_>,
 ) -> (ChannelReader<N, S>, Result<Vec<u8>, StateFault>)
-    requires quiet { IsKeptQuietly K.keeps }
-    ensures read { IfOk result.1 (λ v. IsRead S.honest when keys.entry taken.now
+    requires quiet { IsKeptQuietly S.honest K.keeps }
+    ensures read { IfOk result.1 (λ v. IsRead S.honest K.keeps when keys.entry taken.now
         reader result.0 memory.old memory.new v.items) }
     ensures known { IsLater memory.new memory.old }
     ensures kept { IsKnown K.keeps memory.new }
     ensures later { IsLater result.0.history reader.history }
-    ensures refused { IfErr result.1 (IsReadFault S.honest when keys.entry taken.now
+    ensures refused { IfErr result.1 (IsReadFault S.honest K.keeps when keys.entry taken.now
         reader result.0 memory.old memory.new) }
 {
     match view_at(rt, store, reader, memory, taken, when) {

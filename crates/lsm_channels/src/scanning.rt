@@ -187,13 +187,13 @@ pub(crate) fn scan<N: Boarded, S: Shelf, K: Invariant, R: Wait>(
     taken: &[(u64, u64)],
     range: Range<'_>,
 ) -> (ChannelReader<N, S>, Result<Vec<u8>, StateFault>)
-    requires quiet { IsKeptQuietly K.keeps }
-    ensures scanned { IfOk result.1 (λ v. IsScanned S.honest (stretch_of range.entry) taken.now
+    requires quiet { IsKeptQuietly S.honest K.keeps }
+    ensures scanned { IfOk result.1 (λ v. IsScanned S.honest K.keeps (stretch_of range.entry) taken.now
         reader result.0 memory.old memory.new v.items) }
     ensures known { IsLater memory.new memory.old }
     ensures kept { IsKnown K.keeps memory.new }
     ensures later { IsLater result.0.history reader.history }
-    ensures refused { IfErr result.1 (IsScanFault S.honest (stretch_of range.entry) taken.now
+    ensures refused { IfErr result.1 (IsScanFault S.honest K.keeps (stretch_of range.entry) taken.now
         reader result.0 memory.old memory.new) }
 {
     match view_at(rt, store, reader, memory, taken, range.when) {

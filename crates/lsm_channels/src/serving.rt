@@ -3,15 +3,15 @@
 ghost use Rattle.std.specs.Prelude.{◌≡◌, ◌≤◌, ◌++◌, ℕ, List, [], ◌∷◌, All, IfOk, length, map};
 ghost use Rattle.std.specs.Prelude.{reverse, vec_capacity, vec_len};
 ghost use Rattle.std.specs.Option.{option_map};
-ghost use Rattle.lsm_channels.specs.Keeping.{HasGrown, IsKeptByRequests, IsKeptQuietly};
+ghost use Rattle.lsm_channels.specs.Keeping.{IsKeptByRequests, IsKeptQuietly};
 ghost use Rattle.lsm_channels.specs.Serving.{AreBack, AreServed, IsDatabaseServed, IsFresh};
 ghost use Rattle.lsm_channels.specs.Serving.{IsServed, IsServedFirst, SaysOpen, end};
 ghost use Rattle.lsm_channels.specs.Starting.{options_for};
 ghost use Rattle.lsm_state.specs.Held.{Held};
 ghost use Rattle.lsm_state.specs.Making.{IsNewBoard, IsNewHistory};
+ghost use Rattle.lsm_store.specs.Compacting.{IsSeated};
 ghost use Rattle.lsm_store.specs.Readers.{SeatsPinners};
 
-use crate::asked::{Asked, Origin};
 use crate::channel::{Channel, serve};
 use crate::channel_thread::{Serves, Thread};
 use crate::opened::{Opened, open_parts, open_state};
@@ -50,7 +50,7 @@ fn start<
     background: &'e Background,
     channel: Channel<N, S, W>,
 ) -> Thread<N, S, K, W>
-    requires quiet { IsKeptQuietly K.keeps }
+    requires quiet { IsKeptQuietly S.honest K.keeps }
     requires asked { IsKeptByRequests (S.refuses N.place) W.gives K.keeps }
     requires fresh { IsFresh K.keeps channel.session }
     ensures given { result.given.value ≡ channel.wire }
@@ -60,7 +60,7 @@ fn start<
     let handle = scope.spawn_with(
         promise,
         move || -> W
-            requires quiet { IsKeptQuietly K.keeps }
+            requires quiet { IsKeptQuietly S.honest K.keeps }
             requires asked { IsKeptByRequests (S.refuses N.place) W.gives K.keeps }
             requires fresh { IsFresh K.keeps channel.session }
             ensures same { W.descriptor result ≡ W.descriptor channel.wire }
@@ -95,7 +95,7 @@ fn start_all<
     channels: Vec<Channel<N, S, W>>,
     threads: Vec<Thread<N, S, K, W>>,
 ) -> Vec<Thread<N, S, K, W>>
-    requires quiet { IsKeptQuietly K.keeps }
+    requires quiet { IsKeptQuietly S.honest K.keeps }
     requires asked { IsKeptByRequests (S.refuses N.place) W.gives K.keeps }
     requires fresh { All (λ c. IsFresh K.keeps c.session) channels.items }
     requires none { (threads.items ≡ []) × (vec_len threads ≡ 0) }
@@ -165,7 +165,7 @@ fn serve_first<N: Boarded, S: Shelf, K: Invariant, W: Wire, R: Threads + Wait + 
     first: Channel<N, S, W>,
     are_served: bool,
 ) -> W
-    requires quiet { IsKeptQuietly K.keeps }
+    requires quiet { IsKeptQuietly S.honest K.keeps }
     requires asked { IsKeptByRequests (S.refuses N.place) W.gives K.keeps }
     requires fresh { IsFresh K.keeps first.session }
     ensures same { W.descriptor result ≡ W.descriptor first.wire }
@@ -194,7 +194,7 @@ fn serve_all<N: Boarded, S: Shelf, K: Invariant, W: Wire + Send, R: Threads + Wa
     threads: Vec<Thread<N, S, K, W>>,
     wires: Vec<Option<W>>,
 ) -> Vec<Option<W>>
-    requires quiet { IsKeptQuietly K.keeps }
+    requires quiet { IsKeptQuietly S.honest K.keeps }
     requires asked { IsKeptByRequests (S.refuses N.place) W.gives K.keeps }
     requires fresh { IsFresh K.keeps first.session
         × All (λ c. IsFresh K.keeps c.session) others.items }
@@ -211,7 +211,7 @@ fn serve_all<N: Boarded, S: Shelf, K: Invariant, W: Wire + Send, R: Threads + Wa
         thread::scope_env(),
         rt,
         move |scope| -> Vec<Option<W>>
-            requires quiet { IsKeptQuietly K.keeps }
+            requires quiet { IsKeptQuietly S.honest K.keeps }
             requires asked { IsKeptByRequests (S.refuses N.place) W.gives K.keeps }
             requires fresh { IsFresh K.keeps first.session
                 × All (λ c. IsFresh K.keeps c.session) others.items }
@@ -272,7 +272,7 @@ fn serve_opened<N: Boarded, S: Shelf, K: Invariant, W: Wire + Send, R: Threads +
     opened: Opened<N, S, K>,
     wires: Vec<W>,
 ) -> Result<Vec<Option<W>>, WriterFault>
-    requires quiet { IsKeptQuietly K.keeps }
+    requires quiet { IsKeptQuietly S.honest K.keeps }
     requires asked { IsKeptByRequests (S.refuses N.place) W.gives K.keeps }
     requires fresh { All (IsFresh K.keeps) opened.sessions.items }
     ensures { IfOk result (λ v. AreServed S.honest (S.refuses N.place) K.keeps
@@ -302,7 +302,7 @@ fn serve_opened<N: Boarded, S: Shelf, K: Invariant, W: Wire + Send, R: Threads +
         shelves,
         &NoGate,
         move |background| -> Vec<Option<W>>
-            requires quiet { IsKeptQuietly K.keeps }
+            requires quiet { IsKeptQuietly S.honest K.keeps }
             requires asked { IsKeptByRequests (S.refuses N.place) W.gives K.keeps }
             requires fresh { IsFresh K.keeps first.session
                 × All (λ c. IsFresh K.keeps c.session) others.items }
@@ -321,8 +321,8 @@ fn serve_opened<N: Boarded, S: Shelf, K: Invariant, W: Wire + Send, R: Threads +
     Ok(wires)
 }
 
-/// Serves a state, whose history is the one that was found, over these wires.
-fn serve_state<N: Boarded, S: Shelf, O: Origin, W: Wire + Send, R: Threads + Wait + Sync>(
+/// Puts a state behind a lock that keeps a fact, and serves it over these wires.
+fn serve_state<N: Boarded, S: Shelf, K: Invariant, W: Wire + Send, R: Threads + Wait + Sync>(
     rt: &R,
     alloc: Global,
     state: State<N, S>,
@@ -331,14 +331,14 @@ fn serve_state<N: Boarded, S: Shelf, O: Origin, W: Wire + Send, R: Threads + Wai
     wires: Vec<W>,
 ) -> Result<Vec<Option<W>>, WriterFault>
     requires seats { SeatsPinners state }
-    requires found { state.history ≡ O.found }
-    requires given { (content : List ℕ) → W.gives content → O.gives content }
-    ensures { IfOk result (λ v. AreServed S.honest (S.refuses N.place)
-        (λ h. HasGrown O.gives O.found h.history)
+    requires kept { (h : Held) → IsSeated state h → K.keeps h }
+    requires quiet { IsKeptQuietly S.honest K.keeps }
+    requires asked { IsKeptByRequests (S.refuses N.place) W.gives K.keeps }
+    ensures { IfOk result (λ v. AreServed S.honest (S.refuses N.place) K.keeps
         (map (λ w. end (W.descriptor w) (W.happened w)) wires.items)
         (map (option_map (λ w. end (W.descriptor w) (W.happened w))) v.items)) }
 {
-    match open_state::<N, S, Asked<O>, R>(rt, alloc, state, shelf, workers) {
+    match open_state(rt, alloc, state, shelf, workers) {
         Ok(opened) => serve_opened(rt, alloc, opened, wires),
         Err(fault) => Err(WriterFault::of_shelf(fault)),
     }

@@ -39,10 +39,10 @@ fn answer_statistics<N: Boarded, S: Shelf, K: Invariant, R: Wait>(
     store: &Store<N, S, K>,
     memory: &mut Memory<N>,
 ) -> Result<Vec<u8>, AllocError>
-    requires quiet { IsKeptQuietly K.keeps }
-    ensures answered { IfOk result (λ v. AnswersStatistics memory.old memory.new v.items) }
+    requires quiet { IsKeptQuietly S.honest K.keeps }
+    ensures answered { IfOk result (λ v. AnswersStatistics K.keeps memory.old memory.new v.items) }
     ensures unanswered { OnErr result ((frame : List ℕ)
-        × AnswersStatistics memory.old memory.new frame) }
+        × AnswersStatistics K.keeps memory.old memory.new frame) }
     ensures known { IsLater memory.new memory.old }
     ensures kept { IsKnown K.keeps memory.new }
 {
@@ -114,11 +114,11 @@ impl<N: Boarded, S: Shelf> Session<N, S> {
         background: &Background,
         writes: Writes<'_>,
     ) -> Result<Vec<u8>, AllocError>
-        requires quiet { IsKeptQuietly K.keeps }
+        requires quiet { IsKeptQuietly S.honest K.keeps }
         requires writes { IsKeptByWrites (S.refuses N.place) writes.entry K.keeps }
-        ensures answered { IfOk result (λ v. IsAnswered S.honest (S.refuses N.place)
+        ensures answered { IfOk result (λ v. IsAnswered S.honest (S.refuses N.place) K.keeps
             (AskedWrites writes.entry) self.old self.new v.items) }
-        ensures unanswered { OnErr result ((frame : List ℕ) × IsAnswered S.honest (S.refuses N.place)
+        ensures unanswered { OnErr result ((frame : List ℕ) × IsAnswered S.honest (S.refuses N.place) K.keeps
             (AskedWrites writes.entry) self.old self.new frame) }
         ensures known { IsLater self.new.known self.old.known }
         ensures kept { IsKnown K.keeps self.old.known → IsKnown K.keeps self.new.known }
@@ -144,10 +144,10 @@ impl<N: Boarded, S: Shelf> Session<N, S> {
         store: &Store<N, S, K>,
         background: &Background,
     ) -> Result<Vec<u8>, AllocError>
-        requires quiet { IsKeptQuietly K.keeps }
-        ensures answered { IfOk result (λ v. IsAnswered S.honest (S.refuses N.place) Compacts
+        requires quiet { IsKeptQuietly S.honest K.keeps }
+        ensures answered { IfOk result (λ v. IsAnswered S.honest (S.refuses N.place) K.keeps Compacts
             self.old self.new v.items) }
-        ensures unanswered { OnErr result ((frame : List ℕ) × IsAnswered S.honest (S.refuses N.place) Compacts
+        ensures unanswered { OnErr result ((frame : List ℕ) × IsAnswered S.honest (S.refuses N.place) K.keeps Compacts
             self.old self.new frame) }
         ensures known { IsLater self.new.known self.old.known }
         ensures kept { IsKnown K.keeps self.old.known → IsKnown K.keeps self.new.known }
@@ -171,10 +171,10 @@ impl<N: Boarded, S: Shelf> Session<N, S> {
         alloc: Global,
         store: &Store<N, S, K>,
     ) -> Result<Vec<u8>, AllocError>
-        requires quiet { IsKeptQuietly K.keeps }
-        ensures answered { IfOk result (λ v. IsAnswered S.honest (S.refuses N.place) Collects
+        requires quiet { IsKeptQuietly S.honest K.keeps }
+        ensures answered { IfOk result (λ v. IsAnswered S.honest (S.refuses N.place) K.keeps Collects
             self.old self.new v.items) }
-        ensures unanswered { OnErr result ((frame : List ℕ) × IsAnswered S.honest (S.refuses N.place) Collects
+        ensures unanswered { OnErr result ((frame : List ℕ) × IsAnswered S.honest (S.refuses N.place) K.keeps Collects
             self.old self.new frame) }
         ensures known { IsLater self.new.known self.old.known }
         ensures kept { IsKnown K.keeps self.old.known → IsKnown K.keeps self.new.known }
@@ -191,10 +191,10 @@ impl<N: Boarded, S: Shelf> Session<N, S> {
         alloc: Global,
         store: &Store<N, S, K>,
     ) -> Result<Vec<u8>, AllocError>
-        requires quiet { IsKeptQuietly K.keeps }
-        ensures answered { IfOk result (λ v. IsAnswered S.honest (S.refuses N.place) Snapshots
+        requires quiet { IsKeptQuietly S.honest K.keeps }
+        ensures answered { IfOk result (λ v. IsAnswered S.honest (S.refuses N.place) K.keeps Snapshots
             self.old self.new v.items) }
-        ensures unanswered { OnErr result ((frame : List ℕ) × IsAnswered S.honest (S.refuses N.place) Snapshots
+        ensures unanswered { OnErr result ((frame : List ℕ) × IsAnswered S.honest (S.refuses N.place) K.keeps Snapshots
             self.old self.new frame) }
         ensures known { IsLater self.new.known self.old.known }
         ensures kept { IsKnown K.keeps self.old.known → IsKnown K.keeps self.new.known }
@@ -212,10 +212,10 @@ impl<N: Boarded, S: Shelf> Session<N, S> {
         store: &Store<N, S, K>,
         number: u64,
     ) -> Result<Vec<u8>, AllocError>
-        requires quiet { IsKeptQuietly K.keeps }
-        ensures answered { IfOk result (λ v. IsAnswered S.honest (S.refuses N.place)
+        requires quiet { IsKeptQuietly S.honest K.keeps }
+        ensures answered { IfOk result (λ v. IsAnswered S.honest (S.refuses N.place) K.keeps
             (Releases number) self.old self.new v.items) }
-        ensures unanswered { OnErr result ((frame : List ℕ) × IsAnswered S.honest (S.refuses N.place)
+        ensures unanswered { OnErr result ((frame : List ℕ) × IsAnswered S.honest (S.refuses N.place) K.keeps
             (Releases number) self.old self.new frame) }
         ensures known { IsLater self.new.known self.old.known }
         ensures kept { IsKnown K.keeps self.old.known → IsKnown K.keeps self.new.known }
@@ -232,10 +232,10 @@ impl<N: Boarded, S: Shelf> Session<N, S> {
         alloc: Global,
         store: &Store<N, S, K>,
     ) -> Result<Vec<u8>, AllocError>
-        requires quiet { IsKeptQuietly K.keeps }
-        ensures answered { IfOk result (λ v. IsAnswered S.honest (S.refuses N.place) Statistics
+        requires quiet { IsKeptQuietly S.honest K.keeps }
+        ensures answered { IfOk result (λ v. IsAnswered S.honest (S.refuses N.place) K.keeps Statistics
             self.old self.new v.items) }
-        ensures unanswered { OnErr result ((frame : List ℕ) × IsAnswered S.honest (S.refuses N.place) Statistics
+        ensures unanswered { OnErr result ((frame : List ℕ) × IsAnswered S.honest (S.refuses N.place) K.keeps Statistics
             self.old self.new frame) }
         ensures known { IsLater self.new.known self.old.known }
         ensures kept { IsKnown K.keeps self.old.known → IsKnown K.keeps self.new.known }
@@ -252,10 +252,10 @@ impl<N: Boarded, S: Shelf> Session<N, S> {
         when: When,
         keys: Keys<'_>,
     ) -> (Session<N, S>, Result<Vec<u8>, AllocError>)
-        requires quiet { IsKeptQuietly K.keeps }
-        ensures answered { IfOk result.1 (λ v. IsAnswered S.honest (S.refuses N.place)
+        requires quiet { IsKeptQuietly S.honest K.keeps }
+        ensures answered { IfOk result.1 (λ v. IsAnswered S.honest (S.refuses N.place) K.keeps
             (Reads when keys.entry) self result.0 v.items) }
-        ensures unanswered { OnErr result.1 ((frame : List ℕ) × IsAnswered S.honest (S.refuses N.place)
+        ensures unanswered { OnErr result.1 ((frame : List ℕ) × IsAnswered S.honest (S.refuses N.place) K.keeps
             (Reads when keys.entry) self result.0 frame) }
         ensures known { IsLater result.0.known self.known }
         ensures kept { IsKnown K.keeps self.known → IsKnown K.keeps result.0.known }
@@ -308,10 +308,10 @@ impl<N: Boarded, S: Shelf> Session<N, S> {
         store: &Store<N, S, K>,
         range: Range<'_>,
     ) -> (Session<N, S>, Result<Vec<u8>, AllocError>)
-        requires quiet { IsKeptQuietly K.keeps }
-        ensures answered { IfOk result.1 (λ v. IsAnswered S.honest (S.refuses N.place)
+        requires quiet { IsKeptQuietly S.honest K.keeps }
+        ensures answered { IfOk result.1 (λ v. IsAnswered S.honest (S.refuses N.place) K.keeps
             (Scans (stretch_of range.entry)) self result.0 v.items) }
-        ensures unanswered { OnErr result.1 ((frame : List ℕ) × IsAnswered S.honest (S.refuses N.place)
+        ensures unanswered { OnErr result.1 ((frame : List ℕ) × IsAnswered S.honest (S.refuses N.place) K.keeps
             (Scans (stretch_of range.entry)) self result.0 frame) }
         ensures known { IsLater result.0.known self.known }
         ensures kept { IsKnown K.keeps self.known → IsKnown K.keeps result.0.known }
@@ -368,11 +368,11 @@ impl<N: Boarded, S: Shelf> Session<N, S> {
         background: &Background,
         request: Request<'_>,
     ) -> (Session<N, S>, Result<Vec<u8>, AllocError>)
-        requires quiet { IsKeptQuietly K.keeps }
+        requires quiet { IsKeptQuietly S.honest K.keeps }
         requires asked { IsKeptByAsked (S.refuses N.place) (asked_of request.entry) K.keeps }
-        ensures answered { IfOk result.1 (λ v. IsAnswered S.honest (S.refuses N.place)
+        ensures answered { IfOk result.1 (λ v. IsAnswered S.honest (S.refuses N.place) K.keeps
             (asked_of request.entry) self result.0 v.items) }
-        ensures unanswered { OnErr result.1 ((frame : List ℕ) × IsAnswered S.honest (S.refuses N.place)
+        ensures unanswered { OnErr result.1 ((frame : List ℕ) × IsAnswered S.honest (S.refuses N.place) K.keeps
             (asked_of request.entry) self result.0 frame) }
         ensures known { IsLater result.0.known self.known }
         ensures kept { IsKnown K.keeps self.known → IsKnown K.keeps result.0.known }

@@ -58,7 +58,6 @@ fn take_of<N: Boarded, S: Shelf>(
     ensures err { OnErr result (state.new ≡ state.old) }
     ensures refused { IfErr result (λ e. IsTakeFault state.old e
         × Forgets state.old taken.old.items taken.new.items) }
-    ensures history { state.new.history ≡ state.old.history }
 {
     catch_up(state, memory);
     forget(state, taken);
@@ -79,11 +78,11 @@ pub(crate) fn take<N: Boarded, S: Shelf, K: Invariant, R: Wait>(
     memory: &mut Memory<N>,
     taken: &mut Vec<(u64, u64)>,
 ) -> Result<(u64, u64), StateFault>
-    requires quiet { IsKeptQuietly K.keeps }
+    requires quiet { IsKeptQuietly S.honest K.keeps }
     ensures ok { IfOk result (λ r.
-        IsTaken r.0 r.1 memory.old memory.new taken.old.items taken.new.items) }
+        IsTaken K.keeps r.0 r.1 memory.old memory.new taken.old.items taken.new.items) }
     ensures refused { IfErr result (λ e.
-        IsUntaken e memory.old memory.new taken.old.items taken.new.items) }
+        IsUntaken K.keeps e memory.old memory.new taken.old.items taken.new.items) }
     ensures known { IsLater memory.new memory.old }
     ensures kept { IsKnown K.keeps memory.new }
 {
@@ -101,7 +100,6 @@ fn release_of<N: Boarded, S: Shelf>(
     ensures err { OnErr result (state.new ≡ state.old) }
     ensures refused { IfErr result (λ e. (e ≡ UnknownSnapshot number)
         × (HasId state.old.snapshots.taken number → ⊥)) }
-    ensures history { state.new.history ≡ state.old.history }
 {
     catch_up(state, memory);
     state.release(number)
@@ -115,9 +113,9 @@ fn release_at<N: Boarded, S: Shelf, K: Invariant, R: Wait>(
     memory: &mut Memory<N>,
     number: u64,
 ) -> Result<(), StateFault>
-    requires quiet { IsKeptQuietly K.keeps }
-    ensures ok { OnOk result (IsReleased number memory.old memory.new) }
-    ensures refused { IfErr result (λ e. IsUnreleased number e memory.old memory.new) }
+    requires quiet { IsKeptQuietly S.honest K.keeps }
+    ensures ok { OnOk result (IsReleased K.keeps number memory.old memory.new) }
+    ensures refused { IfErr result (λ e. IsUnreleased K.keeps number e memory.old memory.new) }
     ensures known { IsLater memory.new memory.old }
     ensures kept { IsKnown K.keeps memory.new }
 {
@@ -139,10 +137,10 @@ pub(crate) fn release<N: Boarded, S: Shelf, K: Invariant, R: Wait>(
     taken: &mut Vec<(u64, u64)>,
     number: u64,
 ) -> Result<(), StateFault>
-    requires quiet { IsKeptQuietly K.keeps }
-    ensures ok { OnOk result (IsReleased number memory.old memory.new
+    requires quiet { IsKeptQuietly S.honest K.keeps }
+    ensures ok { OnOk result (IsReleased K.keeps number memory.old memory.new
         × (taken.new.items ≡ without_snapshot number taken.old.items)) }
-    ensures refused { IfErr result (λ e. IsUnreleased number e memory.old memory.new
+    ensures refused { IfErr result (λ e. IsUnreleased K.keeps number e memory.old memory.new
         × (taken.new.items ≡ taken.old.items)) }
     ensures known { IsLater memory.new memory.old }
     ensures kept { IsKnown K.keeps memory.new }

@@ -97,8 +97,8 @@ pub(crate) fn list<N: Boarded, S: Shelf, K: Invariant, R: Wait>(
     store: &Store<N, S, K>,
     memory: &mut Memory<N>,
 ) -> Result<(u64, Vec<(u8, FileMeta)>), AllocError>
-    requires quiet { IsKeptQuietly K.keeps }
-    ensures listed { IfOk result (λ r. IsListed r.0 r.1.items memory.old memory.new) }
+    requires quiet { IsKeptQuietly S.honest K.keeps }
+    ensures listed { IfOk result (λ r. IsListed K.keeps r.0 r.1.items memory.old memory.new) }
     ensures known { IsLater memory.new memory.old }
     ensures kept { IsKnown K.keeps memory.new }
 {

@@ -3,6 +3,7 @@
 ghost use Rattle.std.specs.Prelude.{◌≡◌, ◌⊎◌, Some, IfErr, IfOk, OnErr, OnOk};
 ghost use Rattle.lsm_frames.specs.declared.when.When.TheVariants.{Snapshot};
 ghost use Rattle.lsm_history.specs.History.{IsLater};
+ghost use Rattle.lsm_state.specs.Held.{plain};
 ghost use Rattle.lsm_state.specs.Reading.{IsSequence};
 ghost use Rattle.lsm_state.specs.declared.state_fault.StateFault.TheVariants.{OutOfMemory};
 ghost use Rattle.lsm_channels.specs.Pinning.{HasSameVersions, IsUnpinned};
@@ -81,6 +82,7 @@ fn learn<N: Boarded, S: Shelf>(
     ensures same { OnOk result (HasSameVersions state.old.slots state.new.slots) }
     ensures rest { state.new ≡ record state.old
         { slots = record state.old.slots { board = state.new.slots.board } } }
+    ensures plain { plain state.new ≡ plain state.old }
     ensures err { OnErr result (reader.new ≡ reader.old) }
     ensures refused { IfErr result (λ e. IsNotLive state.old taken.now when e ⊎ (e ≡ OutOfMemory)) }
 {
@@ -105,6 +107,7 @@ fn view_of<N: Boarded, S: Shelf>(
     ensures given { IfOk result (λ r. IsAsGiven taken.now when r.1) }
     ensures later { IfErr result (λ e. IsLater e.0.history reader.history) }
     ensures rest { state.new ≡ record state.old { slots = state.new.slots } }
+    ensures plain { plain state.new ≡ plain state.old }
     ensures refused { IfErr result (λ e.
         IsNotLive state.old taken.now when e.1 ⊎ IsUnpinned state.old e.1) }
 {
@@ -131,12 +134,12 @@ pub(crate) fn view_at<N: Boarded, S: Shelf, K: Invariant, R: Wait>(
     taken: &[(u64, u64)],
     when: When,
 ) -> Result<(ChannelView<N, S>, u64), (ChannelReader<N, S>, StateFault)>
-    requires quiet { IsKeptQuietly K.keeps }
-    ensures sees { IfOk result (λ r. Sees when taken.now reader r.0 memory.old memory.new r.1) }
+    requires quiet { IsKeptQuietly S.honest K.keeps }
+    ensures sees { IfOk result (λ r. Sees K.keeps when taken.now reader r.0 memory.old memory.new r.1) }
     ensures known { IsLater memory.new memory.old }
     ensures kept { IsKnown K.keeps memory.new }
     ensures later { IfErr result (λ e. IsLater e.0.history reader.history) }
-    ensures refused { IfErr result (λ e. IsUnseen when taken.now memory.old memory.new e.1) }
+    ensures refused { IfErr result (λ e. IsUnseen K.keeps when taken.now memory.old memory.new e.1) }
 {
     view_of(&mut store.lock(rt).state, reader, memory, taken, when)
 }

@@ -92,8 +92,8 @@ fn bring_in<N: Boarded, S: Shelf, K: Invariant, R: Wait>(
     batch: &Batch,
 ) -> Result<(Ingested, Memory<N>), StateFault>
     requires kept { IsKeptByIngest (S.refuses N.place) batch.now K.keeps }
-    ensures ok { IfOk result (λ r. IsIn batch.now r.0 r.1 shelf.old shelf.new) }
-    ensures refused { IfErr result (λ e. IsOut (S.refuses N.place) batch.now e
+    ensures ok { IfOk result (λ r. IsIn K.keeps batch.now r.0 r.1 shelf.old shelf.new) }
+    ensures refused { IfErr result (λ e. IsOut (S.refuses N.place) K.keeps batch.now e
         shelf.old shelf.new) }
 {
     match background.ingest(rt, alloc, store, shelf, batch) {
@@ -114,12 +114,12 @@ pub(crate) fn write<N: Boarded, S: Shelf, K: Invariant, R: Wait>(
     shelf: &mut NamedShelf<N, S>,
     writes: Writes<'_>,
 ) -> Result<Ingested, StateFault>
-    requires quiet { IsKeptQuietly K.keeps }
+    requires quiet { IsKeptQuietly S.honest K.keeps }
     requires writes { IsKeptByWrites (S.refuses N.place) writes.entry K.keeps }
-    ensures ok { IfOk result (λ r. IsWritten writes.entry r memory.new shelf.old shelf.new) }
+    ensures ok { IfOk result (λ r. IsWritten K.keeps writes.entry r memory.new shelf.old shelf.new) }
     ensures known { IsLater memory.new memory.old }
     ensures refused { IfErr result (λ e.
-        IsWriteFault (S.refuses N.place) writes.entry e shelf.old shelf.new) }
+        IsWriteFault (S.refuses N.place) K.keeps writes.entry e shelf.old shelf.new) }
     ensures kept { IsKnown K.keeps memory.old → IsKnown K.keeps memory.new }
 {
     let batch = batch_of(alloc, writes)?;

@@ -5,12 +5,12 @@ use Rattle.lsm_channels.proofs.session.Session.scan.Goals as goal
 
 pub returns-in-Ok-clause-answered : goal.returns-in-Ok-clause-answered
 returns-in-Ok-clause-answered g c =
-    says_read (IsScanned g.S.Shelf.honest (stretch_of c.args.range)) (IsScanFault g.S.Shelf.honest (stretch_of c.args.range)) (λ v. v.items) c.args.self c.self.inside.reader c.scan-reader.result.0
+    says_read (IsScanned g.S.Shelf.honest g.K.Invariant.keeps (stretch_of c.args.range)) (IsScanFault g.S.Shelf.honest g.K.Invariant.keeps (stretch_of c.args.range)) (λ v. v.items) c.args.self c.self.inside.reader c.scan-reader.result.0
     c.self.inside.shelf c.self.inside.memory c.scan-reader.new.memory c.self.inside.taken.items c.deref.result.now c.scan-reader.result.1 c.in-Ok.answer
     c.self.view_is c.deref.ensures.value c.scan-reader.ensures.later c.in-Ok.is c.scan-reader.ensures.scanned
 
 pub returns-in-Ok-refuse-clause-answered : goal.returns-in-Ok-refuse-clause-answered
 returns-in-Ok-refuse-clause-answered g c =
-    says_refused (IsScanned g.S.Shelf.honest (stretch_of c.args.range)) (IsScanFault g.S.Shelf.honest (stretch_of c.args.range)) c.in-Ok-refuse.answer.items c.args.self c.self.inside.reader
+    says_refused (IsScanned g.S.Shelf.honest g.K.Invariant.keeps (stretch_of c.args.range)) (IsScanFault g.S.Shelf.honest g.K.Invariant.keeps (stretch_of c.args.range)) c.in-Ok-refuse.answer.items c.args.self c.self.inside.reader
     c.scan-reader.result.0 c.self.inside.shelf c.self.inside.memory c.scan-reader.new.memory c.self.inside.taken.items c.deref.result.now c.scan-reader.result.1 c.in-Err.fault
     c.self.view_is c.deref.ensures.value c.scan-reader.ensures.later c.in-Err.is c.scan-reader.ensures.refused c.in-Ok-refuse.ensures
