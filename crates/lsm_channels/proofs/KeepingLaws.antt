@@ -5,11 +5,15 @@ use Rattle.lsm_batch.specs.declared.write.Write.{Write}
 use Rattle.lsm_codec.specs.Entries.{Entry}
 use Rattle.lsm_codec.specs.Lists.{Has}
 use Rattle.lsm_frames.specs.Requests.{Asked, IsRequest, Writes, Reads, Scans, Snapshots, Releases, Compacts, Collects, Statistics}
-use Rattle.lsm_model.specs.Plain.{Plain}
+use Rattle.lsm_live.specs.Booked.{HasTicket, without}
+use Rattle.lsm_merge.specs.Work.{Work, job_of}
+use Rattle.lsm_model.specs.Plain.{Cancels}
 use Rattle.lsm_model.specs.Runs.{Event, Run, Ingest, Snapshot, Release, Reserve, Cancel, Draw, Install, Spend, Nothing}
 use Rattle.lsm_shelf.specs.Asked as shelf
 use Rattle.lsm_shelf.specs.declared.shelf_fault.ShelfFault.{ShelfFault}
 use Rattle.lsm_state.specs.Held.{Held, plain}
+use Rattle.lsm_picker.specs.TablePlans.{plan_of}
+use Rattle.lsm_state.specs.Reserving.{IsReserving, plan_in, reserved}
 use Rattle.lsm_store.specs.Background.{IsIngestStep}
 use Rattle.lsm_store.specs.Compacting.{IsKeptByCompaction, IsOfWorkers, IsSeated}
 use Rattle.lsm_channels.specs.Keeping.{BringsNothing, HasComeTo, IsAskedFor, IsKeptByAsked, IsKeptByRequests, IsKeptQuietly, IsKnown, IsQuietStep}
@@ -43,7 +47,7 @@ quiet_take Honest was is number sequence t = record {
   run = (
     plain is,
     ap plain t.left ∙ ap (λ (n : ℕ). record (plain was) { snapshots = was.snapshots.taken ++ (n, sequence) ∷ []; next_id = suc n }) t.number_is
-    ∙ ap (λ (q : ℕ). record (plain was) { snapshots = was.snapshots.taken ++ (was.snapshots.next, q) ∷ []; next_id = suc was.snapshots.next }) t.sequence_is,
+        ∙ ap (λ (q : ℕ). record (plain was) { snapshots = was.snapshots.taken ++ (was.snapshots.next, q) ∷ []; next_id = suc was.snapshots.next }) t.sequence_is,
     refl,
   );
   history = ap (λ (h : Held). h.history) t.left;
@@ -65,6 +69,28 @@ quiet_taken Honest P was is (Err e) ok err = quiet_same Honest was is err
 pub quiet_released : {E : Type 0} (Honest : Type 0) (was is : Held) (number : ℕ) (r : Result (Unit {0}) E) → OnOk r (ReleasesAt was is number) → OnErr r (is ≡ was) → IsQuietStep Honest was is
 quiet_released Honest was is number (Ok x) ok err = quiet_release Honest was is number ok
 quiet_released Honest was is number (Err e) ok err = quiet_same Honest was is err
+
+-- a job was reserved, and given up or not, behind what changed nothing
+pub quiet_given_up : {E : Type 0} (Honest : Type 0) (was old mid is : Held) (w : Work) (ticket : ℕ) (r : Result (Unit {0}) E) → old ≡ was → IsReserving Honest old w mid
+    → mid ≡ reserved w old → OnOk r (Cancels (plain mid) ticket (plain is)) → OnOk r (HasTicket mid.live ticket × (is ≡ record mid { live = without ticket mid.live }))
+    → OnErr r (is ≡ mid) → IsQuietStep Honest was is
+quiet_given_up {E} Honest was old mid is w ticket (Ok x) same event reserves cancels left err = record {
+  events = Reserve (plan_of (plan_in w)) (job_of w) ∷ Cancel ticket ∷ [];
+  none = two_of (Reserve (plan_of (plan_in w)) (job_of w)) (Cancel ticket) tt tt;
+  run = (plain mid, subst (λ (h : Held). IsReserving Honest h w mid) same event, (plain is, cancels, refl));
+  history = ap (λ (h : Held). h.history) left.1 ∙ ap (λ (h : Held). h.history) reserves ∙ ap (λ (h : Held). h.history) same;
+}
+quiet_given_up {E} Honest was old mid is w ticket (Err e) same event reserves cancels left err = record {
+  events = Reserve (plan_of (plan_in w)) (job_of w) ∷ [];
+  none = one_of (Reserve (plan_of (plan_in w)) (job_of w)) tt;
+  run = (plain mid, subst (λ (h : Held). IsReserving Honest h w mid) same event, ap plain err);
+  history = ap (λ (h : Held). h.history) err ∙ ap (λ (h : Held). h.history) reserves ∙ ap (λ (h : Held). h.history) same;
+}
+
+-- a collection, behind what changed nothing
+pub quiet_collected : (Honest : Type 0) (was old is : Held) → old ≡ was → plain is ≡ plain old → is ≡ record old { slots = is.slots } → IsQuietStep Honest was is
+quiet_collected Honest was old is same machine rest =
+    quiet_look Honest was is (machine ∙ ap plain same) (ap (λ (h : Held). h.history) rest ∙ ap (λ (h : Held). h.history) same)
 
 of_workers : (e : Event) → IsOfWorkers e → BringsNothing e
 of_workers (Ingest entries) h = h
@@ -110,7 +136,7 @@ come_asked : (Honest : Type 0) (Refused : shelf.Asked → ShelfFault → Type 0)
     → IsKeptByAsked Refused asked (HasComeTo Honest gives found)
 come_asked Honest Refused gives found content (Writes ws) given request =
     λ batch last was is step come.
-        come_by Honest Refused gives found batch was is (record { content = content; given = given; writes = ws; request = request; last = last }) step come
+    come_by Honest Refused gives found batch was is (record { content = content; given = given; writes = ws; request = request; last = last }) step come
 come_asked Honest Refused gives found content (Reads when keys) given request = tt
 come_asked Honest Refused gives found content (Scans s) given request = tt
 come_asked Honest Refused gives found content Snapshots given request = tt

@@ -1,4 +1,7 @@
 mod KeepingLaws
+mod Sending
+mod TurnLaws
+mod WireLaws
 mod KnownLaws
 mod SeenLaws
 mod PinLaws

@@ -49,17 +49,21 @@ AnswersWrite Refused keeps ws before after frame =
     × Says (λ r. Wrote r.first r.last) done frame
 
 -- The answer has the values of the keys, or the refusal of a read.
-abbrev pub AnswersRead : Type 0 → (Held → Type 0) → When → List (List ℕ) → (before after : Served) → List ℕ → Type 0
+abbrev pub AnswersRead : Type 0 → (Held → Type 0) → When → List (List ℕ) → (before after : Served)
+    → List ℕ → Type 0
 AnswersRead Honest keeps when keys before after frame =
-    IsRead Honest keeps when keys before.taken before.reader after.reader before.known after.known frame
+    IsRead Honest keeps when keys before.taken before.reader after.reader before.known after.known
+    frame
     ⊎ ((e : StateFault) × IsReadFault Honest keeps when keys before.taken before.reader after.reader
     before.known after.known e × (frame ≡ refusal_frame e))
 
 -- The answer has the first pairs of the range, or the refusal of a scan.
-abbrev pub AnswersScan : Type 0 → (Held → Type 0) → Stretch → (before after : Served) → List ℕ → Type 0
+abbrev pub AnswersScan : Type 0 → (Held → Type 0) → Stretch → (before after : Served) → List ℕ
+    → Type 0
 AnswersScan Honest keeps s before after frame =
     IsScanned Honest keeps s before.taken before.reader after.reader before.known after.known frame
-    ⊎ ((e : StateFault) × IsScanFault Honest keeps s before.taken before.reader after.reader before.known
+    ⊎ ((e : StateFault) × IsScanFault Honest keeps s before.taken before.reader after.reader
+    before.known
     after.known e × (frame ≡ refusal_frame e))
 
 -- The answer has the number and the sequence of a snapshot that was taken, which the channel knows
@@ -83,7 +87,8 @@ AnswersRelease keeps number before after frame =
 -- Nothing was left to compact; or the answer says the fault of the worker that looked last.
 abbrev pub AnswersCompact : Type 0 → (Held → Type 0) → (before after : Served) → List ℕ → Type 0
 AnswersCompact Honest keeps before after frame =
-    (done : Result (Unit {0}) WorkerFault) × OnOk done (IsCompacted Honest keeps before.known after.known)
+    (done : Result (Unit {0}) WorkerFault)
+    × OnOk done (IsCompacted Honest keeps before.known after.known)
     × IfErr done (IsCompactFault Honest) × SaysWork done frame
 
 -- The answer has how many tables were removed, or the refusal.
@@ -109,7 +114,8 @@ LeavesThese before after = (after.reader ≡ before.reader) × (after.shelf ≡ 
 -- The frame answers the request. What else it leaves of the session: a reader learns no earlier
 -- history, and a request that does not read leaves it; a request that asks the shelf for nothing
 -- leaves that; and one that neither takes a snapshot nor gives one up leaves what is known of them.
-abbrev pub IsAnswered : (Honest : Type 0) → (shelf.Asked → ShelfFault → Type 0) → (Held → Type 0) → Asked
+abbrev pub IsAnswered : (Honest : Type 0) → (shelf.Asked → ShelfFault → Type 0) → (Held → Type 0)
+    → Asked
     → (before after : Served) → List ℕ → Type 0
 IsAnswered Honest Refused keeps (Writes ws) before after frame =
     (after.reader ≡ before.reader) × (after.taken ≡ before.taken)

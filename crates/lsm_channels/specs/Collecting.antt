@@ -26,6 +26,7 @@ abbrev pub IsCollected : (Held → Type 0) → ℕ → (knew knows : List Entry)
 IsCollected keeps count knew knows before after =
     (was : Held) × (is : Held) × IsLent keeps was knew knows × CollectsAt was is count before after
 
-abbrev pub IsCollectFault : (Held → Type 0) → StateFault → (knew knows : List Entry) → Told → Told → Type 0
+abbrev pub IsCollectFault : (Held → Type 0) → StateFault → (knew knows : List Entry) → Told → Told
+    → Type 0
 IsCollectFault keeps e knew knows before after =
     (was : Held) × (is : Held) × IsLent keeps was knew knows × RefusesAt was is e before after

@@ -13,10 +13,11 @@ use Rattle.lsm_store.specs.declared.worker_fault.WorkerFault.TheVariants.{NoThre
 abbrev pub IsSettled : Held → Type 0
 IsSettled h = HasNoChoice h.slots.version (reserved_jobs h.live)
 
--- So it was, over an honest shelf, at a taking of the lock, of the state that it gave, which has all
--- that the channel knew.
+-- So it was, over an honest shelf, at a taking of the lock, of the state that it gave, which has
+-- all that the channel knew.
 abbrev pub IsCompacted : Type 0 → (Held → Type 0) → (knew knows : List Entry) → Type 0
-IsCompacted Honest keeps knew knows = (h : Held) × IsLent keeps h knew knows × (Honest → IsSettled h)
+IsCompacted Honest keeps knew knows =
+    (h : Held) × IsLent keeps h knew knows × (Honest → IsSettled h)
 
 -- The worker that looked had no thread, or no shelf; or it ended by such a refusal as a worker
 -- meets.

@@ -28,9 +28,10 @@ size_at fs level = record {
 abbrev pub sizes_of : List (ℕ × TableFile) → List LevelSize
 sizes_of fs = map (size_at fs) (0 ∷ 1 ∷ 2 ∷ 3 ∷ 4 ∷ 5 ∷ 6 ∷ [])
 
--- These are the last sequence of a state that the lock gave, and the files of its version. It has all
--- that was known.
-pub record IsListed (keeps : Held → Type 0) (last : ℕ) (fs : List (ℕ × TableFile)) (knew knows : List Entry) : Type 0 where
+-- These are the last sequence of a state that the lock gave, and the files of its version. It has
+-- all that was known.
+pub record IsListed (keeps : Held
+    → Type 0) (last : ℕ) (fs : List (ℕ × TableFile)) (knew knows : List Entry) : Type 0 where
   pub state : Held
   pub lent : IsLent keeps state knew knows
   pub last_is : last ≡ state.slots.version.last

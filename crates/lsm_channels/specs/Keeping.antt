@@ -46,8 +46,10 @@ abbrev pub IsKeptQuietly : Type 0 → (Held → Type 0) → Type 0
 IsKeptQuietly Honest keeps = (was is : Held) → IsQuietStep Honest was is → keeps was → keeps is
 
 -- The batch of the last ones of these writes keeps it, where it comes in and where it is refused.
-abbrev pub IsKeptByWrites : (shelf.Asked → ShelfFault → Type 0) → List Written → (Held → Type 0) → Type 0
-IsKeptByWrites Refused ws keeps = (batch : List Write) → KeepsLast (writes_of ws) batch → IsKeptByIngest Refused batch keeps
+abbrev pub IsKeptByWrites : (shelf.Asked → ShelfFault → Type 0) → List Written → (Held → Type 0)
+    → Type 0
+IsKeptByWrites Refused ws keeps =
+    (batch : List Write) → KeepsLast (writes_of ws) batch → IsKeptByIngest Refused batch keeps
 
 -- What is asked keeps it: that is to be said of writes alone.
 abbrev pub IsKeptByAsked : (shelf.Asked → ShelfFault → Type 0) → Asked → (Held → Type 0) → Type 0
@@ -61,8 +63,11 @@ IsKeptByAsked Refused Collects keeps = ⊤
 IsKeptByAsked Refused Statistics keeps = ⊤
 
 -- Each request that may come keeps it.
-abbrev pub IsKeptByRequests : (shelf.Asked → ShelfFault → Type 0) → (gives : List ℕ → Type 0) → (Held → Type 0) → Type 0
-IsKeptByRequests Refused gives keeps = (content : List ℕ) (asked : Asked) → gives content → IsRequest content asked → IsKeptByAsked Refused asked keeps
+abbrev pub IsKeptByRequests : (shelf.Asked → ShelfFault → Type 0) → (gives : List ℕ → Type 0)
+    → (Held → Type 0) → Type 0
+IsKeptByRequests Refused gives keeps =
+    (content : List ℕ) (asked : Asked) → gives content → IsRequest content asked
+    → IsKeptByAsked Refused asked keeps
 
 -- ---- what is known by it
 

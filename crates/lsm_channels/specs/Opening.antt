@@ -1,5 +1,6 @@
 -- How an opening is served, and why it is not (docs/PROTOCOL.md, this project's rule).
-use Rattle.std.specs.Prelude.{◌≡◌, ⊤, ◌⊎◌, ℕ, ◌^◌, ◌≤◌, ℤ, pos, Bool, true, false, List, [], ◌∷◌, ◌++◌, Option, map}
+use Rattle.std.specs.Prelude.{◌≡◌, ⊤, ◌⊎◌, ℕ, ◌^◌, ◌≤◌, ℤ, pos, Bool, true, false, List, [], ◌∷◌}
+use Rattle.std.specs.Prelude.{◌++◌, Option, map}
 use Rattle.std.specs.Option.{option_map}
 use Rattle.lsm_directory.specs.declared.folder.folder_file.FolderFile.{FolderFile}
 use Rattle.lsm_folder.specs.Calls.{Call, opened}
@@ -13,7 +14,8 @@ use Rattle.lsm_text.specs.declared.ingest_options.IngestOptions.{IngestOptions}
 use Rattle.lsm_cmd_write.specs.Preparing.{IsPrepared, IsUnprepared}
 use Rattle.lsm_cmd_write.specs.declared.ingesting.start.Start.{Start}
 use Rattle.lsm_cmd_write.specs.declared.ingesting.start.Start.TheVariants.{Open, Begin}
-use Rattle.lsm_wire.specs.Happenings.{Happening, Came, CameMisfit, CameNone, CameUnheld, Went, unanswered}
+use Rattle.lsm_wire.specs.Happenings.{Happening, Came, CameMisfit, CameNone, CameUnheld, Went}
+use Rattle.lsm_wire.specs.Happenings.{unanswered}
 use Rattle.lsm_channels.specs.Answered.{answer_frame}
 use Rattle.lsm_channels.specs.Serving.{End, IsDatabaseServed, end, ends_from, opened_from}
 use Rattle.lsm_channels.specs.declared.ended.Ended.{Ended}
@@ -47,9 +49,10 @@ IsFound Holds before = (start : Start) × (files : List FolderFile) × (after : 
 abbrev pub IsMet : (make refuse : Bool) → List Call → Type 0
 IsMet make refuse before = IsFound (λ start. IsAllowed start make refuse) before
 
--- A folder was served over these wires, to the end of each: it was locked and looked at, what there is was to be opened, or begun, and that
--- database was served.
-pub record IsFolderServed (Honest : Type 0) (Refused : Asked → ShelfFault → Type 0) (gives : List ℕ → Type 0) (channels : ℕ) (make refuse : Bool) (before : List Call)
+-- A folder was served over these wires, to the end of each: it was locked and looked at, what there
+-- is was to be opened, or begun, and that database was served.
+pub record IsFolderServed (Honest : Type 0) (Refused : Asked → ShelfFault → Type 0) (gives : List ℕ
+    → Type 0) (channels : ℕ) (make refuse : Bool) (before : List Call)
     (ws : List End) (rs : List (Option End)) : Type 0 where
   pub start : Start
   pub logs : List FolderFile
@@ -87,35 +90,46 @@ IsNoContent CameNone = ⊤
 IsNoContent CameUnheld = ⊤
 IsNoContent (Went bytes whole) = ⊥
 
--- A refusal was written over the wire, or that there was no memory for it; and nothing else happened there.
+-- A refusal was written over the wire, or that there was no memory for it; and nothing else
+-- happened there.
 abbrev pub IsRefusedOn : End → Type 0
 IsRefusedOn w = (number : ℕ) × (name : List ℕ) × (whole : Bool)
-    × ((w.happened ≡ Went (answer_frame (IsRefused number name)) whole ∷ []) ⊎ (w.happened ≡ Went unanswered whole ∷ []))
+    × ((w.happened ≡ Went (answer_frame (IsRefused number name)) whole ∷ [])
+    ⊎ (w.happened ≡ Went unanswered whole ∷ []))
 
 -- none was made; or one for each channel of the opening that the content is
 abbrev pub AreMadeFor : (content : List ℕ) → List ℤ → Type 0
-AreMadeFor content made = (made ≡ []) ⊎ ((o : Opened) × IsOpening content o × (made ≡ opened_from o.first o.channels))
+AreMadeFor content made = (made ≡ [])
+    ⊎ ((o : Opened) × IsOpening content o × (made ≡ opened_from o.first o.channels))
 
 -- An opening that names this first channel was refused over it; or no descriptor has its number.
 abbrev pub IsRefusal : (first : ℕ) → (was is : List ℤ) → Outcome → Type 0
 IsRefusal first was is NoneOpened = (2 ^ 31 ≤ first) × (is ≡ was)
-IsRefusal first was is (RefusedOn w) = (w.descriptor ≡ pos first) × IsRefusedOn w × (is ≡ pos first ∷ was)
+IsRefusal first was is (RefusedOn w) =
+    (w.descriptor ≡ pos first) × IsRefusedOn w × (is ≡ pos first ∷ was)
 IsRefusal first was is (ServedTo rs) = ⊥
 
--- What becomes of an opening frame. It is no opening and names no channel, and nothing was done; or it was refused over its first channel; or the
--- folder that it names was served over its channels.
-abbrev pub IsContentServed : Type 0 → (Asked → ShelfFault → Type 0) → (gives : List ℕ → Type 0) → (content : List ℕ) → Outcome → (was is : List ℤ) → Type 0
-IsContentServed Honest Refused gives content NoneOpened was is = ((o : Opened) → IsOpening content o → ⊥) × (is ≡ was)
+-- What becomes of an opening frame. It is no opening and names no channel, and nothing was done; or
+-- it was refused over its first channel; or the folder that it names was served over its channels.
+abbrev pub IsContentServed : Type 0 → (Asked → ShelfFault → Type 0) → (gives : List ℕ → Type 0)
+    → (content : List ℕ) → Outcome → (was is : List ℤ) → Type 0
+IsContentServed Honest Refused gives content NoneOpened was is =
+    ((o : Opened) → IsOpening content o → ⊥) × (is ≡ was)
 IsContentServed Honest Refused gives content (RefusedOn w) was is =
     IsRefusedOn w × ((o : Opened) → IsOpening content o → w.descriptor ≡ pos o.first)
     × ((made : List ℤ) × AreMadeFor content made × (is ≡ w.descriptor ∷ (made ++ was)))
 IsContentServed Honest Refused gives content (ServedTo rs) was is =
     (o : Opened) × IsOpening content o
-    × IsFolderServed Honest Refused gives o.channels o.make o.refuse (opened ∷ []) (ends_from o.first o.channels) rs × (is ≡ opened_from o.first o.channels ++ was)
+    × IsFolderServed Honest Refused gives o.channels o.make o.refuse (opened
+    ∷ []) (ends_from o.first o.channels) rs × (is ≡ opened_from o.first o.channels ++ was)
 
--- One run: what happened at descriptor 0, how it ended, and of which descriptors wires were made, the last one first. No opening came, and nothing
--- was done; or one came, and nothing more was read there.
-abbrev pub IsRun : Type 0 → (Asked → ShelfFault → Type 0) → (gives : List ℕ → Type 0) → (opening : End) → Outcome → (was is : List ℤ) → Type 0
+-- One run: what happened at descriptor 0, how it ended, and of which descriptors wires were made,
+-- the last one first. No opening came, and nothing was done; or one came, and nothing more was read
+-- there.
+abbrev pub IsRun : Type 0 → (Asked → ShelfFault → Type 0) → (gives : List ℕ → Type 0)
+    → (opening : End) → Outcome → (was is : List ℤ) → Type 0
 IsRun Honest Refused gives opening outcome was is =
-    ((came : Happening) × IsNoContent came × (opening ≡ end (pos 0) (came ∷ [])) × (outcome ≡ NoneOpened) × (is ≡ pos 0 ∷ was))
-    ⊎ ((content : List ℕ) × (opening ≡ end (pos 0) (Came content ∷ [])) × IsContentServed Honest Refused gives content outcome (pos 0 ∷ was) is)
+    ((came : Happening) × IsNoContent came × (opening ≡ end (pos 0) (came ∷ []))
+    × (outcome ≡ NoneOpened) × (is ≡ pos 0 ∷ was))
+    ⊎ ((content : List ℕ) × (opening ≡ end (pos 0) (Came content ∷ []))
+    × IsContentServed Honest Refused gives content outcome (pos 0 ∷ was) is)

@@ -21,7 +21,8 @@ values_at history seq keys = map (λ k. answer history k seq) keys
 
 -- The answer has the value of each key, in all that had come in when the reader learnt it, at one
 -- sequence.
-pub record IsRead (Honest : Type 0) (keeps : Held → Type 0) (when : When) (keys : List (List ℕ)) (taken : List (ℕ
+pub record IsRead (Honest : Type 0) (keeps : Held
+    → Type 0) (when : When) (keys : List (List ℕ)) (taken : List (ℕ
     × ℕ)) (before after : Learnt) (knew knows : List Entry) (frame : List ℕ) : Type 0 where
   pub seq : ℕ
   pub sees : Sees keeps when taken before after knew knows seq
@@ -29,9 +30,10 @@ pub record IsRead (Honest : Type 0) (keeps : Held → Type 0) (when : When) (key
 
 -- ---- refusals
 
--- Why there is no view: in the state that the lock gave, which has all that the channel knew the snapshot is not live, or
--- the version is not pinned.
-abbrev pub IsUnseen : (Held → Type 0) → When → List (ℕ × ℕ) → (knew knows : List Entry) → StateFault → Type 0
+-- Why there is no view: in the state that the lock gave, which has all that the channel knew the
+-- snapshot is not live, or the version is not pinned.
+abbrev pub IsUnseen : (Held → Type 0) → When → List (ℕ × ℕ) → (knew knows : List Entry) → StateFault
+    → Type 0
 IsUnseen keeps when taken knew knows e =
     (h : Held) × IsLent keeps h knew knows × (IsNotLive h taken when e ⊎ IsUnpinned h e)
 
@@ -51,8 +53,10 @@ IsTooLong done = MOST_ANSWER < length (answer_text (IsDone done))
 
 -- Why a read is refused: nothing is seen; or what is seen is not answered, as `TooLarge` over an
 -- honest shelf only where the answer would be too long.
-abbrev pub IsReadFault : Type 0 → (Held → Type 0) → When → List (List ℕ) → List (ℕ × ℕ) → (before after : Learnt)
+abbrev pub IsReadFault : Type 0 → (Held → Type 0) → When → List (List ℕ) → List (ℕ × ℕ)
+    → (before after : Learnt)
     → (knew knows : List Entry) → StateFault → Type 0
-IsReadFault Honest keeps when keys taken before after knew knows e = IsUnseen keeps when taken knew knows e
+IsReadFault Honest keeps when keys taken before after knew knows e =
+    IsUnseen keeps when taken knew knows e
     ⊎ ((seq : ℕ) × Sees keeps when taken before after knew knows seq × IsUnread Honest e
     × (Honest → e ≡ TooLarge → IsTooLong (Found (values_at knows seq keys))))

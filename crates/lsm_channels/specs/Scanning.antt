@@ -96,6 +96,7 @@ IsUnshown s history seq = (all : List Pair) × IsScanFrom s.from seq history all
 -- honest shelf only where no answer has room for a pair.
 abbrev pub IsScanFault : Type 0 → (Held → Type 0) → Stretch → List (ℕ × ℕ) → (before after : Learnt)
     → (knew knows : List Entry) → StateFault → Type 0
-IsScanFault Honest keeps s taken before after knew knows e = IsUnseen keeps s.when taken knew knows e
+IsScanFault Honest keeps s taken before after knew knows e =
+    IsUnseen keeps s.when taken knew knows e
     ⊎ ((seq : ℕ) × Sees keeps s.when taken before after knew knows seq × IsUnread Honest e
     × (Honest → e ≡ TooLarge → IsUnshown s knows seq))

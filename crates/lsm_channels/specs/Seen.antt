@@ -53,8 +53,9 @@ pub record Learns (h : Held) (before after : Learnt) : Type 0 where
   pub snapshots : after.snapshots ≡ snapshot_sequences h
   pub later : IsLater after.history before.history
 
--- The reader has learnt a state that the lock gave, which has all that the channel knew, and this is the sequence of the
--- read there: the last one, or the snapshot's, which is the one that the channel was told.
+-- The reader has learnt a state that the lock gave, which has all that the channel knew, and this
+-- is the sequence of the read there: the last one, or the snapshot's, which is the one that the
+-- channel was told.
 pub record Sees (keeps : Held → Type 0) (when : When) (taken : List (ℕ
     × ℕ)) (before after : Learnt) (knew knows : List Entry) (seq : ℕ) : Type 0 where
   pub state : Held

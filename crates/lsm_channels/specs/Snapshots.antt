@@ -53,13 +53,15 @@ Notes h number sequence taken left =
 
 -- ---- at one taking of the lock, of the state that it gave, which has all that the channel knew
 
-abbrev pub IsTaken : (Held → Type 0) → (number sequence : ℕ) → (knew knows : List Entry) → (taken left : List (ℕ × ℕ))
+abbrev pub IsTaken : (Held → Type 0) → (number sequence : ℕ) → (knew knows : List Entry)
+    → (taken left : List (ℕ × ℕ))
     → Type 0
 IsTaken keeps number sequence knew knows taken left =
     (was : Held) × (is : Held) × IsLent keeps was knew knows × TakesAt was is number sequence
     × Notes was number sequence taken left
 
-abbrev pub IsUntaken : (Held → Type 0) → StateFault → (knew knows : List Entry) → (taken left : List (ℕ × ℕ)) → Type 0
+abbrev pub IsUntaken : (Held → Type 0) → StateFault → (knew knows : List Entry)
+    → (taken left : List (ℕ × ℕ)) → Type 0
 IsUntaken keeps e knew knows taken left =
     (was : Held) × IsLent keeps was knew knows × IsTakeFault was e × Forgets was taken left
 

@@ -103,7 +103,10 @@ pub(crate) fn serve<N: Boarded, S: Shelf, K: Invariant, W: Wire, R: Threads + Wa
         channel.session result.session (W.happened channel.wire) (W.happened result.wire) }
     ensures same { W.descriptor result.wire ≡ W.descriptor channel.wire }
 {
-    let Channel { mut session, mut wire } = channel;
+    let Channel {
+        mut session,
+        mut wire,
+    } = channel;
     'turns: for _ in rt.forever() {
         let (after, goes_on) = take_turn(rt, alloc, store, background, session, &mut wire);
         session = after;

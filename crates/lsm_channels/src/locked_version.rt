@@ -111,11 +111,7 @@ impl<N: Boarded, S: Shelf> LockedVersion<N, S> {
     }
 
     /// Gives the pin back.
-    pub(crate) fn end<K: Invariant, R: Wait>(
-        self,
-        rt: &R,
-        store: &Store<N, S, K>,
-    ) -> Reader<N, S>
+    pub(crate) fn end<K: Invariant, R: Wait>(self, rt: &R, store: &Store<N, S, K>) -> Reader<N, S>
         requires quiet { IsKeptQuietly S.honest K.keeps }
         ensures reader { result ≡ self }
         ensures idle { IsIdle result }

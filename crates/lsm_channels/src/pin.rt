@@ -50,11 +50,7 @@ impl<N: Boarded, S: Shelf> Pin<N, S> {
 
     /// Gives the pin back.
     #[tactic(auto, using(crate::proofs::PinLaws::ended_idle))]
-    pub(crate) fn end<K: Invariant, R: Wait>(
-        self,
-        rt: &R,
-        store: &Store<N, S, K>,
-    ) -> Reader<N, S>
+    pub(crate) fn end<K: Invariant, R: Wait>(self, rt: &R, store: &Store<N, S, K>) -> Reader<N, S>
         requires quiet { IsKeptQuietly S.honest K.keeps }
         ensures { result ≡ unpinned (seen_by self) }
     {

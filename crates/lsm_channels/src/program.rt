@@ -103,12 +103,7 @@ where
 }
 
 /// Opens the folder of an opening, and serves its database over these wires.
-fn serve_path<
-    C: FolderCalls + Send + Sync,
-    P: Paths<C>,
-    W: Wire + Send,
-    R: Threads + Wait + Sync,
->(
+fn serve_path<C: FolderCalls + Send + Sync, P: Paths<C>, W: Wire + Send, R: Threads + Wait + Sync>(
     rt: &R,
     paths: &P,
     opening: &Opening<'_>,

@@ -1,7 +1,7 @@
 //! A database is served over channels.
 
-ghost use Rattle.std.specs.Prelude.{◌≡◌, ◌≤◌, ◌++◌, ℕ, List, [], ◌∷◌, All, IfOk, length, map};
-ghost use Rattle.std.specs.Prelude.{reverse, vec_capacity, vec_len};
+ghost use Rattle.std.specs.Prelude.{◌≡◌, ◌≤◌, ◌+◌, ◌++◌, List, [], ◌∷◌, All, IfOk, Option, length};
+ghost use Rattle.std.specs.Prelude.{map, reverse, vec_capacity, vec_len};
 ghost use Rattle.std.specs.Option.{option_map};
 ghost use Rattle.lsm_channels.specs.Keeping.{IsKeptByRequests, IsKeptQuietly};
 ghost use Rattle.lsm_channels.specs.Serving.{AreBack, AreServed, IsDatabaseServed, IsFresh};
@@ -34,15 +34,7 @@ use std::thread;
 use std::thread::{Scope, Threads};
 
 /// Starts a thread for a channel, which serves it to its end.
-fn start<
-    's,
-    'e,
-    N: Boarded,
-    S: Shelf,
-    K: Invariant,
-    W: Wire + Send,
-    R: Threads + Wait + Sync,
->(
+fn start<'s, 'e, N: Boarded, S: Shelf, K: Invariant, W: Wire + Send + 'e, R: Threads + Wait + Sync>(
     scope: &'s Scope<'s, &'e ()>,
     rt: &'e R,
     alloc: Global,
@@ -84,7 +76,7 @@ fn start_all<
     N: Boarded,
     S: Shelf,
     K: Invariant,
-    W: Wire + Send,
+    W: Wire + Send + 'e,
     R: Threads + Wait + Sync,
 >(
     scope: &'s Scope<'s, &'e ()>,
@@ -176,19 +168,24 @@ fn serve_first<N: Boarded, S: Shelf, K: Invariant, W: Wire, R: Threads + Wait + 
     if !say_open(alloc, &mut wire, are_served) {
         return wire;
     }
-    let Channel { session: _, wire } =
-        serve(rt, alloc, store, background, Channel { session, wire });
+    let Channel { session: _, wire } = serve(
+        rt,
+        alloc,
+        store,
+        background,
+        Channel { session, wire },
+    );
     wire
 }
 
 /// Serves the first channel in this thread, and each other one in a thread of its own, until all
 /// have ended. Before the first request is read it is said that all are served. The others are
 /// given the last one first; there is room for threads and for wires.
-fn serve_all<N: Boarded, S: Shelf, K: Invariant, W: Wire + Send, R: Threads + Wait + Sync>(
-    rt: &R,
+fn serve_all<'e, N: Boarded, S: Shelf, K: Invariant, W: Wire + Send + 'e, R: Threads + Wait + Sync>(
+    rt: &'e R,
     alloc: Global,
-    store: &Store<N, S, K>,
-    background: &Background,
+    store: &'e Store<N, S, K>,
+    background: &'e Background,
     first: Channel<N, S, W>,
     others: Vec<Channel<N, S, W>>,
     threads: Vec<Thread<N, S, K, W>>,
@@ -237,17 +234,17 @@ fn serve_all<N: Boarded, S: Shelf, K: Invariant, W: Wire + Send, R: Threads + Wa
 }
 
 /// A channel of each session with its wire, the last one first; there is room for them.
-fn pair_all<N: Boarded, S: Shelf, W: Wire>(
+fn pair_all<N: Boarded, S: Shelf, K: Invariant, W: Wire>(
     sessions: Vec<Session<N, S>>,
     wires: Vec<W>,
     channels: Vec<Channel<N, S, W>>,
 ) -> Vec<Channel<N, S, W>>
+    requires fresh { All (IsFresh K.keeps) sessions.items }
     requires each { vec_len sessions ≡ vec_len wires }
     requires none { (channels.items ≡ []) × (vec_len channels ≡ 0) }
     requires room { vec_len wires ≤ vec_capacity channels }
     ensures wires { reverse (map (λ c. c.wire) result.items) ≡ wires.items }
-    ensures fresh { (keeps : Held → Type 0) → All (IsFresh keeps) sessions.items
-        → All (λ c. IsFresh keeps c.session) result.items }
+    ensures fresh { All (λ c. IsFresh K.keeps c.session) result.items }
     ensures len { vec_len result ≡ vec_len wires }
 {
     let mut sessions = sessions;
@@ -266,6 +263,7 @@ fn pair_all<N: Boarded, S: Shelf, W: Wire>(
 
 /// Serves what is open beside its workers, over these wires, until each channel has ended.
 /// `OutOfMemory` where workers could not be had; then nothing was said on a channel.
+#[tactic(auto, using(crate::proofs::KeepingLaws::quiet_compaction))]
 fn serve_opened<N: Boarded, S: Shelf, K: Invariant, W: Wire + Send, R: Threads + Wait + Sync>(
     rt: &R,
     alloc: Global,
@@ -291,7 +289,7 @@ fn serve_opened<N: Boarded, S: Shelf, K: Invariant, W: Wire + Send, R: Threads +
     if sessions.len() != wires.len() {
         return Err(WriterFault::OutOfMemory);
     }
-    let mut others = pair_all(sessions, wires, channels);
+    let mut others = pair_all::<N, S, K, W>(sessions, wires, channels);
     let Some(first) = others.pop() else {
         return Err(WriterFault::OutOfMemory);
     };
@@ -314,9 +312,7 @@ fn serve_opened<N: Boarded, S: Shelf, K: Invariant, W: Wire + Send, R: Threads +
                 (map (λ w. end (W.descriptor w) (W.happened w))
                 (first.wire ∷ reverse (map (λ c. c.wire) others.items)))
                 (map (option_map (λ w. end (W.descriptor w) (W.happened w))) result.items) }
-        {
-            serve_all(rt, alloc, store, background, first, others, threads, back)
-        },
+        { serve_all(rt, alloc, store, background, first, others, threads, back) },
     )?;
     Ok(wires)
 }
@@ -338,7 +334,7 @@ fn serve_state<N: Boarded, S: Shelf, K: Invariant, W: Wire + Send, R: Threads + 
         (map (λ w. end (W.descriptor w) (W.happened w)) wires.items)
         (map (option_map (λ w. end (W.descriptor w) (W.happened w))) v.items)) }
 {
-    match open_state(rt, alloc, state, shelf, workers) {
+    match open_state::<N, S, K, R>(rt, alloc, state, shelf, workers) {
         Ok(opened) => serve_opened(rt, alloc, opened, wires),
         Err(fault) => Err(WriterFault::of_shelf(fault)),
     }

@@ -115,7 +115,7 @@ impl<N: Boarded, S: Shelf> Session<N, S> {
         writes: Writes<'_>,
     ) -> Result<Vec<u8>, AllocError>
         requires quiet { IsKeptQuietly S.honest K.keeps }
-        requires writes { IsKeptByWrites (S.refuses N.place) writes.entry K.keeps }
+        requires writes { IsKeptByWrites (S.refuses N.place) writes K.keeps }
         ensures answered { IfOk result (λ v. IsAnswered S.honest (S.refuses N.place) K.keeps
             (AskedWrites writes.entry) self.old self.new v.items) }
         ensures unanswered { OnErr result ((frame : List ℕ) × IsAnswered S.honest (S.refuses N.place) K.keeps
@@ -369,7 +369,7 @@ impl<N: Boarded, S: Shelf> Session<N, S> {
         request: Request<'_>,
     ) -> (Session<N, S>, Result<Vec<u8>, AllocError>)
         requires quiet { IsKeptQuietly S.honest K.keeps }
-        requires asked { IsKeptByAsked (S.refuses N.place) (asked_of request.entry) K.keeps }
+        requires asked { IsKeptByAsked (S.refuses N.place) (asked_of request) K.keeps }
         ensures answered { IfOk result.1 (λ v. IsAnswered S.honest (S.refuses N.place) K.keeps
             (asked_of request.entry) self result.0 v.items) }
         ensures unanswered { OnErr result.1 ((frame : List ℕ) × IsAnswered S.honest (S.refuses N.place) K.keeps

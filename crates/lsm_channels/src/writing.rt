@@ -115,7 +115,7 @@ pub(crate) fn write<N: Boarded, S: Shelf, K: Invariant, R: Wait>(
     writes: Writes<'_>,
 ) -> Result<Ingested, StateFault>
     requires quiet { IsKeptQuietly S.honest K.keeps }
-    requires writes { IsKeptByWrites (S.refuses N.place) writes.entry K.keeps }
+    requires writes { IsKeptByWrites (S.refuses N.place) writes K.keeps }
     ensures ok { IfOk result (λ r. IsWritten K.keeps writes.entry r memory.new shelf.old shelf.new) }
     ensures known { IsLater memory.new memory.old }
     ensures refused { IfErr result (λ e.

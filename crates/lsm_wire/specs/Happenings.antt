@@ -46,8 +46,10 @@ IsWritten bytes goes_on was is = is ≡ Went bytes goes_on ∷ was
 
 -- It was said that there was no memory, and the channel does not go on.
 abbrev pub IsUnanswered : (goes_on : Bool) → (was is : List Happening) → Type 0
-IsUnanswered goes_on was is = (goes_on ≡ false) × ((whole : Bool) × (is ≡ Went unanswered whole ∷ was))
+IsUnanswered goes_on was is = (goes_on ≡ false)
+    × ((whole : Bool) × (is ≡ Went unanswered whole ∷ was))
 
 -- It was said that what came is no request, or that there was no memory for saying so.
 abbrev pub IsCalledNoRequest : (was is : List Happening) → Type 0
-IsCalledNoRequest was is = (bytes : List ℕ) × (whole : Bool) × ((bytes ≡ malformed) ⊎ (bytes ≡ unanswered)) × (is ≡ Went bytes whole ∷ was)
+IsCalledNoRequest was is = (bytes : List ℕ) × (whole : Bool)
+    × ((bytes ≡ malformed) ⊎ (bytes ≡ unanswered)) × (is ≡ Went bytes whole ∷ was)
