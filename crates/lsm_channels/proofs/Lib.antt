@@ -1,4 +1,5 @@
 mod KeepingLaws
+mod RunLaws
 mod Sending
 mod TurnLaws
 mod WireLaws
