@@ -41,9 +41,9 @@ DataBlocks body bound (i ∷ index) ((e ∷ es) ∷ groups) =
     DataBlock body i.value (e ∷ es) × IsAfter bound e × (is_le (entry_cmp (last_of e es) i) ≡ true)
     × DataBlocks body (Some (internal_key i)) index groups
 
--- The handles of index values name data blocks one behind the other: the first begins at this offset
--- or behind it, and each other one where the trailer before it ends, or behind that (this project's
--- rule: no byte is in two data blocks).
+-- The handles of index values name data blocks one behind the other: the first begins at this
+-- offset or behind it, and each other one where the trailer before it ends, or behind that (this
+-- project's rule: no byte is in two data blocks).
 abbrev pub AreApart : ℕ → List Entry → Type 0
 AreApart from [] = Unit {0}
 AreApart from (i ∷ index) = (handle : Handle) × IsHandle i.value handle × (from ≤ handle.offset)

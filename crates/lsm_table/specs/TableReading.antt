@@ -58,7 +58,8 @@ unfoldable pub end_of : List ℕ → ℕ
 end_of value = end_after (handle_at BadIndex value)
 
 -- the data block of an index entry, which does not begin before this offset
-abbrev pub block_behind : List ℕ → ℕ → Option InternalKey → Entry → Result (List Entry) TableFault
+abbrev pub block_behind : List ℕ → ℕ → Option InternalKey → Entry
+    → Result (List Entry) TableFault
 block_behind body from bound i =
     guarded (stands_behind from i.value) BadIndex (data_block_at body bound i)
 
