@@ -4,9 +4,9 @@ use Rattle.lsm_directory.specs.declared.folder.folder_file.FolderFile.{FolderFil
 use Rattle.lsm_folder.specs.Calls.{Call}
 use Rattle.lsm_text.specs.declared.form.Form.TheVariants.{Hex}
 use Rattle.lsm_requests.specs.declared.ingest_options.IngestOptions.{IngestOptions}
-use Rattle.lsm_cmd_write.specs.Preparing.{IsPrepared, IsUnprepared}
-use Rattle.lsm_cmd_write.specs.declared.ingesting.start.Start.{Start}
-use Rattle.lsm_cmd_write.specs.declared.ingesting.start.Start.TheVariants.{Open, Begin}
+use Rattle.lsm_opening.specs.Preparing.{IsPrepared, IsUnprepared}
+use Rattle.lsm_opening.specs.declared.prepared.Start.{Start}
+use Rattle.lsm_opening.specs.declared.prepared.Start.TheVariants.{Open, Begin}
 use Rattle.lsm_channels.specs.declared.opening_fault.OpeningFault.{OpeningFault}
 use Rattle.lsm_channels.specs.declared.opening_fault.OpeningFault.TheVariants.{NoDatabase, IsThere}
 use Rattle.lsm_channels.specs.declared.opening_fault.OpeningFault.TheVariants.{Folder}

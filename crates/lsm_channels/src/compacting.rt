@@ -7,9 +7,9 @@ ghost use Rattle.lsm_channels.specs.Served.{IsToldBy};
 ghost use Rattle.lsm_shelf.specs.Told.{Forked};
 ghost use Rattle.lsm_store.specs.Workers.{IsOfReserving, IsWorkersEnd};
 
-use crate::forks::forks;
 use crate::knowing::catch_up;
 use lsm_history::Memory;
+use lsm_opening::forks;
 use lsm_slots::Boarded;
 use lsm_state::{State, StateFault};
 use lsm_store::{Background, NoGate, Store, WorkerEnd, WorkerFault, run_workers};

@@ -1,18 +1,13 @@
 //! A database that is open.
 
-ghost use Rattle.std.specs.Prelude.{◌≡◌, ◌≤◌, IfOk, length};
-ghost use Rattle.lsm_channels.specs.Starting.{options_for};
-ghost use Rattle.lsm_state.specs.Making.{IsNewBoard, IsNewHistory};
+ghost use Rattle.lsm_opening.specs.Parts.{AreOf};
 ghost use Rattle.lsm_store.specs.Readers.{SeatsPinners};
 
 use crate::channel::Channel;
-use crate::forks::forks;
 use crate::knowing::remember;
-use crate::parts::{NewParts, options_for};
 use crate::plan::Plan;
 use crate::session::Session;
-use crate::starting::start;
-use lsm_cmd_write::{Prepared, WriterFault};
+use lsm_opening::{NewParts, Prepared, WriterFault, forks, start_with};
 use lsm_reader::Cached;
 use lsm_slots::Boarded;
 use lsm_state::{Options, State};
@@ -102,27 +97,6 @@ fn open_state<N: Boarded, S: Shelf, R: Wait>(
     })
 }
 
-/// The state of the database of a shelf, opened or begun.
-fn open_parts<N: Boarded, S: Shelf, R: Wait>(
-    rt: &R,
-    alloc: Global,
-    shelf: &mut NamedShelf<N, S>,
-    prepared: &Prepared,
-    channels: usize,
-    parts: NewParts<S>,
-) -> Result<State<N, S>, WriterFault>
-    requires some { 1 ≤ channels }
-    requires few { channels ≤ 62 }
-    requires records { parts.records ≡ N.registry }
-    requires board { IsNewBoard N.board (options_for channels) parts.board.0 parts.board.1.items }
-    requires seats { length parts.board.1.items ≡ channels }
-    requires history { IsNewHistory N.history parts.history }
-    ensures { IfOk result (λ s. SeatsPinners s) }
-{
-    let parts = parts.named(alloc)?;
-    start(rt, alloc, shelf, prepared, options_for(channels), parts)
-}
-
 /// The database of a shelf, opened or begun.
 pub(crate) fn open<N: Boarded, S: Shelf, R: Wait>(
     rt: &R,
@@ -132,15 +106,9 @@ pub(crate) fn open<N: Boarded, S: Shelf, R: Wait>(
     plan: Plan,
     parts: NewParts<S>,
 ) -> Result<Opened<N, S>, WriterFault>
-    requires some { 1 ≤ plan.channels }
-    requires few { plan.channels ≤ 62 }
-    requires records { parts.records ≡ N.registry }
-    requires board { IsNewBoard N.board (options_for plan.channels) parts.board.0
-        parts.board.1.items }
-    requires seats { length parts.board.1.items ≡ plan.channels }
-    requires history { IsNewHistory N.history parts.history }
+    requires parts { AreOf parts.options N.registry N.board N.history parts }
 {
-    let state = open_parts(rt, alloc, shelf, prepared, plan.channels, parts)?;
+    let state = start_with(rt, alloc, shelf, prepared, parts)?;
     match open_state(rt, alloc, state, shelf, plan) {
         Ok(opened) => Ok(opened),
         Err(fault) => Err(WriterFault::of_shelf(fault)),

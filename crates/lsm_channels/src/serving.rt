@@ -1,17 +1,16 @@
 //! A database is served over channels.
 
-ghost use Rattle.std.specs.Prelude.{◌≡◌, ◌≤◌, length};
-ghost use Rattle.lsm_channels.specs.Starting.{options_for};
-ghost use Rattle.lsm_state.specs.Making.{IsNewBoard, IsNewHistory};
+ghost use Rattle.std.specs.Prelude.{◌≡◌, ◌≤◌};
+ghost use Rattle.lsm_opening.specs.Parts.{AreOf};
 
 use crate::channel::{Channel, serve};
 use crate::descriptors::send;
 use crate::opened::{Opened, open};
-use crate::parts::{NewParts, options_for};
+use crate::parts::options_for;
 use crate::plan::Plan;
 use crate::refusing::refuse;
-use lsm_cmd_write::{Prepared, WriterFault};
 use lsm_frames::nothing;
+use lsm_opening::{NewParts, Prepared, WriterFault};
 use lsm_slots::Boarded;
 use lsm_state::StateFault;
 use lsm_store::{Background, NoGate, Store, with_workers};
@@ -105,13 +104,7 @@ fn serve_named<N: Boarded, S: Shelf, R: Threads + Wait + Sync>(
     plan: Plan,
     parts: NewParts<S>,
 ) -> Result<(), WriterFault>
-    requires some { 1 ≤ plan.channels }
-    requires few { plan.channels ≤ 62 }
-    requires records { parts.records ≡ N.registry }
-    requires board { IsNewBoard N.board (options_for plan.channels) parts.board.0
-        parts.board.1.items }
-    requires seats { length parts.board.1.items ≡ plan.channels }
-    requires history { IsNewHistory N.history parts.history }
+    requires parts { AreOf parts.options N.registry N.board N.history parts }
 {
     let opened = open(rt, alloc, shelf, prepared, plan, parts)?;
     serve_opened(rt, alloc, opened)
@@ -126,14 +119,8 @@ fn serve_as<N: Boarded, S: Shelf, R: Threads + Wait + Sync>(
     plan: Plan,
     parts: NewParts<S>,
 ) -> (Result<(), WriterFault>, S)
-    requires some { 1 ≤ plan.channels }
-    requires few { plan.channels ≤ 62 }
-    requires records { parts.records ≡ N.registry }
+    requires parts { AreOf parts.options N.registry N.board N.history parts }
     requires shelf { (S.told shelf).place ≡ N.place }
-    requires board { IsNewBoard N.board (options_for plan.channels) parts.board.0
-        parts.board.1.items }
-    requires seats { length parts.board.1.items ≡ plan.channels }
-    requires history { IsNewHistory N.history parts.history }
 {
     let mut shelf: NamedShelf<N, S> = NamedShelf::of(shelf);
     let done = serve_named(rt, alloc, &mut shelf, prepared, plan, parts);
@@ -153,7 +140,7 @@ pub(crate) fn serve_on<S: Shelf, R: Threads + Wait + Sync>(
     requires some { 1 ≤ plan.channels }
     requires few { plan.channels ≤ 62 }
 {
-    match NewParts::make(alloc, options_for(plan.channels)) {
+    match NewParts::with(alloc, options_for(plan.channels)) {
         Ok(parts) => serve_as::<Brand, S, R>(rt, alloc, shelf, prepared, plan, parts),
         Err(_) => (Err(WriterFault::OutOfMemory), shelf),
     }

@@ -9,16 +9,16 @@ use Rattle.lsm_shelf.specs.Told.{Becomes, Forked, Told, finding}
 use Rattle.lsm_codec.specs.Entries.{answer}
 use Rattle.lsm_model.specs.Files.{all_entries}
 use Rattle.lsm_version.specs.Versions.{files}
-use Rattle.lsm_slots.specs.Slots.{Looked, Slotted}
 use Rattle.lsm_journal.specs.HeldManifest.{HeldManifest}
 use Rattle.lsm_state.specs.Held.{Held}
 use Rattle.lsm_store.specs.Compacting.{IsLeftByWorkers}
 use Rattle.lsm_store.specs.declared.worker_end.WorkerEnd.{WorkerEnd}
-use Rattle.lsm_cmd_write.specs.Starting.{IsReopened}
-use Rattle.lsm_cmd_write.specs.declared.faults.writer_fault.WriterFault.TheVariants.{Write as WriteFault}
-use Rattle.lsm_cmd_compact.specs.Compacting.{AreEnds, AreFaultless, Compacts, IsCompactFault, IsNamed, IsOfManning, IsOpened, IsNotCompacted, IsSwept, IsWorkersFault, LeavesAll, StopsSweeping, installed_between}
-use Rattle.lsm_cmd_compact.specs.declared.compact_fault.CompactFault.{CompactFault}
-use Rattle.lsm_cmd_compact.specs.declared.compact_fault.CompactFault.TheVariants.{Writer}
+use Rattle.lsm_opening.specs.Compactions.{IsSwept}
+use Rattle.lsm_opening.specs.Starting.{Opens}
+use Rattle.lsm_opening.specs.declared.faults.writer_fault.WriterFault.TheVariants.{Write as WriteFault}
+use Rattle.lsm_cmd_compact.specs.Compacting.{AreEnds, AreFaultless, Compacts, IsCompactFault, IsNamed, IsOfManning, IsOpened, IsNotCompacted, IsWorkersFault, LeavesAll, StopsSweeping, installed_between}
+use Rattle.lsm_opening.specs.declared.faults.compact_fault.CompactFault.{CompactFault}
+use Rattle.lsm_opening.specs.declared.faults.compact_fault.CompactFault.TheVariants.{Writer}
 
 pub is_refused : {T : Type 0} (r : Result T CompactFault) (status : ℕ) (Stored : ℕ → List ℕ → Type 0) (Refused : Asked → ShelfFault → Type 0) (Honest : Type 0) (workers : ℕ)
     (was is : Told) (old new : Option (List ℕ)) → OnOk r (status ≡ 0) → OnErr r (status ≡ 1)
@@ -29,9 +29,6 @@ is_refused (Err e) status Stored Refused Honest workers was is old new ok err sa
 
 -- ---- after the opening
 
-pub looked_same : (s : Slotted) → Looked s s
-looked_same s = record { board = refl; id = refl; slot = refl; version = refl; length = refl; each = λ i. inl refl }
-
 -- what workers left is all of it, and each user key shows what it showed
 pub leaves : (Honest : Type 0) (found left : Held) → IsLeftByWorkers Honest found left → LeavesAll Honest found left
 leaves Honest found left l = record {
@@ -39,7 +36,7 @@ leaves Honest found left l = record {
   shows = λ h k. ap (λ (q : ℕ). answer (all_entries (files left.slots.version)) k q) l.as_found.last ∙ l.as_found.answers h k found.slots.version.last (inl refl);
 }
 
-pub opens : (Honest : Type 0) (board : TableId) (found : Held) (was mid is : Told) → IsReopened Honest found was mid → found.slots.board.board ≡ board → Forked mid is → IsOpened Honest board found was is
+pub opens : (Honest : Type 0) (board : TableId) (found : Held) (was mid is : Told) → Opens Honest found was mid → found.slots.board.board ≡ board → Forked mid is → IsOpened Honest board found was is
 opens Honest board found was mid is opened on forked = record { mid = mid; opened = opened; on = on; forked = forked }
 
 -- no worker began, or one of them has a fault

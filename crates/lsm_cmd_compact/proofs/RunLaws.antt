@@ -13,9 +13,9 @@ use Rattle.lsm_cmd_compact.specs.Compacting.{IsCompactFault, IsCompacted}
 use Rattle.lsm_directory.specs.Folders.{IsShelfAt, stored_at, told_by}
 use Rattle.lsm_directory.specs.Holding.{IsHeld}
 use Rattle.lsm_cmd_compact.specs.Compacted.{IsCompactedAt, IsUncompacted}
-use Rattle.lsm_cmd_compact.specs.declared.compact_fault.CompactFault.{CompactFault}
-use Rattle.lsm_cmd_compact.specs.declared.compact_fault.CompactFault.TheVariants.{Writer}
-use Rattle.lsm_cmd_write.specs.declared.faults.writer_fault.WriterFault.TheVariants.{Write as WriteFault}
+use Rattle.lsm_opening.specs.declared.faults.compact_fault.CompactFault.{CompactFault}
+use Rattle.lsm_opening.specs.declared.faults.compact_fault.CompactFault.TheVariants.{Writer}
+use Rattle.lsm_opening.specs.declared.faults.writer_fault.WriterFault.TheVariants.{Write as WriteFault}
 
 -- what holds where a command is done
 pub done_by : {T F P : Type 0} (r : Result T F) (status : ℕ) → OnErr r (status ≡ 1) → OnOk r P → status ≡ 0 → P

@@ -13,7 +13,7 @@ use Rattle.lsm_requests.specs.declared.compact_line.CompactLine.{CompactLine}
 use Rattle.lsm_cmd_compact.specs.Compacting.{IsCompacted, IsNotCompacted}
 use Rattle.lsm_directory.specs.Folders.{IsShelfAt, stored_at, told_by}
 use Rattle.lsm_directory.specs.Holding.{IsHeld}
-use Rattle.lsm_cmd_compact.specs.declared.compact_fault.CompactFault.{CompactFault}
+use Rattle.lsm_opening.specs.declared.faults.compact_fault.CompactFault.{CompactFault}
 
 module _ {C M : Type 0} (folders : Ghosts C M) where
   -- The lock of the folder at the path was held. A shelf of it was compacted by so many workers.

@@ -1,12 +1,10 @@
 -- What a `compact` leaves, and why it is refused (this project's rule).
-use Rattle.std.specs.Prelude.{◌≡◌, ◌≢◌, ℕ, ◌-◌, ◌⊎◌, false, List, [], ◌∷◌, ◌++◌, length, codes}
-use Rattle.std.specs.Prelude.{decimal, replicate, All, Option, None, Some, Err}
+use Rattle.std.specs.Prelude.{◌≡◌, ◌≢◌, ℕ, ◌-◌, ◌⊎◌, List, ◌∷◌, ◌++◌, length}
+use Rattle.std.specs.Prelude.{replicate, All, Option, None, Some, Err}
 use Rattle.std.specs.Io.KnownBytes.{Appends, Keeps}
 use Rattle.atomic_table.specs.Seated.{TableId}
 use Rattle.lsm_codec.specs.Entries.{answer}
 use Rattle.lsm_codec.specs.Keys.{UserKey}
-use Rattle.lsm_folder.specs.Calls.{Call}
-use Rattle.lsm_folder.specs.declared.lock_kind.LockKind.TheVariants.{Exclusive}
 use Rattle.lsm_shelf.specs.Asked.{Asked, ReadManifest}
 use Rattle.lsm_shelf.specs.declared.shelf_fault.ShelfFault.{ShelfFault}
 use Rattle.lsm_shelf.specs.Told.{Place, Told, Becomes, CountedBy, Forked, NotNamed, NotTaken}
@@ -14,29 +12,24 @@ use Rattle.lsm_shelf.specs.Told.{finding, fresh}
 use Rattle.lsm_model.specs.Files.{all_entries}
 use Rattle.lsm_version.specs.Versions.{files}
 use Rattle.lsm_slots.specs.Slots.{current_id}
-use Rattle.lsm_state.specs.Asked.{CollectRefused, OnShelf}
-use Rattle.lsm_state.specs.Collecting.{AreCollected, IsCollectRefusal, IsCountedOnce, SameCounts}
-use Rattle.lsm_state.specs.Held.{Held, IsLawfulState}
-use Rattle.lsm_state.specs.Opening.{IsOpenRefusal, IsReadOnce}
-use Rattle.lsm_journal.specs.declared.open_fault.OpenFault.{OpenFault}
+use Rattle.lsm_state.specs.Collecting.{SameCounts}
+use Rattle.lsm_state.specs.Held.{Held}
 use Rattle.lsm_state.specs.declared.state_fault.StateFault.{StateFault}
 use Rattle.lsm_store.specs.Compacting.{IsLeftByWorkers}
 use Rattle.lsm_store.specs.Workers.{IsWorkersEnd}
 use Rattle.lsm_store.specs.Working.{AreReturned}
 use Rattle.lsm_store.specs.declared.worker_end.WorkerEnd.{WorkerEnd}
 use Rattle.lsm_store.specs.declared.worker_fault.WorkerFault.{WorkerFault}
-use Rattle.lsm_directory.specs.Holding.{IsUnheld}
-use Rattle.lsm_directory.specs.declared.faults.directory_fault.DirectoryFault.{DirectoryFault}
-use Rattle.lsm_cmd_write.specs.Starting.{IsReopened, usual}
-use Rattle.lsm_cmd_write.specs.WriterFault.{of_open, of_shelf}
-use Rattle.lsm_cmd_write.specs.declared.faults.writer_fault.WriterFault.TheVariants.{OutOfMemory, Write as WriteFault, Directory, State}
-use Rattle.lsm_cmd_compact.specs.declared.compact_fault.CompactFault.{CompactFault}
-use Rattle.lsm_cmd_compact.specs.declared.compact_fault.CompactFault.TheVariants.{Writer, Worker}
-use Rattle.lsm_cmd_compact.specs.declared.compact_fault.CompactFault.TheVariants.{OtherManifest}
-
--- `installed M`
-abbrev pub installed_text : ℕ → List ℕ
-installed_text installed = codes "installed " ++ (decimal installed ++ (10 ∷ []))
+use Rattle.lsm_opening.specs.Compactions.{IsSwept, Refuses, installed_text}
+use Rattle.lsm_opening.specs.Starting.{IsOpeningRefusal, Opens}
+use Rattle.lsm_opening.specs.WriterFault.{of_shelf}
+use Rattle.lsm_opening.specs.declared.faults.writer_fault.WriterFault.{WriterFault}
+use Rattle.lsm_opening.specs.declared.faults.writer_fault.WriterFault.TheVariants.{OutOfMemory}
+use Rattle.lsm_opening.specs.declared.faults.writer_fault.WriterFault.TheVariants.{State}
+use Rattle.lsm_opening.specs.declared.faults.writer_fault.WriterFault.TheVariants.{Write as WriteFault}
+use Rattle.lsm_opening.specs.declared.faults.compact_fault.CompactFault.{CompactFault}
+use Rattle.lsm_opening.specs.declared.faults.compact_fault.CompactFault.TheVariants.{Writer, Worker}
+use Rattle.lsm_opening.specs.declared.faults.compact_fault.CompactFault.TheVariants.{OtherManifest}
 
 -- ---- workers
 
@@ -92,7 +85,7 @@ pub record LeavesAll (Honest : Type 0) (found left : Held) : Type 0 where
 pub record IsOpened (Honest : Type 0) (board : TableId) (found : Held) (was is : Told)
     : Type 0 where
   pub mid : Told
-  pub opened : IsReopened Honest found was mid
+  pub opened : Opens Honest found was mid
   pub on : found.slots.board.board ≡ board
   pub forked : Forked mid is
 
@@ -100,16 +93,6 @@ pub record IsOpened (Honest : Type 0) (board : TableId) (found : Held) (was is :
 -- version.
 pub record IsNamed (left : Held) (was is : Told) : Type 0 where
   pub told : Becomes (finding left.journal.number left.journal.bytes was) is
-  pub counts : SameCounts was is
-
--- The tables that are listed and that this state does not keep were removed. It is a lawful one,
--- which has this board, and may write.
-pub record IsSwept (Honest : Type 0) (board : TableId) (left : Held) (was is : Told) : Type 0 where
-  pub lawful : IsLawfulState Honest board left
-  pub on : left.slots.board.board ≡ board
-  pub running : left.halted ≡ false
-  pub removed : List ℕ
-  pub collected : AreCollected left removed was is
   pub counts : SameCounts was is
 
 -- The directory was opened, and no worker ended with a fault. The state left has the board of the
@@ -140,11 +123,6 @@ IsCompacted Refused Honest workers was is old new =
 
 -- ---- refusals
 
--- The lock was asked for, and not held: another has it, or the folder refused.
-abbrev pub NoLock : List Call → CompactFault → Type 0
-NoLock calls e = (fault : DirectoryFault) × (after : List Call) × (e ≡ Writer (Directory fault))
-    × IsUnheld Exclusive fault calls after
-
 -- Memory ran out before the shelf was asked for anything.
 abbrev pub IsOutOfMemory : CompactFault → Told → Told → Type 0
 IsOutOfMemory e was is = (e ≡ Writer OutOfMemory) × (is ≡ was)
@@ -152,9 +130,8 @@ IsOutOfMemory e was is = (e ≡ Writer OutOfMemory) × (is ≡ was)
 -- The directory was not opened.
 abbrev pub IsUnopened : (ℕ → List ℕ → Type 0) → (Asked → ShelfFault → Type 0) → Type 0
     → CompactFault → Told → Told → Type 0
-IsUnopened Stored Refused Honest e was is = (fault : OpenFault) × (e ≡ Writer (of_open fault))
-    × IsOpenRefusal Stored Refused Honest usual.manifest_limit fault was is
-    × IsReadOnce fault was is
+IsUnopened Stored Refused Honest e was is = (fault : WriterFault) × (e ≡ Writer fault)
+    × IsOpeningRefusal Stored Refused Honest fault was is
 
 -- Memory ran out before a worker began, or a shelf failed to fork.
 abbrev pub IsOfManning : CompactFault → Type 0
@@ -207,20 +184,6 @@ abbrev pub IsUnnamed : (Asked → ShelfFault → Type 0) → Held → CompactFau
 IsUnnamed Refused left e was is =
     ((fault : ShelfFault) × (e ≡ Writer (of_shelf fault)) × IsUnread Refused fault was is)
     ⊎ ((e ≡ OtherManifest) × IsOther left was is)
-
--- This lawful state with this board refused to collect; its refusal says what was removed until
--- then. Where it was the shelf, other than for want of memory, it refused to list its tables, or to
--- remove one that is not kept.
-pub record Refuses (Refused : Asked → ShelfFault
-    → Type 0) (Honest : Type 0) (board : TableId) (left : Held) (fault : StateFault) (was is
-    : Told) : Type 0 where
-  pub before : Held
-  pub lawful : IsLawfulState Honest board left
-  pub on : left.slots.board.board ≡ board
-  pub removed : List ℕ
-  pub refused : IsCollectRefusal before left fault removed was is
-  pub counts : IsCountedOnce fault was is
-  pub asked : OnShelf (CollectRefused Refused left) fault
 
 -- Why this state does not sweep: its manifest was not found; or it was, and the collect was
 -- refused.

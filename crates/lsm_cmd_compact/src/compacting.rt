@@ -1,11 +1,9 @@
 //! A directory is compacted.
 
-pub(crate) mod compaction;
+pub(crate) mod finding;
 pub(crate) mod job_teller;
-pub(crate) mod opening;
 pub(crate) mod program;
 pub(crate) mod progress;
-pub(crate) mod sweeping;
 pub(crate) mod tally;
 
 ghost use Rattle.std.specs.Prelude.{◌≡◌, ◌≢◌, ◌⊎◌, All, IfErr, IfOk, IsFalse, OnOk, replicate};
@@ -16,27 +14,23 @@ ghost use Rattle.lsm_shelf.specs.Told.{Forked, fresh};
 ghost use Rattle.lsm_shelf.specs.declared.shelf_fault.ShelfFault.TheVariants.{OutOfMemory};
 ghost use Rattle.lsm_slots.specs.Slots.{Looked};
 ghost use Rattle.lsm_state.specs.Held.{Held};
-ghost use Rattle.lsm_state.specs.Making.{IsNewBoard, IsNewHistory};
 ghost use Rattle.lsm_store.specs.Compacting.{IsKeptByCompaction, IsSeated};
 ghost use Rattle.lsm_store.specs.Readers.{SeatsPinners};
 ghost use Rattle.lsm_store.specs.Workers.{IsWorkersEnd};
 ghost use Rattle.lsm_store.specs.Working.{AreReturned};
-ghost use Rattle.lsm_cmd_write.specs.WriterFault.{of_shelf};
-ghost use Rattle.lsm_cmd_write.specs.Starting.{usual};
-ghost use Rattle.lsm_cmd_write.specs.declared.faults.writer_fault.WriterFault.TheVariants.{Write as WriteFault};
+ghost use Rattle.lsm_opening.specs.WriterFault.{of_shelf};
+ghost use Rattle.lsm_opening.specs.Parts.{AreOf, usual};
+ghost use Rattle.lsm_opening.specs.declared.faults.writer_fault.WriterFault.TheVariants.{Write as WriteFault};
 ghost use Rattle.lsm_cmd_compact.specs.Compacting.{AreEnds, AreFaultless, IsCompactFault, IsCompacted};
-ghost use Rattle.lsm_cmd_compact.specs.Compacting.{IsOfManning, IsSwept, IsWorkersFault, Refuses};
-ghost use Rattle.lsm_cmd_compact.specs.Compacting.{installed_text};
-ghost use Rattle.lsm_cmd_compact.specs.declared.compact_fault.CompactFault.TheVariants.{Writer as WriterVariant};
+ghost use Rattle.lsm_cmd_compact.specs.Compacting.{IsOfManning, IsWorkersFault};
+ghost use Rattle.lsm_opening.specs.Compactions.{IsSwept, Refuses, installed_text};
+ghost use Rattle.lsm_opening.specs.declared.faults.compact_fault.CompactFault.TheVariants.{Writer as WriterVariant};
 
-use crate::compact_fault::CompactFault;
-use crate::compacting::compaction::Compaction;
+use crate::compacting::finding::find_manifest;
 use crate::compacting::job_teller::JobTeller;
-use crate::compacting::opening::open;
 use crate::compacting::progress::{tell_installed, tell_opened, tell_removed};
-use crate::compacting::sweeping::{find_manifest, sweep};
 use crate::compacting::tally::judge;
-use lsm_cmd_write::{NewParts, WriterFault};
+use lsm_opening::{CompactFault, Crew, NewParts, WriterFault, open, sweep};
 use lsm_requests::CompactOptions;
 use lsm_slots::Boarded;
 use lsm_state::{State, StateFault};
@@ -123,11 +117,15 @@ fn compact_state<N: Boarded, S: Shelf, K: Invariant, R: Threads + Wait + Sync, E
     ensures told { Forked shelf.old shelf.new }
     ensures quiet { IsFalse options.progress → Keeps (E.contents err.old) (E.contents err.new) }
 {
-    let made: Compaction<N, S, K> = match Compaction::new(alloc, state, shelf, options.workers) {
-        Ok(compaction) => compaction,
-        Err(fault) => return Err(CompactFault::of_shelf(fault)),
+    let made: Crew<N, S, K> = match Crew::new(alloc, state, shelf, options.workers) {
+        Ok(crew) => crew,
+        Err((_state, fault)) => return Err(CompactFault::of_shelf(fault)),
     };
-    let Compaction { store, shelves } = made;
+    let Crew {
+        store,
+        shelves,
+        own: _,
+    } = made;
     let returned = work(rt, alloc, &store, shelves, options, err)?;
     Ok((store.into_state(), returned))
 }
@@ -176,11 +174,8 @@ fn compact_named<N: Boarded, S: Shelf, R: Threads + Wait + Sync, O: Write, E: Wr
     out: &mut O,
     err: &mut E,
 ) -> Result<(), CompactFault>
-    requires records { parts.records ≡ N.registry }
+    requires parts { AreOf usual N.registry N.board N.history parts }
     requires shelf { shelf.old.place ≡ N.place }
-    requires board { IsNewBoard N.board usual parts.publisher parts.pinners.items }
-    requires seats { vec_len parts.pinners ≡ usual.readers }
-    requires history { IsNewHistory N.history parts.history }
     ensures done { OnOk result (IsCompacted (S.refuses N.place) S.honest options.workers shelf.old
         shelf.new (O.contents out.old) (O.contents out.new)) }
     ensures fault { IfErr result (λ e.
@@ -190,7 +185,6 @@ fn compact_named<N: Boarded, S: Shelf, R: Threads + Wait + Sync, O: Write, E: Wr
         → Keeps (O.contents out.old) (O.contents out.new)) }
     ensures quiet { IsFalse options.progress → Keeps (E.contents err.old) (E.contents err.new) }
 {
-    let parts = parts.named(alloc)?;
     let state = open(rt, alloc, shelf, parts)?;
     tell_opened(&state, options.progress, err);
     what_was_found_is_kept::<State<N, S>>();
@@ -218,11 +212,8 @@ fn compact_as<N: Boarded, S: Shelf, R: Threads + Wait + Sync, O: Write, E: Write
     out: &mut O,
     err: &mut E,
 ) -> (Result<(), CompactFault>, S)
-    requires records { parts.records ≡ N.registry }
+    requires parts { AreOf usual N.registry N.board N.history parts }
     requires shelf { (S.told shelf).place ≡ N.place }
-    requires board { IsNewBoard N.board usual parts.publisher parts.pinners.items }
-    requires seats { vec_len parts.pinners ≡ usual.readers }
-    requires history { IsNewHistory N.history parts.history }
     ensures done { OnOk result.0 (IsCompacted (S.refuses N.place) S.honest options.workers
         (S.told shelf) (S.told result.1) (O.contents out.old) (O.contents out.new)) }
     ensures fault { IfErr result.0 (λ e.

@@ -1,3 +1,2 @@
-mod SweepLaws
 mod LoadedLaws
 mod RunLaws

@@ -13,11 +13,11 @@ use Rattle.lsm_requests.specs.declared.load_options.LoadOptions.{LoadOptions}
 use Rattle.lsm_directory.specs.declared.folder.folder_file.FolderFile.{FolderFile}
 use Rattle.lsm_lines.specs.Gathering.{Pending}
 use Rattle.lsm_lines.specs.Passing.{PassesLines}
-use Rattle.lsm_cmd_compact.specs.Compacting.{IsSwept, Refuses}
-use Rattle.lsm_cmd_write.specs.Starting.{IsStartRefusal, IsStarted}
-use Rattle.lsm_cmd_write.specs.declared.faults.writer_fault.WriterFault.TheVariants.{OutOfMemory}
-use Rattle.lsm_cmd_write.specs.declared.faults.writer_fault.WriterFault.TheVariants.{Read}
-use Rattle.lsm_cmd_write.specs.declared.ingesting.start.Start.{Start}
+use Rattle.lsm_opening.specs.Compactions.{IsSwept, Refuses}
+use Rattle.lsm_opening.specs.Starting.{IsStartRefusal, IsStarted}
+use Rattle.lsm_opening.specs.declared.faults.writer_fault.WriterFault.TheVariants.{OutOfMemory}
+use Rattle.lsm_opening.specs.declared.faults.writer_fault.WriterFault.TheVariants.{Read}
+use Rattle.lsm_opening.specs.declared.prepared.Start.{Start}
 use Rattle.lsm_bulk_load.specs.Ending.{IsIdle}
 use Rattle.lsm_bulk_load.specs.Loading.{IsLoaded, IsUnloaded}
 use Rattle.lsm_bulk_load.specs.Marks.{marked_in}

@@ -4,14 +4,13 @@ ghost use Rattle.std.specs.Prelude.{◌≡◌, ◌≢◌, IsFalse, OnErr, OnOk};
 ghost use Rattle.std.specs.Io.KnownBytes.{Keeps};
 ghost use Rattle.lsm_cmd_compact.specs.Compacting.{IsCompacted, IsNotCompacted};
 ghost use Rattle.lsm_cmd_compact.specs.Compacted.{IsCompactedAt, IsUncompacted};
-ghost use Rattle.lsm_cmd_compact.specs.declared.compact_fault.CompactFault.{CompactFault};
+ghost use Rattle.lsm_opening.specs.declared.faults.compact_fault.CompactFault.{CompactFault};
 ghost use Rattle.lsm_shelf.specs.Stored.{Stored};
 
-use crate::compact_fault::CompactFault;
 use crate::compacting::compact_to;
-use crate::compacting::opening::held_shelf;
 use lsm_directory::{Known, Paths, open_at, refuse, status_of};
 use lsm_folder::{FolderCalls, Reasons};
+use lsm_opening::{CompactFault, held_shelf};
 use lsm_requests::{CompactLine, CompactOptions};
 use lsm_table::Shelf;
 use std::alloc::Global;

@@ -1,6 +1,6 @@
 use Rattle.std.proofs.Common.{inl, subst}
 use Rattle.lsm_requests.specs.declared.ingest_options.IngestOptions.{IngestOptions}
-use Rattle.lsm_cmd_write.specs.Preparing.{IsUnprepared}
+use Rattle.lsm_opening.specs.Preparing.{IsUnprepared}
 use Rattle.lsm_channels.proofs.program.serve_folder.Goals as goal
 
 pub returns-in-Err-clause-refused : goal.returns-in-Err-clause-refused

@@ -6,7 +6,8 @@ use Rattle.lsm_shelf.specs.Told.{Place}
 use Rattle.lsm_slots.specs.Slots.{current_id}
 use Rattle.lsm_state.specs.Held.{Held}
 use Rattle.lsm_store.specs.Compacting.{IsLeftByWorkers}
-use Rattle.lsm_cmd_compact.specs.Compacting.{AreEnds, IsNamed, IsOfManning, IsOpened, IsWorkersFault, installed_between, installed_text}
+use Rattle.lsm_cmd_compact.specs.Compacting.{AreEnds, IsNamed, IsOfManning, IsOpened, IsWorkersFault, installed_between}
+use Rattle.lsm_opening.specs.Compactions.{installed_text}
 use Rattle.lsm_cmd_compact.proofs.CompactOutcomes.{compacts, named_still, opens, unfinished, unswept}
 use Rattle.lsm_cmd_compact.proofs.Quiet.{quiet_then}
 use Rattle.lsm_cmd_compact.proofs.compacting.compact_named.Goals as goal
