@@ -22,6 +22,7 @@ mod background;
 mod background_workers;
 mod bell;
 mod gate;
+mod picks;
 mod worker;
 mod worker_end;
 mod worker_fault;

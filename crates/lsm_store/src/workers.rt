@@ -11,6 +11,7 @@ use crate::drawing::draw_for_all;
 use crate::gate::Gate;
 use crate::invariant::Invariant;
 use crate::number_service::NumberService;
+use crate::picks::Picks;
 use crate::store::Store;
 use crate::worker::work;
 use crate::worker_end::WorkerEnd;
@@ -34,6 +35,7 @@ fn start<'s, 'e, N: Boarded, S: Shelf, K: Invariant, G: Gate + Sync, R: Threads 
     shelf: NamedShelf<N, S>,
     gate: &'e G,
     worker: usize,
+    picks: &'e Picks,
 ) -> Thread<N, S, K>
     requires kept { IsKeptByCompaction S.honest K.keeps }
     ensures given { result.given.value ≡ shelf }
@@ -48,7 +50,9 @@ fn start<'s, 'e, N: Boarded, S: Shelf, K: Invariant, G: Gate + Sync, R: Threads 
             ensures worked { IsWorked S.honest (S.refuses N.place) K.keeps shelf result.0 result.1 }
         {
             let mut shelf = shelf;
-            let end = work(rt, alloc, store, service, bell, &mut shelf, gate, worker);
+            let end = work(
+                rt, alloc, store, service, bell, &mut shelf, gate, worker, picks,
+            );
             service.leave(rt);
             bell.leave(rt);
             (end, shelf)
@@ -82,6 +86,7 @@ pub(crate) fn start_all<
     bell: &'e Bell,
     shelves: Vec<NamedShelf<N, S>>,
     gate: &'e G,
+    picks: &'e Picks,
     threads: Vec<Thread<N, S, K>>,
 ) -> Vec<Thread<N, S, K>>
     requires kept { IsKeptByCompaction S.honest K.keeps }
@@ -94,7 +99,9 @@ pub(crate) fn start_all<
     let mut threads = threads;
     while let Some(shelf) = shelves.pop() {
         let worker = shelves.len();
-        let thread = start(scope, rt, alloc, store, service, bell, shelf, gate, worker);
+        let thread = start(
+            scope, rt, alloc, store, service, bell, shelf, gate, worker, picks,
+        );
         let Ok(()) = threads.push(thread) else {
             unreachable!()
         };
@@ -146,8 +153,8 @@ pub(crate) fn ends_of<N: Boarded, S: Shelf>(
     ends
 }
 
-/// Runs a worker for each shelf, and draws numbers for them; there is room for threads and for what
-/// comes back.
+/// Runs a worker for each shelf, which takes what is chosen, and draws numbers for them; there is
+/// room for threads and for what comes back.
 fn run_all<N: Boarded, S: Shelf, K: Invariant, G: Gate + Sync, R: Threads + Wait + Sync>(
     rt: &R,
     alloc: Global,
@@ -169,6 +176,8 @@ fn run_all<N: Boarded, S: Shelf, K: Invariant, G: Gate + Sync, R: Threads + Wait
     let service = &service;
     let bell = Bell::closing_when_idle(shelves.len());
     let bell = &bell;
+    let picks = Picks::Choice;
+    let picks = &picks;
     thread::scope(
         thread::scope_env(),
         rt,
@@ -183,7 +192,7 @@ fn run_all<N: Boarded, S: Shelf, K: Invariant, G: Gate + Sync, R: Threads + Wait
             ensures len { vec_len result ≡ vec_len shelves }
         {
             let threads = start_all(
-                scope, rt, alloc, store, service, bell, shelves, gate, threads,
+                scope, rt, alloc, store, service, bell, shelves, gate, picks, threads,
             );
             draw_for_all(rt, store, service);
             join_all(rt, threads, returned)
@@ -191,10 +200,11 @@ fn run_all<N: Boarded, S: Shelf, K: Invariant, G: Gate + Sync, R: Threads + Wait
     )
 }
 
-/// Compacts with one worker for each shelf, each in a thread of its own, until none of them finds
-/// anything left to reserve; answers what each has done, with its shelf, in the order of the
-/// shelves. These are forks of the store's, of any number; 1 to 8 are meant. The caller holds no
-/// guard of the store: this thread draws under the lock, and would wait for itself.
+/// Compacts with one worker for each shelf, each in a thread of its own, as the state chooses
+/// (`State::reserve`), until none of them finds anything left to reserve; answers what each has
+/// done, with its shelf, in the order of the shelves. These are forks of the store's, of any number;
+/// 1 to 8 are meant. The caller holds no guard of the store: this thread draws under the lock, and
+/// would wait for itself.
 ///
 /// A worker reserves under the lock, merges outside it, and installs under it. The numbers of its
 /// outputs are drawn under the lock too, by this thread. At a fault it cancels its ticket and ends,
