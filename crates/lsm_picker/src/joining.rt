@@ -229,14 +229,14 @@ fn next_beyond<'a, N: Naming, S: Shelf>(
 }
 
 /// The first file of a level that meets a range.
-fn first_over<'a, N: Naming, S: Shelf>(
+pub(crate) fn first_over<'a, N: Naming, S: Shelf>(
     registry: &Registry<N, S>,
     version: &'a Version<N, S>,
     level: u8,
     from: &[u8],
     to: &[u8],
 ) -> Option<&'a TableRef<N, S>>
-    requires level { level ≤ 5 }
+    requires level { level ≤ 6 }
     ensures { MatchOption result (first_over version.now level from.now to.now ≡ None) (λ t.
         first_over version.now level from.now to.now ≡ Some t.now) }
 {

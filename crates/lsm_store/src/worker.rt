@@ -29,7 +29,7 @@ use std::sync::{Arc, Wait};
 fn next_job<N: Boarded, S: Shelf>(
     state: &mut State<N, S>,
     alloc: Global,
-    picks: &Picks,
+    picks: &Picks<'_>,
 ) -> Result<Option<Job<N, S>>, StateFault>
     ensures next { S.honest → IfOk result (λ r. IsPicked picks state.old r) }
     ensures booked { IfOk result (λ r. IsBooked r state.old state.new) }
@@ -39,6 +39,7 @@ fn next_job<N: Boarded, S: Shelf>(
     let next = match picks {
         Picks::Choice => state.reserve(alloc),
         Picks::Joining => state.reserve_next(alloc),
+        Picks::Manual(manual) => manual.reserve(state, alloc),
     };
     match next {
         Ok(Some(job)) => Ok(Some(job)),
@@ -52,7 +53,7 @@ fn reserve<N: Boarded, S: Shelf, K: Invariant, R: Wait>(
     rt: &R,
     alloc: Global,
     store: &Store<N, S, K>,
-    picks: &Picks,
+    picks: &Picks<'_>,
 ) -> Result<Option<Job<N, S>>, StateFault>
     requires kept { IsKeptByCompaction S.honest K.keeps }
     ensures next { S.honest → IfOk result (IsPickedUnder K.keeps picks) }
@@ -158,7 +159,7 @@ fn turn<N: Boarded, S: Shelf, K: Invariant, G: Gate, R: Wait>(
     shelf: &mut NamedShelf<N, S>,
     gate: &G,
     worker: usize,
-    picks: &Picks,
+    picks: &Picks<'_>,
 ) -> Result<bool, WorkerFault>
     requires kept { IsKeptByCompaction S.honest K.keeps }
     ensures refused { IfErr result (IsOfTurn S.honest) }
@@ -202,7 +203,7 @@ pub(crate) fn work<N: Boarded, S: Shelf, K: Invariant, G: Gate, R: Wait>(
     shelf: &mut NamedShelf<N, S>,
     gate: &G,
     worker: usize,
-    picks: &Picks,
+    picks: &Picks<'_>,
 ) -> WorkerEnd
     requires kept { IsKeptByCompaction S.honest K.keeps }
     ensures end { IsWorkersEnd S.honest result }

@@ -10,6 +10,7 @@ use crate::bell::Bell;
 use crate::drawing::draw_for_all;
 use crate::gate::Gate;
 use crate::invariant::Invariant;
+use crate::manual_compaction::ManualCompaction;
 use crate::number_service::NumberService;
 use crate::picks::Picks;
 use crate::store::Store;
@@ -35,7 +36,7 @@ fn start<'s, 'e, N: Boarded, S: Shelf, K: Invariant, G: Gate + Sync, R: Threads 
     shelf: NamedShelf<N, S>,
     gate: &'e G,
     worker: usize,
-    picks: &'e Picks,
+    picks: &'e Picks<'e>,
 ) -> Thread<N, S, K>
     requires kept { IsKeptByCompaction S.honest K.keeps }
     ensures given { result.given.value ≡ shelf }
@@ -86,7 +87,7 @@ pub(crate) fn start_all<
     bell: &'e Bell,
     shelves: Vec<NamedShelf<N, S>>,
     gate: &'e G,
-    picks: &'e Picks,
+    picks: &'e Picks<'e>,
     threads: Vec<Thread<N, S, K>>,
 ) -> Vec<Thread<N, S, K>>
     requires kept { IsKeptByCompaction S.honest K.keeps }
@@ -153,14 +154,15 @@ pub(crate) fn ends_of<N: Boarded, S: Shelf>(
     ends
 }
 
-/// Runs a worker for each shelf, which takes what is chosen, and draws numbers for them; there is
-/// room for threads and for what comes back.
+/// Runs a worker for each shelf, and draws numbers for them; there is room for threads and for what
+/// comes back.
 fn run_all<N: Boarded, S: Shelf, K: Invariant, G: Gate + Sync, R: Threads + Wait + Sync>(
     rt: &R,
     alloc: Global,
     store: &Store<N, S, K>,
     shelves: Vec<NamedShelf<N, S>>,
     gate: &G,
+    picks: &Picks<'_>,
     threads: Vec<Thread<N, S, K>>,
     returned: Vec<Returned<N, S>>,
 ) -> Vec<Returned<N, S>>
@@ -176,8 +178,6 @@ fn run_all<N: Boarded, S: Shelf, K: Invariant, G: Gate + Sync, R: Threads + Wait
     let service = &service;
     let bell = Bell::closing_when_idle(shelves.len());
     let bell = &bell;
-    let picks = Picks::Choice;
-    let picks = &picks;
     thread::scope(
         thread::scope_env(),
         rt,
@@ -198,6 +198,34 @@ fn run_all<N: Boarded, S: Shelf, K: Invariant, G: Gate + Sync, R: Threads + Wait
             join_all(rt, threads, returned)
         },
     )
+}
+
+/// A worker for each shelf, which takes what is picked, until none of them finds anything left to
+/// reserve. Where there is no memory for the answer nothing is done, and the shelves come back.
+fn run_picking<N: Boarded, S: Shelf, K: Invariant, G: Gate + Sync, R: Threads + Wait + Sync>(
+    rt: &R,
+    alloc: Global,
+    store: &Store<N, S, K>,
+    shelves: Vec<NamedShelf<N, S>>,
+    gate: &G,
+    picks: &Picks<'_>,
+) -> Result<Vec<Returned<N, S>>, AllocFailed<Vec<NamedShelf<N, S>>>>
+    requires kept { IsKeptByCompaction S.honest K.keeps }
+    ensures len { IfOk result (λ v. vec_len v ≡ vec_len shelves) }
+    ensures ends { IfOk result (λ v. All (λ r. IsWorkersEnd S.honest r.0) v.items) }
+    ensures returned { IfOk result (λ v.
+        AreReturned S.honest (S.refuses N.place) K.keeps shelves.items v.items) }
+    ensures back { IfErr result (λ e. e.value ≡ shelves) }
+{
+    let Ok(returned) = Vec::with_capacity(alloc, shelves.len()) else {
+        return Err(AllocFailed { value: shelves });
+    };
+    let Ok(threads) = Vec::with_capacity(alloc, shelves.len()) else {
+        return Err(AllocFailed { value: shelves });
+    };
+    Ok(run_all(
+        rt, alloc, store, shelves, gate, picks, threads, returned,
+    ))
 }
 
 /// Compacts with one worker for each shelf, each in a thread of its own, as the state chooses
@@ -235,13 +263,35 @@ pub fn run_workers_returning<
         AreReturned S.honest (S.refuses N.place) K.keeps shelves.items v.items) }
     ensures back { IfErr result (λ e. e.value ≡ shelves) }
 {
-    let Ok(returned) = Vec::with_capacity(alloc, shelves.len()) else {
-        return Err(AllocFailed { value: shelves });
-    };
-    let Ok(threads) = Vec::with_capacity(alloc, shelves.len()) else {
-        return Err(AllocFailed { value: shelves });
-    };
-    Ok(run_all(rt, alloc, store, shelves, gate, threads, returned))
+    run_picking(rt, alloc, store, shelves, gate, &Picks::Choice)
+}
+
+/// As `run_workers_returning`, but the workers compact a range of keys, level by level, and nothing
+/// else: until none of them finds files that meet the range at its levels, or all that it finds wait
+/// for a live job. It writes anew also what is not due; so deletions with nothing below them go, but
+/// where a snapshot needs them.
+pub fn run_workers_over<
+    N: Boarded,
+    S: Shelf,
+    K: Invariant,
+    G: Gate + Sync,
+    R: Threads + Wait + Sync,
+>(
+    rt: &R,
+    alloc: Global,
+    store: &Store<N, S, K>,
+    shelves: Vec<NamedShelf<N, S>>,
+    gate: &G,
+    manual: &ManualCompaction,
+) -> Result<Vec<Returned<N, S>>, AllocFailed<Vec<NamedShelf<N, S>>>>
+    requires kept { IsKeptByCompaction S.honest K.keeps }
+    ensures len { IfOk result (λ v. vec_len v ≡ vec_len shelves) }
+    ensures ends { IfOk result (λ v. All (λ r. IsWorkersEnd S.honest r.0) v.items) }
+    ensures returned { IfOk result (λ v.
+        AreReturned S.honest (S.refuses N.place) K.keeps shelves.items v.items) }
+    ensures back { IfErr result (λ e. e.value ≡ shelves) }
+{
+    run_picking(rt, alloc, store, shelves, gate, &Picks::Manual(manual))
 }
 
 /// As `run_workers_returning`, and the shelves are let go.
