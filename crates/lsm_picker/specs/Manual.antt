@@ -1,5 +1,5 @@
 -- What a compaction of a range of keys has to clear (LevelDB's `CompactRange`).
-use Rattle.std.specs.Prelude.{◌≡◌, ℕ, ◌<◌, ◌≤◌, ⊥, min, [], Option, Some, None}
+use Rattle.std.specs.Prelude.{◌≡◌, ℕ, ◌<◌, ◌≤◌, ◌⊎◌, ⊥, min, [], Option, Some, None}
 use Rattle.lsm_codec.specs.Keys.{UserKey, UserLe}
 use Rattle.lsm_codec.specs.Lists.{Has}
 use Rattle.lsm_table.specs.Registry.{Table}
@@ -32,15 +32,12 @@ pub record IsDeepest (v : Levels) (from to : UserKey) (level : ℕ) : Type 0 whe
   pub below : (n : ℕ) → level < n → n ≤ 6 → first_over v n from to ≡ None
 
 -- The range from one key to another, and the deepest level of which a file meets it: level 5 where
--- level 6 is that, for nothing is compacted from there.
+-- level 6 is that, for nothing is compacted from there; level 0 where no file meets it.
 pub record IsToClear (v : Levels) (from to : Option UserKey) (s : Span) : Type 0 where
   pub from_is : s.from ≡ first_key from
   pub to_is : IsEnd v to s.to
-  pub deepest : (level : ℕ) × IsDeepest v s.from s.to level × (s.level ≡ min level 5)
-
--- no file meets the range from one key to another
-abbrev pub HasNoneToClear : Levels → Option UserKey → Option UserKey → Type 0
-HasNoneToClear v from to = (end : UserKey) × IsEnd v to end × IsUnmet v (first_key from) end
+  pub deepest : (IsUnmet v s.from s.to × (s.level ≡ 0))
+      ⊎ ((level : ℕ) × IsDeepest v s.from s.to level × (s.level ≡ min level 5))
 
 -- no file of the level, or of one above it, meets the range
 abbrev pub IsCleared : Levels → Span → Type 0

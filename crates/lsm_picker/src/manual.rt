@@ -1,22 +1,22 @@
 //! What a compaction of a range of keys has to clear (LevelDB's `CompactRange`).
 
 ghost use Rattle.std.specs.Prelude.{◌≡◌, ◌≤◌, ◌↔◌, IsTrue, MatchOption};
-ghost use Rattle.std.specs.Option.{option_map};
-ghost use Rattle.lsm_picker.specs.Manual.{HasNoneToClear, IsCleared, IsDeepest, IsLastKey, IsToClear};
+ghost use Rattle.lsm_picker.specs.Manual.{IsCleared, IsDeepest, IsLastKey, IsToClear};
 ghost use Rattle.lsm_picker.specs.Manual.{IsUnmet, first_key};
 
 use crate::joining::first_over;
 use crate::span::Span;
 use crate::table_range::highest;
+use lsm_codec::Bytes;
 use lsm_table::{Naming, Registry, Shelf};
 use lsm_version::Version;
 
 /// The key; where there is none, the least one.
-fn first_key(from: Option<&[u8]>) -> &[u8]
-    ensures { result.now ≡ first_key (option_map (λ k. k.now) from.entry) }
+fn first_key(from: &Option<Bytes>) -> &[u8]
+    ensures { result.now ≡ first_key from.now }
 {
     match from {
-        Some(key) => key,
+        Some(key) => key.as_slice(),
         None => &[],
     }
 }
@@ -56,30 +56,25 @@ fn deepest<N: Naming, S: Shelf>(
 
 /// What a compaction of the user keys from `from` to `to` has to clear, both included, where none
 /// is no bound: the deepest level of which a file meets that range, and so each level above it. Of
-/// level 6 nothing is compacted, so it is level 5 there. None where no file meets the range.
+/// level 6 nothing is compacted, so it is level 5 there; and level 0 where no file meets the range.
 pub fn span_to_clear<'a, N: Naming, S: Shelf>(
     registry: &'a Registry<N, S>,
     version: &Version<N, S>,
-    from: Option<&'a [u8]>,
-    to: Option<&'a [u8]>,
-) -> Option<Span<'a>>
-    ensures { MatchOption result
-        (HasNoneToClear version.now (option_map (λ k. k.now) from.entry)
-        (option_map (λ k. k.now) to.entry))
-        (λ s. IsToClear version.now (option_map (λ k. k.now) from.entry)
-        (option_map (λ k. k.now) to.entry) s) }
+    from: &'a Option<Bytes>,
+    to: &'a Option<Bytes>,
+) -> Span<'a>
+    ensures { IsToClear version.now from.now to.now result }
 {
     let from = first_key(from);
     let to = match to {
-        Some(key) => key,
+        Some(key) => key.as_slice(),
         None => last_key(registry, version),
     };
-    let level = deepest(registry, version, from, to)?;
-    Some(Span {
-        level: level.min(5),
-        from,
-        to,
-    })
+    let level = match deepest(registry, version, from, to) {
+        Some(level) => level.min(5),
+        None => 0,
+    };
+    Span { level, from, to }
 }
 
 /// Whether no file meets a range at these levels, from 0 to the last one.

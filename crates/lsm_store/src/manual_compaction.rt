@@ -1,8 +1,7 @@
 //! Compactions of a range of keys (LevelDB's `CompactRange`).
 
-ghost use Rattle.std.specs.Prelude.{◌≡◌, IfErr, IfOk, IfSome, IsTrue, MatchOption, OnErr};
-ghost use Rattle.std.specs.Option.{option_map};
-ghost use Rattle.lsm_picker.specs.Manual.{HasNoneToClear, IsCleared, IsToClear};
+ghost use Rattle.std.specs.Prelude.{◌≡◌, IfErr, IfOk, IfSome, IsTrue, OnErr};
+ghost use Rattle.lsm_picker.specs.Manual.{IsCleared, IsToClear};
 ghost use Rattle.lsm_state.specs.Reserving.{IsReserving};
 ghost use Rattle.lsm_store.specs.Picking.{IsBooked, IsManual};
 ghost use Rattle.lsm_store.specs.Workers.{IsOfReserving};
@@ -45,29 +44,23 @@ fn owned(alloc: Global, key: &[u8]) -> Result<Bytes, AllocError>
 
 impl ManualCompaction {
     /// That of the keys from `from` to `to` over the files of a state, where none is no bound. Its
-    /// last level is the deepest one of which a file meets the range (5 where that is level 6). None
-    /// where no file meets the range. `AllocError` where a growth was refused.
+    /// last level is the deepest one of which a file meets the range (5 where that is level 6).
+    /// `AllocError` where a growth was refused.
     pub fn of<N: Boarded, S: Shelf>(
         alloc: Global,
         state: &State<N, S>,
-        from: Option<&[u8]>,
-        to: Option<&[u8]>,
-    ) -> Result<Option<ManualCompaction>, AllocError>
-        ensures { IfOk result (λ r. MatchOption r
-            (HasNoneToClear state.now.slots.version (option_map (λ k. k.now) from.entry)
-            (option_map (λ k. k.now) to.entry))
-            (λ m. IsToClear state.now.slots.version (option_map (λ k. k.now) from.entry)
-            (option_map (λ k. k.now) to.entry) m)) }
+        from: &Option<Bytes>,
+        to: &Option<Bytes>,
+    ) -> Result<ManualCompaction, AllocError>
+        ensures { IfOk result (IsToClear state.now.slots.version from.now to.now) }
     {
         let (_id, version) = state.current();
-        let Some(span) = span_to_clear(state.registry(), version, from, to) else {
-            return Ok(None);
-        };
-        Ok(Some(ManualCompaction {
+        let span = span_to_clear(state.registry(), version, from, to);
+        Ok(ManualCompaction {
             from: owned(alloc, span.from())?,
             to: owned(alloc, span.to())?,
             last: span.level(),
-        }))
+        })
     }
 
     /// Whether no file of a state at these levels meets the range.
