@@ -1,6 +1,6 @@
 -- What a `compact` leaves, and why it is refused (this project's rule).
 use Rattle.std.specs.Prelude.{◌≡◌, ◌≢◌, ℕ, ◌-◌, ◌⊎◌, List, ◌∷◌, ◌++◌, length}
-use Rattle.std.specs.Prelude.{replicate, All, ⊥, Option, None, Some, Err}
+use Rattle.std.specs.Prelude.{replicate, All, Option, None, Some, Err}
 use Rattle.std.specs.Io.KnownBytes.{Appends, Keeps}
 use Rattle.atomic_table.specs.Seated.{TableId}
 use Rattle.lsm_codec.specs.Entries.{answer}
