@@ -36,8 +36,10 @@ use lsm_requests::CompactOptions;
 use lsm_slots::Boarded;
 use lsm_state::{State, StateFault};
 use lsm_store::laws::what_was_found_is_kept;
-use lsm_store::{Gate, Invariant, ManualCompaction, NoGate, Returned, Store};
-use lsm_store::{run_workers_over, run_workers_returning};
+use lsm_store::{
+    Gate, Invariant, ManualCompaction, NoGate, Returned, Store, run_workers_over,
+    run_workers_returning,
+};
 use lsm_table::{NamedShelf, Shelf, ShelfFault};
 use std::alloc::{AllocError, AllocFailed, Global};
 use std::io::{self, Write};
@@ -221,9 +223,7 @@ fn compact_state<N: Boarded, S: Shelf, K: Invariant, R: Threads + Wait + Sync, E
     } = made;
     let mut own = own;
     let returned = match &aim {
-        Some(manual) => clear(
-            rt, alloc, &store, &mut own, shelves, options, manual, err,
-        )?,
+        Some(manual) => clear(rt, alloc, &store, &mut own, shelves, options, manual, err)?,
         None => work(rt, alloc, &store, shelves, options, None, err)?,
     };
     Ok((store.into_state(), returned))

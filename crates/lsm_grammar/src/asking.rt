@@ -26,9 +26,9 @@ use clap::ArgMatches;
 use lsm_batch::Write;
 use lsm_codec::Bytes;
 use lsm_requests::{
-    BenchOptions, Benchmark, CompactLine, CompactOptions, CompactRange, Conversion, DirectoryCommand,
-    DirectoryLine, GetOutput, IngestOptions, Input, KeyBounds, LevelsLine, LevelsOutput, LoadLine,
-    LoadOptions, ScanOptions, ScanOutput,
+    BenchOptions, Benchmark, CompactLine, CompactOptions, CompactRange, Conversion,
+    DirectoryCommand, DirectoryLine, GetOutput, IngestOptions, Input, KeyBounds, LevelsLine,
+    LevelsOutput, LoadLine, LoadOptions, ScanOptions, ScanOutput,
 };
 use lsm_text::{Form, number_in};
 use std::alloc::{AllocError, Global};

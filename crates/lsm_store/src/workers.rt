@@ -223,9 +223,7 @@ fn run_picking<N: Boarded, S: Shelf, K: Invariant, G: Gate + Sync, R: Threads + 
     let Ok(threads) = Vec::with_capacity(alloc, shelves.len()) else {
         return Err(AllocFailed { value: shelves });
     };
-    Ok(run_all(
-        rt, alloc, store, shelves, gate, picks, threads, returned,
-    ))
+    Ok(run_all(rt, alloc, store, shelves, gate, picks, threads, returned))
 }
 
 /// Compacts with one worker for each shelf, each in a thread of its own, as the state chooses
