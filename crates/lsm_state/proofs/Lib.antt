@@ -11,4 +11,5 @@ mod IngestLaws
 mod Inputs
 mod LargestKeys
 mod InstallLaws
+mod SpareLaws
 pub mod CallerLemmas
