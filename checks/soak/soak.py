@@ -189,6 +189,7 @@ class Writer:
             f" {tables} tables of {total} bytes; disk {disk}, LevelDB {theirs}; written {each:.1f} a byte, {ratio:.2f} of LevelDB's",
             flush=True,
         )
+        self.figures = (tables / most, each, ratio, disk / theirs, worst)
         bad = []
         if tables >= most:
             bad.append(f"{tables} tables are not below {most:.0f}")
@@ -208,14 +209,23 @@ def main():
     end = time.monotonic() + float(seconds)
     writers = [Writer(lsm, leveldb, folder, kind, batch) for kind in KINDS for batch in BATCHES]
     bad = []
-    while time.monotonic() < end and not bad:
+    rounds = 0
+    worst_of = [0.0] * 5
+    while (time.monotonic() < end or not rounds) and not bad:
+        rounds += 1
         for writer in writers:
             took, worst = writer.round()
             bad += writer.judge(took, worst)
+            worst_of = [max(pair) for pair in zip(worst_of, writer.figures)]
     for writer in writers:
         writer.shell.end()
     for it in bad:
         print(it)
+    full, each, ratio, disk, worst = worst_of
+    print(
+        f"{rounds} rounds of {len(writers)} writers: tables at most {full:.2f} of their bound; written at most {each:.1f} a byte"
+        f" and {ratio:.1f} times LevelDB's; disk at most {disk:.1f} times LevelDB's; a batch at most {worst * 1e3:.0f} ms"
+    )
     return 1 if bad else 0
 
 
