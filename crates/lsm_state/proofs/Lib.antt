@@ -4,12 +4,12 @@ mod EditionLaws
 mod Removing
 mod Listed
 mod OpenLaws
-mod ReserveLaws
+pub mod ReserveLaws
 mod ChangeLaws
 mod AskedLaws
 mod IngestLaws
 mod Inputs
 mod LargestKeys
 mod InstallLaws
-mod SpareLaws
+pub mod SpareLaws
 pub mod CallerLemmas

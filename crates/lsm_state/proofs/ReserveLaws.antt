@@ -265,3 +265,12 @@ next_joined h chosen p c low j = inr (inl (inr (chosen, c, low), j))
 
 pub next_chosen : (h : Held) (p : TablePlan) → HasNoJoining h → IsChosen h p → IsNext h p
 next_chosen h p none c = inr (inr (none, c))
+
+pub joined_low : (v : Levels) (target_size : ℕ) (s : Span) → IsJoined v target_size s → s.level ≤ 5
+joined_low v target_size s j = j.sunk.last
+
+pub chosen_of : (h : Held) (v : Levels) (rs : List Reserved) (o : Option TablePlan) → v ≡ h.slots.version → rs ≡ reserved_jobs h.live → MatchOption o (HasNoChoice v rs) (λ p. IsChoice v rs p)
+    → MatchOption o (HasNoChoice h.slots.version (reserved_jobs h.live)) (λ p. IsChosen h p)
+chosen_of h v rs o same live m =
+    subst (λ (x : Levels). MatchOption o (HasNoChoice x (reserved_jobs h.live)) (λ p. IsChoice x (reserved_jobs h.live) p)) same
+    (subst (λ (x : List Reserved). MatchOption o (HasNoChoice v x) (λ p. IsChoice v x p)) live m)
