@@ -11,5 +11,4 @@ mod IngestLaws
 mod Inputs
 mod LargestKeys
 mod InstallLaws
-pub mod SpareLaws
 pub mod CallerLemmas

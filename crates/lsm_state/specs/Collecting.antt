@@ -1,16 +1,15 @@
 -- What is kept of the tables on the shelf, and what a collect removes (this project's rule).
-use Rattle.std.specs.Prelude.{◌≡◌, ℕ, ◌<◌, ◌⊎◌, ◌↔◌, Bool, true, false, List, [], ◌∷◌, ◌++◌, map, not}
+use Rattle.std.specs.Prelude.{◌≡◌, ℕ, ◌⊎◌, ◌↔◌, Bool, true, false, List, [], ◌∷◌, ◌++◌, map, not}
 use Rattle.std.specs.Prelude.{◌==◌, Err}
 use Rattle.std.specs.List.{filter, list_any}
 use Rattle.lsm_codec.specs.Lists.{Has}
 use Rattle.lsm_model.specs.Files.{File}
-use Rattle.lsm_version.specs.Versions.{files, numbers_in}
+use Rattle.lsm_version.specs.Versions.{files}
 use Rattle.lsm_shelf.specs.Asked.{Asked, Remove}
 use Rattle.lsm_shelf.specs.Told.{Told, Becomes, Counted, CountedBy, NotTaken, listing}
 use Rattle.lsm_shelf.specs.declared.shelf_fault.ShelfFault.{ShelfFault}
 use Rattle.lsm_shelf.specs.declared.shelf_fault.ShelfFault.TheVariants as shelf
-use Rattle.lsm_slots.specs.Slots.{Epoch, HasEpoch, Looked, Slotted, looks_around, looks_of}
-use Rattle.lsm_slots.specs.Slots.{numbers_held}
+use Rattle.lsm_slots.specs.Slots.{Epoch, HasEpoch, Looked, looks_around, looks_of}
 use Rattle.lsm_live.specs.Booked.{Booked}
 use Rattle.lsm_merge.specs.Outputs.{going}
 -- no count rose
@@ -24,24 +23,6 @@ abbrev pub IsKeptNumber : Held → ℕ → Type 0
 IsKeptNumber h n = ((slot : ℕ) × (e : Epoch) × (F : File) × HasEpoch h.slots slot e
     × Has (files e.version) F × (F.number ≡ n))
     ⊎ ((b : Booked) × Has h.live b × Has b.drawn n)
-
--- the table of the number is not kept, and the number is drawn no more
-pub record IsSpare (h : Held) (n : ℕ) : Type 0 where
-  pub drawn : n < h.next
-  pub unkept : IsKeptNumber h n → ⊥
-
--- just the listed numbers that are spare
-abbrev pub AreSpare : Held → (listed spare : List ℕ) → Type 0
-AreSpare h listed spare = (n : ℕ) → Has spare n ↔ (Has listed n × IsSpare h n)
-
--- each table of a version that has a slot is of the current one, or of one that had a slot before
-abbrev pub AddsCurrent : Slotted → Slotted → Type 0
-AddsCurrent old new = (n : ℕ) → Has (numbers_held new.epochs) n
-    → Has (numbers_held old.epochs) n ⊎ Has (numbers_in new.version) n
-
--- what was spare is spare
-abbrev pub StaysSpare : Held → Held → Type 0
-StaysSpare old new = (n : ℕ) → IsSpare old n → IsSpare new n
 
 abbrev pub is_in : List ℕ → ℕ → Bool
 is_in ns n = list_any (λ m. m == n) ns

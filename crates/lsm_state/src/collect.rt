@@ -29,7 +29,7 @@ fn is_among(numbers: &[u64], number: u64) -> bool
 }
 
 // The numbers that are not kept. Those that are ascend.
-pub(crate) fn keep_outside(numbers: &mut Vec<u64>, kept: &[u64])
+fn keep_outside(numbers: &mut Vec<u64>, kept: &[u64])
     requires { IsStrictlyIncreasing kept.now }
     ensures { numbers.new.items ≡ outside kept.now numbers.old.items }
 {

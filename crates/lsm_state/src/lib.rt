@@ -69,10 +69,6 @@ mod reads;
 // What is kept, and what is removed.
 mod collect;
 mod listing;
-mod spare;
-
-// What callers learn of both.
-pub mod laws;
 
 pub use ingest::Ingested;
 pub use lsm_journal::OpenFault;
