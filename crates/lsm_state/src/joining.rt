@@ -20,6 +20,7 @@ use std::alloc::Global;
 
 impl<N: Boarded, S: Shelf> State<N, S> {
     // The plan of the files that are joined; none where nothing can be joined.
+    #[tactic(auto, using(crate::proofs::ReserveLaws::joined_low, crate::proofs::ReserveLaws::range_refused))]
     fn joining_plan(&self, alloc: Global) -> Result<Option<Plan<N, S>>, StateFault>
         requires open { self.now.halted ≡ false }
         ensures joined { S.honest → IfOk result (λ r.
@@ -43,6 +44,7 @@ impl<N: Boarded, S: Shelf> State<N, S> {
     }
 
     // The plan of a worker's next compaction; none where there is none.
+    #[tactic(auto, using(crate::proofs::ReserveLaws::next_unchosen, crate::proofs::ReserveLaws::next_joined, crate::proofs::ReserveLaws::next_chosen))]
     fn next_plan(&self, alloc: Global) -> Result<Option<Plan<N, S>>, StateFault>
         ensures next { S.honest → IfOk result (λ r.
             MatchOption r (HasNoNext self.now) (λ p. IsNext self.now p)) }
@@ -72,6 +74,7 @@ impl<N: Boarded, S: Shelf> State<N, S> {
     ///
     /// `Halted` where the state is halted; `NumbersSpent` in place of a job whose ticket would be
     /// 2^64 - 1; `OutOfMemory`. A refusal leaves the state as it was.
+    #[tactic(auto, using(crate::proofs::ReserveLaws::closed_next, crate::proofs::ReserveLaws::refused_next, crate::proofs::ReserveLaws::plan_unfit))]
     pub fn reserve_next(&mut self, alloc: Global) -> Result<Option<Job<N, S>>, StateFault>
         ensures next { S.honest → IfOk result (λ r.
             MatchOption r (HasNoNext self.old) (λ w. IsNext self.old (plan_in w))) }

@@ -109,6 +109,7 @@ impl<N: Boarded, S: Shelf> State<N, S> {
     }
 
     // The chosen plan; none where there is no choice.
+    #[tactic(auto, using(crate::proofs::ReserveLaws::chosen_of))]
     pub(crate) fn chosen_plan(&self, alloc: Global) -> Result<Option<Plan<N, S>>, StateFault>
         ensures chosen { S.honest → IfOk result (λ r.
             MatchOption r (HasNoChoice self.now.slots.version (reserved_jobs self.now.live)) (λ p.
@@ -132,6 +133,7 @@ impl<N: Boarded, S: Shelf> State<N, S> {
     ///
     /// `Halted` where the state is halted; `NumbersSpent` in place of a job whose ticket would be
     /// 2^64 - 1; `OutOfMemory`. A refusal leaves the state as it was.
+    #[tactic(auto, using(crate::proofs::ReserveLaws::plan_refused))]
     pub fn reserve(&mut self, alloc: Global) -> Result<Option<Job<N, S>>, StateFault>
         ensures choice { S.honest → IfOk result (λ r.
             MatchOption r (HasNoChoice self.old.slots.version (reserved_jobs self.old.live)) (λ w.

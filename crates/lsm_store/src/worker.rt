@@ -3,7 +3,8 @@
 ghost use Rattle.std.specs.Prelude.{◌≡◌, IfErr, IfOk, MatchBool, OnOk, Some};
 ghost use Rattle.lsm_live.specs.Booked.{HasTicket, without};
 ghost use Rattle.lsm_store.specs.Compacting.{IsCompactingStep, IsKeptByCompaction};
-ghost use Rattle.lsm_store.specs.Picking.{IsBooked, IsPicked, IsPickedUnder};
+ghost use Rattle.lsm_store.specs.Picking.{IsBooked, IsManual, IsPicked, IsPickedUnder};
+ghost use Rattle.lsm_store.specs.declared.picks.Picks.TheVariants.{Choice, Joining};
 ghost use Rattle.lsm_store.specs.Workers.{IsOfInstalling, IsOfReserving, IsOfTurn, IsWorkersEnd};
 ghost use Rattle.lsm_store.specs.Working.{IsLast, IsTaken, IsTurn, IsUntaken, IsWorked};
 ghost use Rattle.lsm_store.specs.Working.{LeavesOut, TakesIn};
@@ -11,6 +12,7 @@ ghost use Rattle.lsm_store.specs.Working.{LeavesOut, TakesIn};
 use crate::bell::Bell;
 use crate::gate::Gate;
 use crate::invariant::Invariant;
+use crate::manual_compaction::ManualCompaction;
 use crate::number_service::NumberService;
 use crate::picks::Picks;
 use crate::store::Store;
@@ -24,8 +26,62 @@ use lsm_table::{NamedShelf, Registry, Shelf};
 use std::alloc::{AllocError, Global};
 use std::sync::{Arc, Wait};
 
-/// The job that the state has for a worker; none where there is none.
+/// The job of the chosen compaction; none where there is no choice.
 #[tactic(auto, using(crate::proofs::CompactingLaws::step_none))]
+fn chosen_job<N: Boarded, S: Shelf>(
+    state: &mut State<N, S>,
+    alloc: Global,
+) -> Result<Option<Job<N, S>>, StateFault>
+    ensures next { S.honest → IfOk result (λ r. IsPicked Choice state.old r) }
+    ensures booked { IfOk result (λ r. IsBooked r state.old state.new) }
+    ensures step { IsCompactingStep S.honest state.old state.new }
+    ensures refused { IfErr result IsOfReserving }
+{
+    match state.reserve(alloc) {
+        Ok(Some(job)) => Ok(Some(job)),
+        Ok(None) => Ok(None),
+        Err(fault) => Err(fault),
+    }
+}
+
+/// The job that comes next, where small files are joined; none where there is none.
+#[tactic(auto, using(crate::proofs::CompactingLaws::step_none))]
+fn joining_job<N: Boarded, S: Shelf>(
+    state: &mut State<N, S>,
+    alloc: Global,
+) -> Result<Option<Job<N, S>>, StateFault>
+    ensures next { S.honest → IfOk result (λ r. IsPicked Joining state.old r) }
+    ensures booked { IfOk result (λ r. IsBooked r state.old state.new) }
+    ensures step { IsCompactingStep S.honest state.old state.new }
+    ensures refused { IfErr result IsOfReserving }
+{
+    match state.reserve_next(alloc) {
+        Ok(Some(job)) => Ok(Some(job)),
+        Ok(None) => Ok(None),
+        Err(fault) => Err(fault),
+    }
+}
+
+/// The job of a range of keys; none where no file of it can be reserved.
+#[tactic(auto, using(crate::proofs::CompactingLaws::step_none))]
+fn manual_job<N: Boarded, S: Shelf>(
+    state: &mut State<N, S>,
+    alloc: Global,
+    manual: &ManualCompaction,
+) -> Result<Option<Job<N, S>>, StateFault>
+    ensures next { S.honest → IfOk result (λ r. IsManual manual.now state.old r) }
+    ensures booked { IfOk result (λ r. IsBooked r state.old state.new) }
+    ensures step { IsCompactingStep S.honest state.old state.new }
+    ensures refused { IfErr result IsOfReserving }
+{
+    match manual.reserve(state, alloc) {
+        Ok(Some(job)) => Ok(Some(job)),
+        Ok(None) => Ok(None),
+        Err(fault) => Err(fault),
+    }
+}
+
+/// The job that the state has for a worker; none where there is none.
 fn next_job<N: Boarded, S: Shelf>(
     state: &mut State<N, S>,
     alloc: Global,
@@ -36,15 +92,10 @@ fn next_job<N: Boarded, S: Shelf>(
     ensures step { IsCompactingStep S.honest state.old state.new }
     ensures refused { IfErr result IsOfReserving }
 {
-    let next = match picks {
-        Picks::Choice => state.reserve(alloc),
-        Picks::Joining => state.reserve_next(alloc),
-        Picks::Manual(manual) => manual.reserve(state, alloc),
-    };
-    match next {
-        Ok(Some(job)) => Ok(Some(job)),
-        Ok(None) => Ok(None),
-        Err(fault) => Err(fault),
+    match picks {
+        Picks::Choice => chosen_job(state, alloc),
+        Picks::Joining => joining_job(state, alloc),
+        Picks::Manual(manual) => manual_job(state, alloc, manual),
     }
 }
 
