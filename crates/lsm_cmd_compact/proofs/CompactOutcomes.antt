@@ -16,16 +16,17 @@ use Rattle.lsm_store.specs.declared.worker_end.WorkerEnd.{WorkerEnd}
 use Rattle.lsm_opening.specs.Compactions.{IsSwept}
 use Rattle.lsm_opening.specs.Starting.{Opens}
 use Rattle.lsm_opening.specs.declared.faults.writer_fault.WriterFault.TheVariants.{Write as WriteFault}
-use Rattle.lsm_cmd_compact.specs.Compacting.{AreEnds, AreFaultless, Compacts, IsCompactFault, IsNamed, IsOfManning, IsOpened, IsNotCompacted, IsWorkersFault, LeavesAll, StopsSweeping, installed_between}
+use Rattle.lsm_requests.specs.declared.compact_options.CompactOptions.{CompactOptions}
+use Rattle.lsm_cmd_compact.specs.Compacting.{AreEnds, AreFaultless, Clears, Compacts, IsCompactFault, IsNamed, IsOfManning, IsOpened, IsNotCompacted, IsWorkersFault, LeavesAll, StopsSweeping, installed_between}
 use Rattle.lsm_opening.specs.declared.faults.compact_fault.CompactFault.{CompactFault}
 use Rattle.lsm_opening.specs.declared.faults.compact_fault.CompactFault.TheVariants.{Writer}
 
-pub is_refused : {T : Type 0} (r : Result T CompactFault) (status : ℕ) (Stored : ℕ → List ℕ → Type 0) (Refused : Asked → ShelfFault → Type 0) (Honest : Type 0) (workers : ℕ)
+pub is_refused : {T : Type 0} (r : Result T CompactFault) (status : ℕ) (Stored : ℕ → List ℕ → Type 0) (Refused : Asked → ShelfFault → Type 0) (Honest : Type 0) (options : CompactOptions)
     (was is : Told) (old new : Option (List ℕ)) → OnOk r (status ≡ 0) → OnErr r (status ≡ 1)
-    → IfErr r (λ e. IsCompactFault Stored Refused Honest workers e was is) → IfErr r (λ e. e ≢ Writer WriteFault → Keeps old new) → status ≢ 0
-    → (status ≡ 1) × ((fault : CompactFault) × IsNotCompacted Stored Refused Honest workers fault was is old new)
-is_refused (Ok x) status Stored Refused Honest workers was is old new ok err says left other = absurd (other ok)
-is_refused (Err e) status Stored Refused Honest workers was is old new ok err says left other = (err, (e, record { says = says; left = left }))
+    → IfErr r (λ e. IsCompactFault Stored Refused Honest options e was is) → IfErr r (λ e. e ≢ Writer WriteFault → Keeps old new) → status ≢ 0
+    → (status ≡ 1) × ((fault : CompactFault) × IsNotCompacted Stored Refused Honest options fault was is old new)
+is_refused (Ok x) status Stored Refused Honest options was is old new ok err says left other = absurd (other ok)
+is_refused (Err e) status Stored Refused Honest options was is old new ok err says left other = (err, (e, record { says = says; left = left }))
 
 -- ---- after the opening
 
@@ -40,19 +41,19 @@ pub opens : (Honest : Type 0) (board : TableId) (found : Held) (was mid is : Tol
 opens Honest board found was mid is opened on forked = record { mid = mid; opened = opened; on = on; forked = forked }
 
 -- no worker began, or one of them has a fault
-pub unfinished : (Stored : ℕ → List ℕ → Type 0) (Refused : Asked → ShelfFault → Type 0) (Honest : Type 0) (board : TableId) (found : Held) (workers : ℕ) (e : CompactFault) (was is : Told)
-    → IsOpened Honest board found was is → IsOfManning e ⊎ IsWorkersFault Refused Honest (IsLeftByWorkers Honest found) was.place workers e
-    → IsCompactFault Stored Refused Honest workers e was is
-unfinished Stored Refused Honest board found workers e was is opened stops = elim stops [
+pub unfinished : (Stored : ℕ → List ℕ → Type 0) (Refused : Asked → ShelfFault → Type 0) (Honest : Type 0) (board : TableId) (found : Held) (options : CompactOptions) (e : CompactFault) (was is : Told)
+    → IsOpened Honest board found was is → IsOfManning e ⊎ IsWorkersFault Refused Honest (IsLeftByWorkers Honest found) was.place options.workers e
+    → IsCompactFault Stored Refused Honest options e was is
+unfinished Stored Refused Honest board found options e was is opened stops = elim stops [
   | inl manning ↦ inr (inl (inr (manning, (board, (found, opened)))))
   | inr fault ↦ inr (inr (inl record { board = board; found = found; opened = opened; stopped = fault }))
 ]
 
 -- nothing, or not all, was removed
-pub unswept : (Stored : ℕ → List ℕ → Type 0) (Refused : Asked → ShelfFault → Type 0) (Honest : Type 0) (board : TableId) (found left : Held) (workers : ℕ) (returned : List (WorkerEnd × Option Told))
-    (e : CompactFault) (was mid is : Told) → IsOpened Honest board found was mid → AreEnds Refused Honest (IsLeftByWorkers Honest found) was.place workers returned → AreFaultless returned
-    → IsLeftByWorkers Honest found left → StopsSweeping Refused Honest board left e mid is → IsCompactFault Stored Refused Honest workers e was is
-unswept Stored Refused Honest board found left workers returned e was mid is opened each faultless by stops = inr (inr (inr (inl record {
+pub unswept : (Stored : ℕ → List ℕ → Type 0) (Refused : Asked → ShelfFault → Type 0) (Honest : Type 0) (board : TableId) (found left : Held) (options : CompactOptions) (returned : List (WorkerEnd × Option Told))
+    (e : CompactFault) (was mid is : Told) → IsOpened Honest board found was mid → AreEnds Refused Honest (IsLeftByWorkers Honest found) was.place options.workers returned → AreFaultless returned
+    → IsLeftByWorkers Honest found left → StopsSweeping Refused Honest board left e mid is → IsCompactFault Stored Refused Honest options e was is
+unswept Stored Refused Honest board found left options returned e was mid is opened each faultless by stops = inr (inr (inr (inl record {
   board = board;
   found = found;
   left = left;
@@ -66,11 +67,11 @@ unswept Stored Refused Honest board found left workers returned e was mid is ope
 })))
 
 -- all was done
-pub compacts : (Refused : Asked → ShelfFault → Type 0) (Honest : Type 0) (board : TableId) (found left : Held) (workers installed : ℕ) (returned : List (WorkerEnd × Option Told)) (was mid read is : Told)
-    → IsOpened Honest board found was mid → AreEnds Refused Honest (IsLeftByWorkers Honest found) was.place workers returned → AreFaultless returned
-    → IsLeftByWorkers Honest found left → installed ≡ installed_between found left → IsNamed left mid read → IsSwept Honest board left read is
-    → Compacts Refused Honest workers installed was is
-compacts Refused Honest board found left workers installed returned was mid read is opened each faultless by count named swept = record {
+pub compacts : (Refused : Asked → ShelfFault → Type 0) (Honest : Type 0) (board : TableId) (found left : Held) (options : CompactOptions) (installed : ℕ) (returned : List (WorkerEnd × Option Told)) (was mid read is : Told)
+    → IsOpened Honest board found was mid → AreEnds Refused Honest (IsLeftByWorkers Honest found) was.place options.workers returned → AreFaultless returned
+    → Clears (IsLeftByWorkers Honest found) found options.range → IsLeftByWorkers Honest found left → installed ≡ installed_between found left → IsNamed left mid read → IsSwept Honest board left read is
+    → Compacts Refused Honest options installed was is
+compacts Refused Honest board found left options installed returned was mid read is opened each faultless cleared by count named swept = record {
   board = board;
   found = found;
   left = left;
@@ -79,6 +80,7 @@ compacts Refused Honest board found left workers installed returned was mid read
   returned = returned;
   ends_are = each;
   faultless = faultless;
+  cleared = cleared;
   leaves = leaves Honest found left by;
   count = count;
   read = read;

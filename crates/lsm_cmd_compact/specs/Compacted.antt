@@ -21,7 +21,7 @@ module _ {C M : Type 0} (folders : Ghosts C M) where
     pub begun : FileShelf C M
     pub on : IsShelfAt folders line.path.now (IsHeld Exclusive) begun
     pub ended : FileShelf C M
-    pub done : IsCompacted MayRefuse (AreHonest folders.calls) line.options.workers
+    pub done : IsCompacted MayRefuse (AreHonest folders.calls) line.options
         (told_by folders begun) (told_by folders ended) old new
 
 module _ {C M : Type 0} (folders : Ghosts C M) (marks : mark.Ghosts M) where
@@ -33,7 +33,7 @@ module _ {C M : Type 0} (folders : Ghosts C M) (marks : mark.Ghosts M) where
     pub ended : FileShelf C M
     pub refused :
         IsNotCompacted (stored_at folders marks (told_by folders begun).place) MayRefuse
-        (AreHonest folders.calls) line.options.workers fault
+        (AreHonest folders.calls) line.options fault
         (told_by folders begun) (told_by folders ended) old new
 
   -- nothing was written; or that

@@ -10,7 +10,9 @@ use Rattle.lsm_shelf.specs.declared.shelf_fault.ShelfFault.{ShelfFault}
 use Rattle.lsm_shelf.specs.Told.{Place, Told, Becomes, CountedBy, Forked, NotNamed, NotTaken}
 use Rattle.lsm_shelf.specs.Told.{finding, fresh}
 use Rattle.lsm_model.specs.Files.{all_entries}
-use Rattle.lsm_version.specs.Versions.{files}
+use Rattle.lsm_version.specs.Versions.{Levels, files}
+use Rattle.lsm_picker.specs.Joining.{Span}
+use Rattle.lsm_picker.specs.Manual.{IsCleared, IsToClear}
 use Rattle.lsm_slots.specs.Slots.{current_id}
 use Rattle.lsm_state.specs.Collecting.{SameCounts}
 use Rattle.lsm_state.specs.Held.{Held}
@@ -18,6 +20,8 @@ use Rattle.lsm_state.specs.declared.state_fault.StateFault.{StateFault}
 use Rattle.lsm_store.specs.Compacting.{IsLeftByWorkers}
 use Rattle.lsm_store.specs.Workers.{IsWorkersEnd}
 use Rattle.lsm_store.specs.Working.{AreReturned}
+use Rattle.lsm_requests.specs.declared.compact_options.CompactOptions.{CompactOptions}
+use Rattle.lsm_requests.specs.declared.compact_range.CompactRange.{CompactRange}
 use Rattle.lsm_store.specs.declared.worker_end.WorkerEnd.{WorkerEnd}
 use Rattle.lsm_store.specs.declared.worker_fault.WorkerFault.{WorkerFault}
 use Rattle.lsm_opening.specs.Compactions.{IsSwept, Refuses, installed_text}
@@ -78,6 +82,25 @@ pub record LeavesAll (Honest : Type 0) (found left : Held) : Type 0 where
   pub by_workers : IsLeftByWorkers Honest found left
   pub shows : Honest → (k : UserKey) → newest left k ≡ newest found k
 
+-- ---- a range
+
+-- at one moment, in a state of which the fact held, no file was left of the range at its levels
+abbrev pub IsClearedUnder : (Held → Type 0) → Span → Type 0
+IsClearedUnder keeps s = (h : Held) × ∥ keeps h ∥₁ × IsCleared h.slots.version s
+
+-- So it was of the range that was asked for, if one was, over the files of the state found.
+abbrev pub Clears : (Held → Type 0) → Held → Option CompactRange → Type 0
+Clears keeps found None = Unit {0}
+Clears keeps found (Some r) =
+    (s : Span) × IsToClear found.slots.version r.from r.to s × IsClearedUnder keeps s
+
+-- what is cleared of the range that is asked for
+abbrev pub IsAimed : Levels → Option CompactRange → Option Span → Type 0
+IsAimed v None None = Unit {0}
+IsAimed v None (Some s) = ⊥
+IsAimed v (Some r) None = ⊥
+IsAimed v (Some r) (Some s) = IsToClear v r.from r.to s
+
 -- ---- what the shelf was told
 
 -- The directory was opened as this state, which has this board; after that the shelf was asked for
@@ -95,19 +118,23 @@ pub record IsNamed (left : Held) (was is : Told) : Type 0 where
   pub told : Becomes (finding left.journal.number left.journal.bytes was) is
   pub counts : SameCounts was is
 
--- The directory was opened, and no worker ended with a fault. The state left has the board of the
+-- The directory was opened, and no worker ended with a fault. Of a range that was asked for no file
+-- was left at its levels. The state left has the board of the
 -- one opened, of which all is left, and so many results were installed between both. The manifest
 -- that was read then is the one that it holds, and what nothing names was removed.
 pub record Compacts (Refused : Asked → ShelfFault
-    → Type 0) (Honest : Type 0) (workers installed : ℕ) (was is : Told) : Type 0 where
+    → Type 0) (Honest : Type 0) (options : CompactOptions) (installed : ℕ) (was is : Told)
+    : Type 0 where
   pub board : TableId
   pub found : Held
   pub left : Held
   pub mid : Told
   pub opened : IsOpened Honest board found was mid
   pub returned : List (WorkerEnd × Option Told)
-  pub ends_are : AreEnds Refused Honest (IsLeftByWorkers Honest found) was.place workers returned
+  pub ends_are : AreEnds Refused Honest (IsLeftByWorkers Honest found) was.place options.workers
+      returned
   pub faultless : AreFaultless returned
+  pub cleared : Clears (IsLeftByWorkers Honest found) found options.range
   pub leaves : LeavesAll Honest found left
   pub count : installed ≡ installed_between found left
   pub read : Told
@@ -115,10 +142,10 @@ pub record Compacts (Refused : Asked → ShelfFault
   pub swept : IsSwept Honest board left read is
 
 -- That was done, and how many results were installed was written.
-abbrev pub IsCompacted : (Asked → ShelfFault → Type 0) → Type 0 → ℕ → Told → Told → Option (List ℕ)
-    → Option (List ℕ) → Type 0
-IsCompacted Refused Honest workers was is old new =
-    (installed : ℕ) × Compacts Refused Honest workers installed was is
+abbrev pub IsCompacted : (Asked → ShelfFault → Type 0) → Type 0 → CompactOptions → Told → Told
+    → Option (List ℕ) → Option (List ℕ) → Type 0
+IsCompacted Refused Honest options was is old new =
+    (installed : ℕ) × Compacts Refused Honest options installed was is
     × Appends old new (installed_text installed)
 
 -- ---- refusals
@@ -210,25 +237,25 @@ pub record IsUnswept (Refused : Asked → ShelfFault
   pub stops : StopsSweeping Refused Honest board left e mid is
 
 -- All was done, and the reply was not written.
-abbrev pub IsUntold : (Asked → ShelfFault → Type 0) → Type 0 → ℕ → CompactFault → Told → Told
-    → Type 0
-IsUntold Refused Honest workers e was is =
-    (e ≡ Writer WriteFault) × ((installed : ℕ) × Compacts Refused Honest workers installed was is)
+abbrev pub IsUntold : (Asked → ShelfFault → Type 0) → Type 0 → CompactOptions → CompactFault → Told
+    → Told → Type 0
+IsUntold Refused Honest options e was is =
+    (e ≡ Writer WriteFault) × ((installed : ℕ) × Compacts Refused Honest options installed was is)
 
 -- What a fault says.
-abbrev pub IsCompactFault : (ℕ → List ℕ → Type 0) → (Asked → ShelfFault → Type 0) → Type 0 → ℕ
-    → CompactFault → Told → Told → Type 0
-IsCompactFault Stored Refused Honest workers e was is =
+abbrev pub IsCompactFault : (ℕ → List ℕ → Type 0) → (Asked → ShelfFault → Type 0) → Type 0
+    → CompactOptions → CompactFault → Told → Told → Type 0
+IsCompactFault Stored Refused Honest options e was is =
     IsOutOfMemory e was is
     ⊎ (NoneBegan Stored Refused Honest e was is
-    ⊎ (IsUnfinished Refused Honest workers e was is
-    ⊎ (IsUnswept Refused Honest workers e was is
-    ⊎ IsUntold Refused Honest workers e was is)))
+    ⊎ (IsUnfinished Refused Honest options.workers e was is
+    ⊎ (IsUnswept Refused Honest options.workers e was is
+    ⊎ IsUntold Refused Honest options e was is)))
 
 -- What a refusal is: what the fault says; and, unless a write failed, nothing was written on
 -- standard output.
 pub record IsNotCompacted (Stored : ℕ → List ℕ → Type 0) (Refused : Asked → ShelfFault
-    → Type 0) (Honest : Type 0) (workers : ℕ) (fault : CompactFault) (was is : Told) (old new
-    : Option (List ℕ)) : Type 0 where
-  pub says : IsCompactFault Stored Refused Honest workers fault was is
+    → Type 0) (Honest : Type 0) (options : CompactOptions) (fault : CompactFault) (was is : Told)
+    (old new : Option (List ℕ)) : Type 0 where
+  pub says : IsCompactFault Stored Refused Honest options fault was is
   pub left : fault ≢ Writer WriteFault → Keeps old new

@@ -6,8 +6,8 @@ pub(crate) mod program;
 pub(crate) mod progress;
 pub(crate) mod tally;
 
-ghost use Rattle.std.specs.Prelude.{◌≡◌, ◌≢◌, ◌⊎◌, All, IfErr, IfOk, IsFalse, OnOk, replicate};
-ghost use Rattle.std.specs.Prelude.{vec_len};
+ghost use Rattle.std.specs.Prelude.{◌≡◌, ◌≢◌, ◌⊎◌, All, IfErr, IfOk, IsFalse, IsTrue, OnOk};
+ghost use Rattle.std.specs.Prelude.{replicate, vec_len};
 ghost use Rattle.std.specs.Io.KnownBytes.{Appends, Keeps};
 ghost use Rattle.lsm_shelf.specs.Stored.{Stored};
 ghost use Rattle.lsm_shelf.specs.Told.{Forked, fresh};
@@ -22,7 +22,8 @@ ghost use Rattle.lsm_opening.specs.WriterFault.{of_shelf};
 ghost use Rattle.lsm_opening.specs.Parts.{AreOf, usual};
 ghost use Rattle.lsm_opening.specs.declared.faults.writer_fault.WriterFault.TheVariants.{Write as WriteFault};
 ghost use Rattle.lsm_cmd_compact.specs.Compacting.{AreEnds, AreFaultless, IsCompactFault, IsCompacted};
-ghost use Rattle.lsm_cmd_compact.specs.Compacting.{IsOfManning, IsWorkersFault};
+ghost use Rattle.lsm_cmd_compact.specs.Compacting.{Clears, IsAimed, IsClearedUnder, IsOfManning};
+ghost use Rattle.lsm_cmd_compact.specs.Compacting.{IsWorkersFault};
 ghost use Rattle.lsm_opening.specs.Compactions.{IsSwept, Refuses, installed_text};
 ghost use Rattle.lsm_opening.specs.declared.faults.compact_fault.CompactFault.TheVariants.{Writer as WriterVariant};
 
@@ -30,27 +31,51 @@ use crate::compacting::finding::find_manifest;
 use crate::compacting::job_teller::JobTeller;
 use crate::compacting::progress::{tell_installed, tell_opened, tell_removed};
 use crate::compacting::tally::judge;
-use lsm_opening::{CompactFault, Crew, NewParts, WriterFault, open, sweep};
+use lsm_opening::{CompactFault, Crew, NewParts, WriterFault, forks, open, sweep};
 use lsm_requests::CompactOptions;
 use lsm_slots::Boarded;
 use lsm_state::{State, StateFault};
 use lsm_store::laws::what_was_found_is_kept;
-use lsm_store::{Invariant, NoGate, Returned, Store, run_workers_returning};
+use lsm_store::{
+    Gate, Invariant, ManualCompaction, NoGate, Returned, Store, run_workers_over,
+    run_workers_returning,
+};
 use lsm_table::{NamedShelf, Shelf, ShelfFault};
-use std::alloc::{AllocFailed, Global};
+use std::alloc::{AllocError, AllocFailed, Global};
 use std::io::{self, Write};
 use std::marker::Brand;
 use std::sync::Wait;
 use std::thread::Threads;
 
-/// Lets workers compact a store, one for each shelf; each job that they begin is said where that is
-/// asked for.
+/// Lets workers compact a store, one for each shelf: a range, or else what is due.
+fn run_by<N: Boarded, S: Shelf, K: Invariant, G: Gate + Sync, R: Threads + Wait + Sync>(
+    rt: &R,
+    alloc: Global,
+    store: &Store<N, S, K>,
+    shelves: Vec<NamedShelf<N, S>>,
+    gate: &G,
+    manual: Option<&ManualCompaction>,
+) -> Result<Vec<Returned<N, S>>, AllocFailed<Vec<NamedShelf<N, S>>>>
+    requires kept { IsKeptByCompaction S.honest K.keeps }
+    ensures len { IfOk result (λ v. vec_len v ≡ vec_len shelves) }
+    ensures ends { IfOk result (λ v. All (λ r. IsWorkersEnd S.honest r.0) v.items) }
+    ensures returned { IfOk result (λ v.
+        AreReturned S.honest (S.refuses N.place) K.keeps shelves.items v.items) }
+{
+    match manual {
+        Some(manual) => run_workers_over(rt, alloc, store, shelves, gate, manual),
+        None => run_workers_returning(rt, alloc, store, shelves, gate),
+    }
+}
+
+/// The same; each job that they begin is said where that is asked for.
 #[tactic(auto, using(lsm_directory::proofs::CallerLemmas::keeps_same))]
 fn run_all<N: Boarded, S: Shelf, K: Invariant, R: Threads + Wait + Sync, E: Write + Send>(
     rt: &R,
     alloc: Global,
     store: &Store<N, S, K>,
     shelves: Vec<NamedShelf<N, S>>,
+    manual: Option<&ManualCompaction>,
     progress: bool,
     err: &mut E,
 ) -> Result<Vec<Returned<N, S>>, AllocFailed<Vec<NamedShelf<N, S>>>>
@@ -63,9 +88,9 @@ fn run_all<N: Boarded, S: Shelf, K: Invariant, R: Threads + Wait + Sync, E: Writ
 {
     if progress {
         let teller = JobTeller::new(rt, err);
-        return run_workers_returning(rt, alloc, store, shelves, &teller);
+        return run_by(rt, alloc, store, shelves, &teller, manual);
     }
-    run_workers_returning(rt, alloc, store, shelves, &NoGate)
+    run_by(rt, alloc, store, shelves, &NoGate, manual)
 }
 
 /// What the workers of a store have done, one for each of so many new forks, when none of them ends
@@ -75,34 +100,100 @@ fn work<N: Boarded, S: Shelf, K: Invariant, R: Threads + Wait + Sync, E: Write +
     alloc: Global,
     store: &Store<N, S, K>,
     shelves: Vec<NamedShelf<N, S>>,
-    options: CompactOptions,
+    options: &CompactOptions,
+    manual: Option<&ManualCompaction>,
     err: &mut E,
 ) -> Result<Vec<Returned<N, S>>, CompactFault>
     requires kept { IsKeptByCompaction S.honest K.keeps }
-    requires count { vec_len shelves ≡ options.workers }
-    requires new { shelves.items ≡ replicate options.workers (fresh N.place) }
+    requires count { vec_len shelves ≡ options.now.workers }
+    requires new { shelves.items ≡ replicate options.now.workers (fresh N.place) }
     ensures ends { IfOk result (λ v.
-        AreEnds (S.refuses N.place) S.honest K.keeps N.place options.workers v.items) }
+        AreEnds (S.refuses N.place) S.honest K.keeps N.place options.now.workers v.items) }
     ensures faultless { IfOk result (λ v. AreFaultless v.items) }
     ensures refused { IfErr result (λ e. (e ≡ WriterVariant (of_shelf OutOfMemory))
-        ⊎ IsWorkersFault (S.refuses N.place) S.honest K.keeps N.place options.workers e) }
-    ensures quiet { IsFalse options.progress → Keeps (E.contents err.old) (E.contents err.new) }
+        ⊎ IsWorkersFault (S.refuses N.place) S.honest K.keeps N.place options.now.workers e) }
+    ensures quiet { IsFalse options.now.progress → Keeps (E.contents err.old) (E.contents err.new) }
 {
-    let Ok(returned) = run_all(rt, alloc, store, shelves, options.progress, err) else {
+    let Ok(returned) = run_all(rt, alloc, store, shelves, manual, options.progress, err) else {
         return Err(CompactFault::of_shelf(ShelfFault::OutOfMemory));
     };
     judge(&returned)?;
     Ok(returned)
 }
 
-/// Lets so many workers compact a state, beside which a lock keeps a fact: the state, of which the
-/// fact holds, and what each worker has done, when none of them ends with a fault.
+/// Whether no file of a range is left at its levels, as the state under the lock says.
+fn is_cleared<N: Boarded, S: Shelf, K: Invariant, R: Wait>(
+    rt: &R,
+    store: &Store<N, S, K>,
+    manual: &ManualCompaction,
+) -> bool
+    ensures { IsTrue result → IsClearedUnder K.keeps manual.now }
+{
+    manual.is_done(&store.lock(rt).state)
+}
+
+/// What the workers of a store have done that compact a range, when none of them ends with a fault:
+/// again, each with a new fork of the shelf, until no file of the range is left at its levels.
+fn clear<N: Boarded, S: Shelf, K: Invariant, R: Threads + Wait + Sync, E: Write + Send>(
+    rt: &R,
+    alloc: Global,
+    store: &Store<N, S, K>,
+    shelf: &mut NamedShelf<N, S>,
+    shelves: Vec<NamedShelf<N, S>>,
+    options: &CompactOptions,
+    manual: &ManualCompaction,
+    err: &mut E,
+) -> Result<Vec<Returned<N, S>>, CompactFault>
+    requires kept { IsKeptByCompaction S.honest K.keeps }
+    requires count { vec_len shelves ≡ options.now.workers }
+    requires new { shelves.items ≡ replicate options.now.workers (fresh N.place) }
+    ensures ends { IfOk result (λ v.
+        AreEnds (S.refuses N.place) S.honest K.keeps N.place options.now.workers v.items) }
+    ensures faultless { IfOk result (λ v. AreFaultless v.items) }
+    ensures cleared { OnOk result (IsClearedUnder K.keeps manual.now) }
+    ensures refused { IfErr result (λ e. IsOfManning e
+        ⊎ IsWorkersFault (S.refuses N.place) S.honest K.keeps N.place options.now.workers e) }
+    ensures quiet { IsFalse options.now.progress
+        → Keeps (E.contents err.old) (E.contents err.new) }
+{
+    let mut shelves = shelves;
+    'tries: for _ in rt.forever() {
+        let returned = work(rt, alloc, store, shelves, options, Some(manual), err)?;
+        if is_cleared(rt, store, manual) {
+            return Ok(returned);
+        }
+        shelves = match forks(alloc, shelf, options.workers) {
+            Ok(shelves) => shelves,
+            Err(fault) => return Err(CompactFault::of_shelf(fault)),
+        };
+    }
+    unreachable!()
+}
+
+/// What is cleared of the range that options ask for, over the files of a state; none where they ask
+/// for none.
+fn aim_of<N: Boarded, S: Shelf>(
+    alloc: Global,
+    state: &State<N, S>,
+    options: &CompactOptions,
+) -> Result<Option<ManualCompaction>, AllocError>
+    ensures { IfOk result (IsAimed state.now.slots.version options.now.range) }
+{
+    match &options.range {
+        Some(range) => Ok(Some(ManualCompaction::of(alloc, state, &range.from, &range.to)?)),
+        None => Ok(None),
+    }
+}
+
+/// Lets so many workers compact a state, beside which a lock keeps a fact, until nothing of the range
+/// that is asked for is left, or nothing is due: the state, of which the fact holds, and what each
+/// worker has done, when none of them ends with a fault.
 fn compact_state<N: Boarded, S: Shelf, K: Invariant, R: Threads + Wait + Sync, E: Write + Send>(
     rt: &R,
     alloc: Global,
     state: State<N, S>,
     shelf: &mut NamedShelf<N, S>,
-    options: CompactOptions,
+    options: &CompactOptions,
     err: &mut E,
 ) -> Result<(State<N, S>, Vec<Returned<N, S>>), CompactFault>
     requires seats { SeatsPinners state }
@@ -110,13 +201,17 @@ fn compact_state<N: Boarded, S: Shelf, K: Invariant, R: Threads + Wait + Sync, E
     requires steps { IsKeptByCompaction S.honest K.keeps }
     ensures kept { IfOk result (λ r. ∥ K.keeps r.0 ∥₁) }
     ensures ends { IfOk result (λ r.
-        AreEnds (S.refuses N.place) S.honest K.keeps N.place options.workers r.1.items) }
+        AreEnds (S.refuses N.place) S.honest K.keeps N.place options.now.workers r.1.items) }
     ensures faultless { IfOk result (λ r. AreFaultless r.1.items) }
+    ensures cleared { OnOk result (Clears K.keeps state options.now.range) }
     ensures refused { IfErr result (λ e. IsOfManning e
-        ⊎ IsWorkersFault (S.refuses N.place) S.honest K.keeps N.place options.workers e) }
+        ⊎ IsWorkersFault (S.refuses N.place) S.honest K.keeps N.place options.now.workers e) }
     ensures told { Forked shelf.old shelf.new }
-    ensures quiet { IsFalse options.progress → Keeps (E.contents err.old) (E.contents err.new) }
+    ensures quiet { IsFalse options.now.progress → Keeps (E.contents err.old) (E.contents err.new) }
 {
+    let Ok(aim) = aim_of(alloc, &state, options) else {
+        return Err(CompactFault::of_shelf(ShelfFault::OutOfMemory));
+    };
     let made: Crew<N, S, K> = match Crew::new(alloc, state, shelf, options.workers) {
         Ok(crew) => crew,
         Err((_state, fault)) => return Err(CompactFault::of_shelf(fault)),
@@ -124,9 +219,13 @@ fn compact_state<N: Boarded, S: Shelf, K: Invariant, R: Threads + Wait + Sync, E
     let Crew {
         store,
         shelves,
-        own: _,
+        own,
     } = made;
-    let returned = work(rt, alloc, &store, shelves, options, err)?;
+    let mut own = own;
+    let returned = match &aim {
+        Some(manual) => clear(rt, alloc, &store, &mut own, shelves, options, manual, err)?,
+        None => work(rt, alloc, &store, shelves, options, None, err)?,
+    };
     Ok((store.into_state(), returned))
 }
 
@@ -169,21 +268,21 @@ fn compact_named<N: Boarded, S: Shelf, R: Threads + Wait + Sync, O: Write, E: Wr
     rt: &R,
     alloc: Global,
     shelf: &mut NamedShelf<N, S>,
-    options: CompactOptions,
+    options: &CompactOptions,
     parts: NewParts<S>,
     out: &mut O,
     err: &mut E,
 ) -> Result<(), CompactFault>
     requires parts { AreOf usual N.registry N.board N.history parts }
     requires shelf { shelf.old.place ≡ N.place }
-    ensures done { OnOk result (IsCompacted (S.refuses N.place) S.honest options.workers shelf.old
+    ensures done { OnOk result (IsCompacted (S.refuses N.place) S.honest options.now shelf.old
         shelf.new (O.contents out.old) (O.contents out.new)) }
     ensures fault { IfErr result (λ e.
         IsCompactFault (Stored S.Receipt (S.is_of N.place) S.Receipt.number S.Receipt.image)
-        (S.refuses N.place) S.honest options.workers e shelf.old shelf.new) }
+        (S.refuses N.place) S.honest options.now e shelf.old shelf.new) }
     ensures left { IfErr result (λ e. e ≢ WriterVariant WriteFault
         → Keeps (O.contents out.old) (O.contents out.new)) }
-    ensures quiet { IsFalse options.progress → Keeps (E.contents err.old) (E.contents err.new) }
+    ensures quiet { IsFalse options.now.progress → Keeps (E.contents err.old) (E.contents err.new) }
 {
     let state = open(rt, alloc, shelf, parts)?;
     tell_opened(&state, options.progress, err);
@@ -207,21 +306,21 @@ fn compact_as<N: Boarded, S: Shelf, R: Threads + Wait + Sync, O: Write, E: Write
     rt: &R,
     alloc: Global,
     shelf: S,
-    options: CompactOptions,
+    options: &CompactOptions,
     parts: NewParts<S>,
     out: &mut O,
     err: &mut E,
 ) -> (Result<(), CompactFault>, S)
     requires parts { AreOf usual N.registry N.board N.history parts }
     requires shelf { (S.told shelf).place ≡ N.place }
-    ensures done { OnOk result.0 (IsCompacted (S.refuses N.place) S.honest options.workers
+    ensures done { OnOk result.0 (IsCompacted (S.refuses N.place) S.honest options.now
         (S.told shelf) (S.told result.1) (O.contents out.old) (O.contents out.new)) }
     ensures fault { IfErr result.0 (λ e.
         IsCompactFault (Stored S.Receipt (S.is_of N.place) S.Receipt.number S.Receipt.image)
-        (S.refuses N.place) S.honest options.workers e (S.told shelf) (S.told result.1)) }
+        (S.refuses N.place) S.honest options.now e (S.told shelf) (S.told result.1)) }
     ensures left { IfErr result.0 (λ e. e ≢ WriterVariant WriteFault
         → Keeps (O.contents out.old) (O.contents out.new)) }
-    ensures quiet { IsFalse options.progress → Keeps (E.contents err.old) (E.contents err.new) }
+    ensures quiet { IsFalse options.now.progress → Keeps (E.contents err.old) (E.contents err.new) }
 {
     let mut shelf: NamedShelf<N, S> = NamedShelf::of(shelf);
     let done = compact_named(rt, alloc, &mut shelf, options, parts, out, err);
@@ -235,20 +334,20 @@ pub(crate) fn compact_to<S: Shelf, R: Threads + Wait + Sync, O: Write, E: Write 
     rt: &R,
     alloc: Global,
     shelf: S,
-    options: CompactOptions,
+    options: &CompactOptions,
     out: &mut O,
     err: &mut E,
 ) -> (Result<(), CompactFault>, S)
     ensures done { OnOk result.0 (IsCompacted (S.refuses (S.told shelf).place) S.honest
-        options.workers (S.told shelf) (S.told result.1) (O.contents out.old)
+        options.now (S.told shelf) (S.told result.1) (O.contents out.old)
         (O.contents out.new)) }
     ensures fault { IfErr result.0 (λ e. IsCompactFault (Stored S.Receipt
         (S.is_of (S.told shelf).place) S.Receipt.number S.Receipt.image)
-        (S.refuses (S.told shelf).place) S.honest options.workers e
+        (S.refuses (S.told shelf).place) S.honest options.now e
         (S.told shelf) (S.told result.1)) }
     ensures left { IfErr result.0 (λ e. e ≢ WriterVariant WriteFault
         → Keeps (O.contents out.old) (O.contents out.new)) }
-    ensures quiet { IsFalse options.progress → Keeps (E.contents err.old) (E.contents err.new) }
+    ensures quiet { IsFalse options.now.progress → Keeps (E.contents err.old) (E.contents err.new) }
 {
     match NewParts::make(alloc) {
         Ok(parts) => compact_as::<Brand, S, R, O, E>(rt, alloc, shelf, options, parts, out, err),

@@ -10,7 +10,9 @@ use crate::bell::Bell;
 use crate::drawing::draw_for_all;
 use crate::gate::Gate;
 use crate::invariant::Invariant;
+use crate::manual_compaction::ManualCompaction;
 use crate::number_service::NumberService;
+use crate::picks::Picks;
 use crate::store::Store;
 use crate::worker::work;
 use crate::worker_end::WorkerEnd;
@@ -34,6 +36,7 @@ fn start<'s, 'e, N: Boarded, S: Shelf, K: Invariant, G: Gate + Sync, R: Threads 
     shelf: NamedShelf<N, S>,
     gate: &'e G,
     worker: usize,
+    picks: &'e Picks<'e>,
 ) -> Thread<N, S, K>
     requires kept { IsKeptByCompaction S.honest K.keeps }
     ensures given { result.given.value ≡ shelf }
@@ -48,7 +51,9 @@ fn start<'s, 'e, N: Boarded, S: Shelf, K: Invariant, G: Gate + Sync, R: Threads 
             ensures worked { IsWorked S.honest (S.refuses N.place) K.keeps shelf result.0 result.1 }
         {
             let mut shelf = shelf;
-            let end = work(rt, alloc, store, service, bell, &mut shelf, gate, worker);
+            let end = work(
+                rt, alloc, store, service, bell, &mut shelf, gate, worker, picks,
+            );
             service.leave(rt);
             bell.leave(rt);
             (end, shelf)
@@ -82,6 +87,7 @@ pub(crate) fn start_all<
     bell: &'e Bell,
     shelves: Vec<NamedShelf<N, S>>,
     gate: &'e G,
+    picks: &'e Picks<'e>,
     threads: Vec<Thread<N, S, K>>,
 ) -> Vec<Thread<N, S, K>>
     requires kept { IsKeptByCompaction S.honest K.keeps }
@@ -94,7 +100,9 @@ pub(crate) fn start_all<
     let mut threads = threads;
     while let Some(shelf) = shelves.pop() {
         let worker = shelves.len();
-        let thread = start(scope, rt, alloc, store, service, bell, shelf, gate, worker);
+        let thread = start(
+            scope, rt, alloc, store, service, bell, shelf, gate, worker, picks,
+        );
         let Ok(()) = threads.push(thread) else {
             unreachable!()
         };
@@ -154,6 +162,7 @@ fn run_all<N: Boarded, S: Shelf, K: Invariant, G: Gate + Sync, R: Threads + Wait
     store: &Store<N, S, K>,
     shelves: Vec<NamedShelf<N, S>>,
     gate: &G,
+    picks: &Picks<'_>,
     threads: Vec<Thread<N, S, K>>,
     returned: Vec<Returned<N, S>>,
 ) -> Vec<Returned<N, S>>
@@ -183,7 +192,7 @@ fn run_all<N: Boarded, S: Shelf, K: Invariant, G: Gate + Sync, R: Threads + Wait
             ensures len { vec_len result ≡ vec_len shelves }
         {
             let threads = start_all(
-                scope, rt, alloc, store, service, bell, shelves, gate, threads,
+                scope, rt, alloc, store, service, bell, shelves, gate, picks, threads,
             );
             draw_for_all(rt, store, service);
             join_all(rt, threads, returned)
@@ -191,10 +200,37 @@ fn run_all<N: Boarded, S: Shelf, K: Invariant, G: Gate + Sync, R: Threads + Wait
     )
 }
 
-/// Compacts with one worker for each shelf, each in a thread of its own, until none of them finds
-/// anything left to reserve; answers what each has done, with its shelf, in the order of the
-/// shelves. These are forks of the store's, of any number; 1 to 8 are meant. The caller holds no
-/// guard of the store: this thread draws under the lock, and would wait for itself.
+/// A worker for each shelf, which takes what is picked, until none of them finds anything left to
+/// reserve. Where there is no memory for the answer nothing is done, and the shelves come back.
+fn run_picking<N: Boarded, S: Shelf, K: Invariant, G: Gate + Sync, R: Threads + Wait + Sync>(
+    rt: &R,
+    alloc: Global,
+    store: &Store<N, S, K>,
+    shelves: Vec<NamedShelf<N, S>>,
+    gate: &G,
+    picks: &Picks<'_>,
+) -> Result<Vec<Returned<N, S>>, AllocFailed<Vec<NamedShelf<N, S>>>>
+    requires kept { IsKeptByCompaction S.honest K.keeps }
+    ensures len { IfOk result (λ v. vec_len v ≡ vec_len shelves) }
+    ensures ends { IfOk result (λ v. All (λ r. IsWorkersEnd S.honest r.0) v.items) }
+    ensures returned { IfOk result (λ v.
+        AreReturned S.honest (S.refuses N.place) K.keeps shelves.items v.items) }
+    ensures back { IfErr result (λ e. e.value ≡ shelves) }
+{
+    let Ok(returned) = Vec::with_capacity(alloc, shelves.len()) else {
+        return Err(AllocFailed { value: shelves });
+    };
+    let Ok(threads) = Vec::with_capacity(alloc, shelves.len()) else {
+        return Err(AllocFailed { value: shelves });
+    };
+    Ok(run_all(rt, alloc, store, shelves, gate, picks, threads, returned))
+}
+
+/// Compacts with one worker for each shelf, each in a thread of its own, as the state chooses
+/// (`State::reserve`), until none of them finds anything left to reserve; answers what each has
+/// done, with its shelf, in the order of the shelves. These are forks of the store's, of any number;
+/// 1 to 8 are meant. The caller holds no guard of the store: this thread draws under the lock, and
+/// would wait for itself.
 ///
 /// A worker reserves under the lock, merges outside it, and installs under it. The numbers of its
 /// outputs are drawn under the lock too, by this thread. At a fault it cancels its ticket and ends,
@@ -225,13 +261,35 @@ pub fn run_workers_returning<
         AreReturned S.honest (S.refuses N.place) K.keeps shelves.items v.items) }
     ensures back { IfErr result (λ e. e.value ≡ shelves) }
 {
-    let Ok(returned) = Vec::with_capacity(alloc, shelves.len()) else {
-        return Err(AllocFailed { value: shelves });
-    };
-    let Ok(threads) = Vec::with_capacity(alloc, shelves.len()) else {
-        return Err(AllocFailed { value: shelves });
-    };
-    Ok(run_all(rt, alloc, store, shelves, gate, threads, returned))
+    run_picking(rt, alloc, store, shelves, gate, &Picks::Choice)
+}
+
+/// As `run_workers_returning`, but the workers compact a range of keys, level by level, and nothing
+/// else: until none of them finds files that meet the range at its levels, or all that it finds wait
+/// for a live job. It writes anew also what is not due; so deletions with nothing below them go, but
+/// where a snapshot needs them.
+pub fn run_workers_over<
+    N: Boarded,
+    S: Shelf,
+    K: Invariant,
+    G: Gate + Sync,
+    R: Threads + Wait + Sync,
+>(
+    rt: &R,
+    alloc: Global,
+    store: &Store<N, S, K>,
+    shelves: Vec<NamedShelf<N, S>>,
+    gate: &G,
+    manual: &ManualCompaction,
+) -> Result<Vec<Returned<N, S>>, AllocFailed<Vec<NamedShelf<N, S>>>>
+    requires kept { IsKeptByCompaction S.honest K.keeps }
+    ensures len { IfOk result (λ v. vec_len v ≡ vec_len shelves) }
+    ensures ends { IfOk result (λ v. All (λ r. IsWorkersEnd S.honest r.0) v.items) }
+    ensures returned { IfOk result (λ v.
+        AreReturned S.honest (S.refuses N.place) K.keeps shelves.items v.items) }
+    ensures back { IfErr result (λ e. e.value ≡ shelves) }
+{
+    run_picking(rt, alloc, store, shelves, gate, &Picks::Manual(manual))
 }
 
 /// As `run_workers_returning`, and the shelves are let go.
