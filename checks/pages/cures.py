@@ -10,7 +10,8 @@ Without LevelDB:
 - Locks: a folder that another program holds, by `flock` as goleveldb or by `fcntl` as LevelDB, is
   `refused 52 Locked`, and done once that has ended.
 - A manifest that was cut short: `check` tells the rest.
-- The commands of examples/README.md, and the picture of `levels`.
+- The commands of examples/README.md, and the picture of `levels`; what README says of `rt version`,
+  where there is a kit.
 
 With LevelDB, which is its library, by its C interface; the module plyvel of the lines is the one
 below:
@@ -27,6 +28,7 @@ import ctypes
 import ctypes.util
 import os
 import re
+import shutil
 import subprocess
 import sys
 import tempfile
@@ -168,6 +170,10 @@ def examples(folder):
     for command in commands:
         said = printed(f"{command.replace('/tmp/', 'tmp/')} || echo refused", folder)
         judge("refused" not in said, f"examples/README.md: {command}: {said}")
+    if shutil.which("rt"):
+        kit = re.search(r"`rt version` prints\s+`([\w-]+)`, a letter, and `(logic \w+)`", (TOP / "README.md").read_text())
+        said = printed("rt version", folder)
+        judge(re.fullmatch(rf"{kit[1]}[a-z] {kit[2]}", said) is not None, f"README.md: rt version prints {said}")
     picture = re.search(r"`(lsm levels [^`]* > [\w.]+)`", (TOP / "docs" / "COMMANDS.md").read_text())[1]
     printed("./" + picture.replace(" db ", " DIR "), folder)
     judge((folder / picture.split()[-1]).read_text().startswith("<svg"), f"{picture}: no picture")

@@ -4,7 +4,8 @@
 #   sessions.py   each command of their shell sessions is run in a scratch folder and prints what the
 #                 page says
 #   code.py       each line of Rattle that they show is a line of a source file in crates or of a
-#                 test; so in docs/CALLING.md, docs/PROVED.md and the CALLING.md of each crate
+#                 test; so in docs/CALLING.md, docs/PROVED.md and the CALLING.md of each crate; what
+#                 clients/README.md shows is of clients/examples
 #   commands.py   each command of the program that a page names is one, and so is each option of it;
 #                 the table of COMMANDS has all of them
 #   cures.py      what pages and refusals tell a user to do helps: against a lost CURRENT, old names,
@@ -34,7 +35,7 @@ export PYTHONDONTWRITEBYTECODE=1 LC_ALL=C.UTF-8
 pages=("$@") code=("$@")
 if [[ $# -eq 0 ]]; then
   pages=("$top/README.md" "$top/docs/COMMANDS.md" "$top"/docs/book/*.md)
-  code=("${pages[@]}" "$top/docs/CALLING.md" "$top/docs/PROVED.md" "$top"/crates/*/CALLING.md)
+  code=("${pages[@]}" "$top/docs/CALLING.md" "$top/docs/PROVED.md" "$top"/crates/*/CALLING.md "$top/clients/README.md")
 fi
 count() { # NAME COMMAND..: runs it, and adds its last line `N passed, M failed`
   local name=$1 said line
