@@ -50,13 +50,14 @@ OFFERS = (
 SHELLS = {
     "bash": (
         ["bash", "--norc", "--noprofile", "-i"],
-        "source {folder}/lsm.bash; show() {{ printf '%s' \"$READLINE_LINE\" > ../line; }}; "
+        "source {folder}/lsm.bash; "
+        "show() {{ printf '%s' \"$READLINE_LINE\" > ../new; mv ../new ../line; }}; "
         "bind -x '\"\\C-xp\": show'",
     ),
     "zsh": (
         ["zsh", "-f", "-i"],
         "fpath=({folder} $fpath); autoload -U compinit; compinit -u -D; setopt nobeep; "
-        "show() {{ print -rn -- $BUFFER > ../line }}; zle -N show; bindkey '^Xp' show",
+        "show() {{ print -rn -- $BUFFER > ../new; mv ../new ../line }}; zle -N show; bindkey '^Xp' show",
     ),
 }
 
@@ -89,7 +90,6 @@ class Terminal:
             os.remove("../line")
         self.type(typed + "\t\x18p")
         self.wait("../line")
-        time.sleep(0.05)
         with open("../line") as file:
             line = file.read()
         self.type("\x15")
