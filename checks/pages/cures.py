@@ -10,6 +10,8 @@ Without LevelDB:
 - Locks: a folder that another program holds, by `flock` as goleveldb or by `fcntl` as LevelDB, is
   `refused 52 Locked`, and done once that has ended.
 - A manifest that was cut short: `check` tells the rest.
+- A log: what reads tells of it, what writes is refused, `--beside-log` writes all the same, and
+  `compact` and `clean` leave it.
 - The commands of examples/README.md, and the picture of `levels`; what README says of `rt version`,
   where there is a kit.
 
@@ -20,6 +22,7 @@ below:
   LevelDB compressed; `lsm` refuses that one and reads the new one.
 - A log that is not flushed: `lsm put` is refused; once LevelDB has opened the folder without
   compression, all is read, and the put comes in.
+- A lost manifest: after LevelDB's `RepairDB` all is read.
 
 Where the library or the program is not there, what needs it is not judged.
 """
@@ -44,6 +47,11 @@ for name in ("options_create", "readoptions_create", "writeoptions_create", "ope
     getattr(lib, "leveldb_" + name).restype = ctypes.c_void_p
 lib.leveldb_iter_valid.restype = ctypes.c_ubyte
 lib.leveldb_iter_key.restype = lib.leveldb_iter_value.restype = ctypes.POINTER(ctypes.c_char)
+
+def repair_db(path):
+    error = ctypes.c_char_p()
+    lib.leveldb_repair_db(ctypes.c_void_p(lib.leveldb_options_create()), path.encode(), ctypes.byref(error))
+    assert error.value is None, error.value
 
 class DB:
     def __init__(self, path, compression="snappy"):
@@ -162,6 +170,18 @@ def cut_manifest(folder):
     judge(rest is not None and int(rest[1]) > 0, "check does not tell a rest")
 
 
+def beside_log(folder):
+    begin(folder, "beside")
+    printed("echo write > beside/000009.log", folder)
+    judge(re.search(r"^log 000009\.log ", printed("./lsm check beside", folder), re.M) is not None, "check does not print a log")
+    for command in ("list beside", "get beside 61", "scan beside"):
+        judge("000009.log" in printed(f"./lsm {command} 2>&1 > /dev/null", folder), f"{command} does not name a log")
+    judge("refused 51 UnflushedLog 9" in printed("./lsm put beside 63 33", folder), "a put beside a log is not refused")
+    judge(printed("./lsm put beside 63 33 --beside-log", folder).startswith("file "), "--beside-log does not write")
+    said = printed("./lsm compact beside && ./lsm clean beside && cat beside/000009.log", folder)
+    judge(said.endswith("write"), f"compact or clean beside a log: {said}")
+
+
 def examples(folder):
     (folder / "examples").symlink_to(TOP / "examples")
     commands = re.findall(r"`(\./lsm [^`]*)`", (TOP / "examples" / "README.md").read_text())
@@ -180,7 +200,6 @@ def examples(folder):
 
 
 def compressed(folder):
-    (folder / "plyvel.py").write_text(PLYVEL)
     part = (TOP / "docs" / "COMMANDS.md").read_text().split("## Compressed tables", 1)[1]
     cure = re.search(r"^```text\n(.*?)^```", part, re.S | re.M)[1]
     fill(folder, "old", PAIRS, "db.compact_range()\n")
@@ -197,17 +216,26 @@ def logged(folder):
     judge(printed("./lsm scan logged --count", folder) == "101", "an opening without compression does not flush the log")
 
 
+def repaired(folder):
+    begin(folder, "broken")
+    printed("rm broken/CURRENT broken/MANIFEST-*", folder)
+    judge(printed("./lsm scan broken", folder).startswith("refused 10 Missing"), "a lost manifest is not refused")
+    printed("python3 -c \"import plyvel; plyvel.repair_db('broken')\"", folder)
+    judge(printed("./lsm scan broken", folder) == "61=31\n62=32", f"RepairDB does not cure: {printed('./lsm scan broken', folder)}")
+
+
 if not works(sys.argv[1]):
     print("cures: not run, for want of a program\n0 passed, 0 failed")
     sys.exit(0)
-parts = [lost_current, old_names, full_batch, locks, cut_manifest, examples]
+parts = [lost_current, old_names, full_batch, locks, cut_manifest, beside_log, examples]
 if ctypes.util.find_library("leveldb") is None:
     print("cures: compressed tables and logs not tried, for want of LevelDB's library")
 else:
-    parts += [compressed, logged]
+    parts += [compressed, logged, repaired]
 with tempfile.TemporaryDirectory() as scratch:
     folder = Path(scratch)
     (folder / "lsm").symlink_to(Path(sys.argv[1]).resolve())
+    (folder / "plyvel.py").write_text(PLYVEL)
     for part in parts:
         part(folder)
 print(f"{passed} passed, {failed} failed")
