@@ -1,9 +1,12 @@
 -- Wires, as they are made, and as they come back.
-use Rattle.std.proofs.Common.{◌≡◌, ℕ, suc, ◌+◌, ℤ, pos, List, [], ◌∷◌, ◌++◌, length, map, All, Option, None, Some, refl, sym, ap, ◌∙◌, subst, arith}
+use Rattle.std.proofs.Common.{◌≡◌, ℕ, suc, ◌+◌, ℤ, pos, Bool, true, false, List, [], ◌∷◌, ◌++◌, length, map, All, Option, None, Some, refl, sym, ap, ◌∙◌, subst, arith}
 use Rattle.std.specs.Prelude.{IfSome, reverse}
-use Rattle.std.specs.Option.{option_map}
+use Rattle.std.specs.Prelude.{◌&&◌}
+use Rattle.std.specs.List.{list_all}
+use Rattle.std.specs.Option.{is_some, option_map}
 use Rattle.std.proofs.lemmas.List.Elements.{All-cons, All-head, All-nil, All-tail}
 use Rattle.std.proofs.lemmas.List.{append-nil, append_assoc, map-append, nil_from_length, reverse-append}
+use Rattle.std.proofs.lemmas.List.Folds.{list_all-append}
 use Rattle.lsm_wire.specs.Happenings.{Happening}
 use Rattle.lsm_channels.specs.Serving.{AreBack, AreServedBy, End, IsBack, end, ends_from, opened_from}
 
@@ -77,14 +80,52 @@ back_all {T} {W} seen Serves given done all ts rest none parts back =
     let same : done ≡ all = sym (append-nil done) ∙ ap (λ (us : List T). done ++ reverse (map given us)) (sym none) ∙ parts in
     subst (λ (ws : List W). AreBack Serves (map seen ws) (map (option_map seen) rest)) same back
 
+-- ---- which threads were made
+
+swap : (a b c : Bool) → ((a && (c && true)) && b) ≡ (a && (b && (c && true)))
+swap false b c = refl
+swap true false false = refl
+swap true false true = refl
+swap true true false = refl
+swap true true true = refl
+
+-- the last one was joined, and its wire came back if it was made
+pub joined_made : {T X : Type 0} (p : T → Bool) (q : X → Bool) (done : List X) (ts ts' : List T) (t : T) (x : X) (all : Bool) → (list_all q done && list_all p ts) ≡ all → ts ≡ ts' ++ t ∷ [] → q x ≡ p t
+    → (list_all q (done ++ x ∷ []) && list_all p ts') ≡ all
+joined_made p q done ts ts' t x all before pop same =
+    ap (λ (b : Bool). b && list_all p ts') (list_all-append q done (x ∷ [])) ∙ ap (λ (b : Bool). (list_all q done && (b && true)) && list_all p ts') same ∙ swap (list_all q done) (list_all p ts') (p t)
+    ∙ ap (λ (b : Bool). list_all q done && b) (sym (list_all-append p ts' (t ∷ []))) ∙ ap (λ (us : List _). list_all q done && list_all p us) (sym pop) ∙ before
+
+and_true : (b : Bool) → (b && true) ≡ b
+and_true false = refl
+and_true true = refl
+
+pub joined_all : {T X : Type 0} (p : T → Bool) (q : X → Bool) (done : List X) (ts : List T) (all : Bool) → (list_all q done && list_all p ts) ≡ all → ts ≡ [] → list_all q done ≡ all
+joined_all p q done ts all parts none = sym (and_true (list_all q done)) ∙ ap (λ (us : List _). list_all q done && list_all p us) (sym none) ∙ parts
+
+made_seen : {W : Type 0} (seen : W → End) (rs : List (Option W)) → list_all is_some (map (option_map seen) rs) ≡ list_all is_some rs
+made_seen seen [] = refl
+made_seen seen (None ∷ rs) = refl
+made_seen seen (Some r ∷ rs) = made_seen seen rs
+
 -- the first channel's wire, and those behind it
-pub served_all : {W : Type 0} (seen : W → End) (First Serves : Relates) (first back : W) (given others : List W) (none one rest all : List (Option W)) → none ≡ [] → one ≡ none ++ Some back ∷ []
-    → all ≡ one ++ rest → given ≡ others → (seen back).descriptor ≡ (seen first).descriptor → First (seen first).happened (seen back).happened
-    → AreBack Serves (map seen (reverse given)) (map (option_map seen) rest) → AreServedBy First Serves (map seen (first ∷ reverse others)) (map (option_map seen) all)
-served_all {W} seen First Serves first back given others none one rest all empty push behind same descriptor served backs =
+pub served_all : {W : Type 0} (seen : W → End) (First : Bool → Relates) (Serves : Relates) (first back : W) (given others : List W) (none one rest all : List (Option W)) (made : Bool) → none ≡ []
+    → one ≡ none ++ Some back ∷ [] → all ≡ one ++ rest → given ≡ others → list_all is_some rest ≡ made → (seen back).descriptor ≡ (seen first).descriptor
+    → First made (seen first).happened (seen back).happened → AreBack Serves (map seen (reverse given)) (map (option_map seen) rest)
+    → AreServedBy First Serves (map seen (first ∷ reverse others)) (map (option_map seen) all)
+served_all {W} seen First Serves first back given others none one rest all made empty push behind same threads descriptor served backs =
     let parts : all ≡ Some back ∷ rest = behind ∙ ap (λ (rs : List (Option W)). rs ++ rest) (push ∙ ap (λ (rs : List (Option W)). rs ++ Some back ∷ []) empty) in
-    subst (λ (rs : List (Option W)). AreServedBy First Serves (map seen (first ∷ reverse others)) (map (option_map seen) rs)) (sym parts)
-    ((descriptor, served), subst (λ (ws : List W). AreBack Serves (map seen (reverse ws)) (map (option_map seen) rest)) same backs)
+    let is_made : made ≡ list_all is_some (map (option_map seen) rest) = sym threads ∙ sym (made_seen seen rest) in
+    subst (λ (rs : List (Option W)). AreServedBy First Serves (map seen (first ∷ reverse others)) (map (option_map seen) rs)) (sym parts) (
+      (descriptor, subst (λ (b : Bool). First b (seen first).happened (seen back).happened) is_made served),
+      subst (λ (ws : List W). AreBack Serves (map seen (reverse ws)) (map (option_map seen) rest)) same backs,
+    )
+
+-- the channels are those that were paired with the wires
+pub served_wires : {C W : Type 0} (seen : W → End) (wire : C → W) (First : Bool → Relates) (Serves : Relates) (paired others : List C) (first : C) (wires : List W) (rs : List (Option End))
+    → paired ≡ others ++ first ∷ [] → reverse (map wire paired) ≡ wires → AreServedBy First Serves (map seen (wire first ∷ reverse (map wire others))) rs → AreServedBy First Serves (map seen wires) rs
+served_wires {C} {W} seen wire First Serves paired others first wires rs pop all served =
+    subst (λ (ws : List W). AreServedBy First Serves (map seen ws) rs) (sym (ap (λ (cs : List C). reverse (map wire cs)) pop ∙ last_first wire others first) ∙ all) served
 
 -- ---- what holds of each
 

@@ -7,7 +7,8 @@ use Rattle.lsm_folder.specs.Calls.{Call, opened}
 use Rattle.lsm_frames.specs.Answers.{IsRefused}
 use Rattle.lsm_frames.specs.Openings.{IsOpening, Opened}
 use Rattle.lsm_shelf.specs.Asked.{Asked}
-use Rattle.lsm_shelf.specs.Told.{Told}
+use Rattle.lsm_shelf.specs.Place.{IsAtPath, Place}
+use Rattle.lsm_shelf.specs.Told.{fresh}
 use Rattle.lsm_shelf.specs.declared.shelf_fault.ShelfFault.{ShelfFault}
 use Rattle.lsm_text.specs.declared.form.Form.TheVariants.{Hex}
 use Rattle.lsm_requests.specs.declared.ingest_options.IngestOptions.{IngestOptions}
@@ -50,18 +51,20 @@ IsFound Holds before = (start : Start) × (files : List FolderFile) × (after : 
 abbrev pub IsMet : (make refuse : Bool) → List Call → Type 0
 IsMet make refuse before = IsFound (λ start. IsAllowed start make refuse) before
 
--- A folder was served over these wires, to the end of each: it was locked and looked at, what there
--- is was to be opened, or begun, and that database was served.
+-- The folder of an opening was served over these wires, to the end of each: it was locked and looked
+-- at, what there is was to be opened, or begun, and that database was served.
 pub record IsFolderServed (Honest : Type 0) (Refused : Asked → ShelfFault → Type 0)
-    (gives : List ℕ → Type 0) (channels : ℕ) (make refuse : Bool) (before : List Call)
-    (ws : List End) (rs : List (Option End)) : Type 0 where
+    (gives : List ℕ → Type 0) (o : Opened) (before : List Call) (ws : List End)
+    (rs : List (Option End)) : Type 0 where
   pub start : Start
   pub logs : List FolderFile
   pub after : List Call
   pub prepared : IsPrepared looking start logs before after
-  pub allowed : IsAllowed start make refuse
-  pub was : Told
-  pub served : IsDatabaseServed Honest Refused gives (options_for channels) start logs was ws rs
+  pub allowed : IsAllowed start o.make o.refuse
+  pub place : Place
+  pub at : IsAtPath o.path place
+  pub served : IsDatabaseServed Honest Refused gives (options_for o.channels) start logs
+      (fresh place) ws rs
 
 -- Why a folder is not served: it was not locked, or the looking stopped; what there is was not to
 -- be opened, or begun; or it was, and the store refused, or a thread could not be made.
@@ -121,8 +124,8 @@ IsContentServed Honest Refused gives content (RefusedOn w) was is =
     × ((made : List ℤ) × AreMadeFor content made × (is ≡ w.descriptor ∷ (made ++ was)))
 IsContentServed Honest Refused gives content (ServedTo rs) was is =
     (o : Opened) × IsOpening content o
-    × IsFolderServed Honest Refused gives o.channels o.make o.refuse (opened
-    ∷ []) (ends_from o.first o.channels) rs × (is ≡ opened_from o.first o.channels ++ was)
+    × IsFolderServed Honest Refused gives o (opened ∷ []) (ends_from o.first o.channels) rs
+    × (is ≡ opened_from o.first o.channels ++ was)
 
 -- One run: what happened at descriptor 0, how it ended, and of which descriptors wires were made,
 -- the last one first. No opening came, and nothing was done; or one came, and nothing more was read

@@ -1,7 +1,8 @@
 -- How channels are served (docs/PROTOCOL.md, this project's rule).
 use Rattle.std.specs.Prelude.{◌≡◌, ◌⊎◌, ⊤, ℕ, zero, suc, ◌+◌, ℤ, pos, Bool, true, false, List, []}
 use Rattle.std.specs.Prelude.{◌∷◌, ◌++◌, Option, None, Some}
-use Rattle.lsm_codec.specs.Entries.{Entry}
+use Rattle.std.specs.List.{list_all}
+use Rattle.std.specs.Option.{is_some}
 use Rattle.lsm_frames.specs.Answers.{Nothing}
 use Rattle.lsm_frames.specs.Requests.{Asked}
 use Rattle.lsm_shelf.specs.Asked as shelf
@@ -61,9 +62,9 @@ IsServedOn Honest Refused keeps true was is = IsServed Honest Refused keeps was 
 IsServedOn Honest Refused keeps false was is = is ≡ was
 
 abbrev pub IsServedFirst : Type 0 → (shelf.Asked → ShelfFault → Type 0) → (Held → Type 0)
-    → (was is : List Happening) → Type 0
-IsServedFirst Honest Refused keeps was is =
-    (made : Bool) × (goes_on : Bool) × (mid : List Happening) × SaysOpen made goes_on was mid
+    → (made : Bool) → (was is : List Happening) → Type 0
+IsServedFirst Honest Refused keeps made was is =
+    (goes_on : Bool) × (mid : List Happening) × SaysOpen made goes_on was mid
     × IsServedOn Honest Refused keeps goes_on mid is
 
 -- ---- all channels
@@ -104,12 +105,18 @@ abbrev pub IsFirstBack : (List Happening → List Happening → Type 0) → End 
 IsFirstBack Serves w None = ⊥
 IsFirstBack Serves w (Some r) = (r.descriptor ≡ w.descriptor) × Serves w.happened r.happened
 
--- The first channel was served, and each other one for which a thread could be made.
-abbrev pub AreServedBy : (First Serves : List Happening → List Happening → Type 0) → List End
-    → List (Option End) → Type 0
+-- the thread of each of these could be made
+abbrev pub are_made : List (Option End) → Bool
+are_made rs = list_all is_some rs
+
+-- The first channel was served, as goes with whether a thread could be made for each other one; and
+-- each other one for which one could.
+abbrev pub AreServedBy : (First : Bool → List Happening → List Happening → Type 0)
+    → (Serves : List Happening → List Happening → Type 0) → List End → List (Option End) → Type 0
 AreServedBy First Serves [] rs = ⊥
 AreServedBy First Serves (w ∷ ws) [] = ⊥
-AreServedBy First Serves (w ∷ ws) (r ∷ rs) = IsFirstBack First w r × AreBack Serves ws rs
+AreServedBy First Serves (w ∷ ws) (r ∷ rs) =
+    IsFirstBack (First (are_made rs)) w r × AreBack Serves ws rs
 
 abbrev pub AreServed : Type 0 → (shelf.Asked → ShelfFault → Type 0) → (Held → Type 0) → List End
     → List (Option End) → Type 0

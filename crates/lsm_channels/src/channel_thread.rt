@@ -1,7 +1,7 @@
 //! The thread of a channel.
 
 ghost use Rattle.std.specs.Prelude.{◌≡◌, IfSome};
-ghost use Rattle.std.specs.Option.{ForSome};
+ghost use Rattle.std.specs.Option.{ForSome, is_some};
 ghost use Rattle.lsm_channels.specs.Serving.{IsServed};
 
 use lsm_slots::Boarded;
@@ -47,12 +47,15 @@ pub(crate) struct Thread<N: Boarded, S: Shelf, K: Invariant, W: Wire> {
 
 impl<N: Boarded, S: Shelf, K: Invariant, W: Wire> Thread<N, S, K, W> {
     /// Whether it could be made.
-    pub(crate) fn is_made(&self) -> bool {
+    pub(crate) fn is_made(&self) -> bool
+        ensures { result ≡ is_some self.now.handle }
+    {
         self.handle.is_some()
     }
 
     /// Waits for the end of the channel: its wire, if the thread could be made.
     pub(crate) fn join<R: Threads>(self, rt: &R) -> Option<W>
+        ensures made { is_some result ≡ is_some self.handle }
         ensures same { IfSome result (λ w. W.descriptor w ≡ W.descriptor self.given.value) }
         ensures served { IfSome result (λ w. IsServed S.honest (S.refuses N.place) K.keeps
             (W.happened self.given.value) (W.happened w)) }

@@ -3,6 +3,7 @@
 ghost use Rattle.std.specs.Prelude.{◌≡◌, ◌≤◌, ◌⊎◌, ◌∷◌, ◌++◌, [], IfErr, IfOk, OnErr, OnOk, map};
 ghost use Rattle.std.specs.Option.{option_map};
 ghost use Rattle.lsm_folder.specs.Calls.{AreHonest, opened};
+ghost use Rattle.lsm_shelf.specs.Place.{IsAtPath};
 ghost use Rattle.lsm_shelf.specs.Refusals.{MayRefuse};
 ghost use Rattle.lsm_frames.specs.OpeningView.{opened_of};
 ghost use Rattle.lsm_frames.specs.Openings.{FitsOpened};
@@ -80,10 +81,12 @@ fn serve_folder<
 ) -> Result<Vec<Option<W>>, OpeningFault>
 where
     C::Mark: Send + Sync,
+    requires channels { plan.channels ≡ opening.now.channels }
     requires some { 1 ≤ plan.channels }
     requires few { plan.channels ≤ 62 }
+    requires at { IsAtPath opening.now.path.now (C.place folder) }
     ensures served { IfOk result (λ v. IsFolderServed (AreHonest C.calls) MayRefuse W.gives
-        plan.channels opening.now.make opening.now.refuse (C.calls folder)
+        (opened_of opening.now) (C.calls folder)
         (map (λ w. end (W.descriptor w) (W.happened w)) wires.items)
         (map (option_map (λ w. end (W.descriptor w) (W.happened w))) v.items)) }
     ensures refused { IfErr result
@@ -113,19 +116,24 @@ fn serve_path<C: FolderCalls + Send + Sync, P: Paths<C>, W: Wire + Send, R: Thre
 ) -> Result<Vec<Option<W>>, OpeningFault>
 where
     C::Mark: Send + Sync,
+    requires channels { plan.channels ≡ opening.now.channels }
     requires some { 1 ≤ plan.channels }
     requires few { plan.channels ≤ 62 }
     ensures served { IfOk result (λ v. IsFolderServed (AreHonest C.calls) MayRefuse W.gives
-        plan.channels opening.now.make opening.now.refuse (opened ∷ [])
+        (opened_of opening.now) (opened ∷ [])
         (map (λ w. end (W.descriptor w) (W.happened w)) wires.items)
         (map (option_map (λ w. end (W.descriptor w) (W.happened w))) v.items)) }
 {
     let Ok(reasons) = Reasons::new(paths.alloc()) else {
         return Err(OpeningFault::Folder(WriterFault::OutOfMemory));
     };
-    match open_at(paths, opening.path, &reasons) {
-        Ok(folder) => serve_folder(rt, paths, folder, opening, plan, wires),
-        Err(fault) => Err(OpeningFault::Folder(WriterFault::Directory(fault))),
+    let folder = match open_at(paths, opening.path, &reasons) {
+        Ok(folder) => folder,
+        Err(fault) => return Err(OpeningFault::Folder(WriterFault::Directory(fault))),
+    };
+    match serve_folder(rt, paths, folder, opening, plan, wires) {
+        Ok(wires) => Ok(wires),
+        Err(fault) => Err(fault),
     }
 }
 
@@ -141,7 +149,7 @@ where
     D::Wire: Send,
     requires { FitsOpened (opened_of opening.now) }
     ensures served { IfOk result (λ v. IsFolderServed (AreHonest C.calls) MayRefuse D.Wire.gives
-        opening.now.channels opening.now.make opening.now.refuse (opened ∷ [])
+        (opened_of opening.now) (opened ∷ [])
         (ends_from opening.now.first_channel opening.now.channels)
         (map (option_map (λ w. end (D.Wire.descriptor w) (D.Wire.happened w))) v.items)) }
     ensures opened { OnOk result (D.opened descriptors.new ≡ opened_from
@@ -158,7 +166,10 @@ where
     let Ok(wires) = open_wires(paths.alloc(), descriptors, first, plan.channels) else {
         return Err(OpeningFault::Folder(WriterFault::OutOfMemory));
     };
-    serve_path(rt, paths, opening, plan, wires)
+    match serve_path(rt, paths, opening, plan, wires) {
+        Ok(wires) => Ok(wires),
+        Err(fault) => Err(fault),
+    }
 }
 
 /// Answers an opening that is refused, on the first channel.
@@ -225,9 +236,13 @@ where
         (D.opened descriptors.old) (D.opened descriptors.new) }
 {
     let mut wire = descriptors.wire(OPENING);
-    let ended = match wire.read(paths.alloc()) {
-        Incoming::Content(content) => serve_content(rt, paths, descriptors, &content),
-        Incoming::Misfit | Incoming::End | Incoming::Unheld => Ended::Unopened,
-    };
-    (wire, ended)
+    match wire.read(paths.alloc()) {
+        Incoming::Content(content) => {
+            let ended = serve_content(rt, paths, descriptors, &content);
+            (wire, ended)
+        }
+        Incoming::Misfit => (wire, Ended::Unopened),
+        Incoming::End => (wire, Ended::Unopened),
+        Incoming::Unheld => (wire, Ended::Unopened),
+    }
 }

@@ -2,7 +2,8 @@
 
 ghost use Rattle.std.specs.Prelude.{◌≡◌, ◌≤◌, ◌+◌, ◌++◌, List, [], ◌∷◌, All, IfOk, Option};
 ghost use Rattle.std.specs.Prelude.{map, reverse, vec_capacity, vec_len};
-ghost use Rattle.std.specs.Option.{option_map};
+ghost use Rattle.std.specs.List.{list_all};
+ghost use Rattle.std.specs.Option.{is_some, option_map};
 ghost use Rattle.lsm_channels.specs.Keeping.{IsKeptByRequests, IsKeptQuietly};
 ghost use Rattle.lsm_channels.specs.Serving.{AreBack, AreServed, IsDatabaseServed, IsFresh};
 ghost use Rattle.lsm_channels.specs.Serving.{IsServed, IsServedFirst, SaysOpen, end};
@@ -106,7 +107,9 @@ fn start_all<
 }
 
 /// Whether each of these threads could be made.
-fn are_made<N: Boarded, S: Shelf, K: Invariant, W: Wire>(threads: &[Thread<N, S, K, W>]) -> bool {
+fn are_made<N: Boarded, S: Shelf, K: Invariant, W: Wire>(threads: &[Thread<N, S, K, W>]) -> bool
+    ensures { result ≡ list_all (λ t. is_some t.handle) threads.now }
+{
     threads.iter().all(|thread| thread.is_made())
 }
 
@@ -119,6 +122,7 @@ fn join_all<N: Boarded, S: Shelf, K: Invariant, W: Wire, R: Threads + Wait>(
     requires one { vec_len wires ≡ 1 }
     requires room { vec_len threads + 1 ≤ vec_capacity wires }
     ensures back { (rest : List (Option W)) × (result.items ≡ wires.items ++ rest)
+        × (list_all is_some rest ≡ list_all (λ t. is_some t.handle) threads.items)
         × AreBack (IsServed S.honest (S.refuses N.place) K.keeps)
         (map (λ w. end (W.descriptor w) (W.happened w))
         (reverse (map (λ t. t.given.value) threads.items)))
@@ -161,7 +165,7 @@ fn serve_first<N: Boarded, S: Shelf, K: Invariant, W: Wire, R: Threads + Wait + 
     requires asked { IsKeptByRequests (S.refuses N.place) W.gives K.keeps }
     requires fresh { IsFresh K.keeps first.session }
     ensures same { W.descriptor result ≡ W.descriptor first.wire }
-    ensures served { IsServedFirst S.honest (S.refuses N.place) K.keeps
+    ensures served { IsServedFirst S.honest (S.refuses N.place) K.keeps are_served
         (W.happened first.wire) (W.happened result) }
 {
     let Channel { session, mut wire } = first;
@@ -178,9 +182,52 @@ fn serve_first<N: Boarded, S: Shelf, K: Invariant, W: Wire, R: Threads + Wait + 
     wire
 }
 
-/// Serves the first channel in this thread, and each other one in a thread of its own, until all
+/// Serves the first channel in this thread, and each other one in a thread of this scope, until all
 /// have ended. Before the first request is read it is said that all are served. The others are
 /// given the last one first; there is room for threads and for wires.
+fn serve_within<
+    's,
+    'e,
+    N: Boarded,
+    S: Shelf,
+    K: Invariant,
+    W: Wire + Send + 'e,
+    R: Threads + Wait + Sync,
+>(
+    scope: &'s Scope<'s, &'e ()>,
+    rt: &'e R,
+    alloc: Global,
+    store: &'e Store<N, S, K>,
+    background: &'e Background,
+    first: Channel<N, S, W>,
+    others: Vec<Channel<N, S, W>>,
+    threads: Vec<Thread<N, S, K, W>>,
+    wires: Vec<Option<W>>,
+) -> Vec<Option<W>>
+    requires quiet { IsKeptQuietly S.honest K.keeps }
+    requires asked { IsKeptByRequests (S.refuses N.place) W.gives K.keeps }
+    requires fresh { IsFresh K.keeps first.session
+        × All (λ c. IsFresh K.keeps c.session) others.items }
+    requires none { (threads.items ≡ []) × (vec_len threads ≡ 0)
+        × (wires.items ≡ []) × (vec_len wires ≡ 0) }
+    requires room { (vec_len others ≤ vec_capacity threads)
+        × (vec_len others + 1 ≤ vec_capacity wires) }
+    ensures { AreServed S.honest (S.refuses N.place) K.keeps
+        (map (λ w. end (W.descriptor w) (W.happened w))
+        (first.wire ∷ reverse (map (λ c. c.wire) others.items)))
+        (map (option_map (λ w. end (W.descriptor w) (W.happened w))) result.items) }
+{
+    let threads = start_all(scope, rt, alloc, store, background, others, threads);
+    let are_served = are_made(&threads);
+    let first = serve_first(rt, alloc, store, background, first, are_served);
+    let mut wires = wires;
+    let Ok(()) = wires.push(Some(first)) else {
+        unreachable!()
+    };
+    join_all(rt, threads, wires)
+}
+
+/// So, in a scope that ends with the last thread.
 fn serve_all<'e, N: Boarded, S: Shelf, K: Invariant, W: Wire + Send + 'e, R: Threads + Wait + Sync>(
     rt: &'e R,
     alloc: Global,
@@ -221,14 +268,9 @@ fn serve_all<'e, N: Boarded, S: Shelf, K: Invariant, W: Wire + Send + 'e, R: Thr
                 (first.wire ∷ reverse (map (λ c. c.wire) others.items)))
                 (map (option_map (λ w. end (W.descriptor w) (W.happened w))) result.items) }
         {
-            let threads = start_all(scope, rt, alloc, store, background, others, threads);
-            let are_served = are_made(&threads);
-            let first = serve_first(rt, alloc, store, background, first, are_served);
-            let mut wires = wires;
-            let Ok(()) = wires.push(Some(first)) else {
-                unreachable!()
-            };
-            join_all(rt, threads, wires)
+            serve_within(
+                scope, rt, alloc, store, background, first, others, threads, wires,
+            )
         },
     )
 }
@@ -261,9 +303,64 @@ fn pair_all<N: Boarded, S: Shelf, K: Invariant, W: Wire>(
     channels
 }
 
-/// Serves what is open beside its workers, over these wires, until each channel has ended.
+/// Serves channels beside a worker for each of these shelves, until each channel has ended.
 /// `OutOfMemory` where workers could not be had; then nothing was said on a channel.
 #[tactic(auto, using(crate::proofs::KeepingLaws::quiet_compaction))]
+fn serve_beside<N: Boarded, S: Shelf, K: Invariant, W: Wire + Send, R: Threads + Wait + Sync>(
+    rt: &R,
+    alloc: Global,
+    store: &Store<N, S, K>,
+    shelves: Vec<NamedShelf<N, S>>,
+    first: Channel<N, S, W>,
+    others: Vec<Channel<N, S, W>>,
+    threads: Vec<Thread<N, S, K, W>>,
+    back: Vec<Option<W>>,
+) -> Result<Vec<Option<W>>, WriterFault>
+    requires quiet { IsKeptQuietly S.honest K.keeps }
+    requires asked { IsKeptByRequests (S.refuses N.place) W.gives K.keeps }
+    requires fresh { IsFresh K.keeps first.session
+        × All (λ c. IsFresh K.keeps c.session) others.items }
+    requires none { (threads.items ≡ []) × (vec_len threads ≡ 0)
+        × (back.items ≡ []) × (vec_len back ≡ 0) }
+    requires room { (vec_len others ≤ vec_capacity threads)
+        × (vec_len others + 1 ≤ vec_capacity back) }
+    ensures { IfOk result (λ v. AreServed S.honest (S.refuses N.place) K.keeps
+        (map (λ w. end (W.descriptor w) (W.happened w))
+        (first.wire ∷ reverse (map (λ c. c.wire) others.items)))
+        (map (option_map (λ w. end (W.descriptor w) (W.happened w))) v.items)) }
+{
+    let run = with_workers(
+        rt,
+        alloc,
+        store,
+        shelves,
+        &NoGate,
+        move |background: &Background| -> Vec<Option<W>>
+            requires quiet { IsKeptQuietly S.honest K.keeps }
+            requires asked { IsKeptByRequests (S.refuses N.place) W.gives K.keeps }
+            requires fresh { IsFresh K.keeps first.session
+                × All (λ c. IsFresh K.keeps c.session) others.items }
+            requires none { (threads.items ≡ []) × (vec_len threads ≡ 0)
+                × (back.items ≡ []) × (vec_len back ≡ 0) }
+            requires room { (vec_len others ≤ vec_capacity threads)
+                × (vec_len others + 1 ≤ vec_capacity back) }
+            ensures { AreServed S.honest (S.refuses N.place) K.keeps
+                (map (λ w. end (W.descriptor w) (W.happened w))
+                (first.wire ∷ reverse (map (λ c. c.wire) others.items)))
+                (map (option_map (λ w. end (W.descriptor w) (W.happened w))) result.items) }
+        { serve_all(rt, alloc, store, background, first, others, threads, back) },
+    );
+    match run {
+        Ok((wires, _ends)) => Ok(wires),
+        Err(refused) => {
+            drop(refused);
+            Err(WriterFault::OutOfMemory)
+        }
+    }
+}
+
+/// Serves what is open beside its workers, over these wires, until each channel has ended.
+/// `OutOfMemory` where memory or workers could not be had; then nothing was said on a channel.
 fn serve_opened<N: Boarded, S: Shelf, K: Invariant, W: Wire + Send, R: Threads + Wait + Sync>(
     rt: &R,
     alloc: Global,
@@ -282,7 +379,6 @@ fn serve_opened<N: Boarded, S: Shelf, K: Invariant, W: Wire + Send, R: Threads +
         sessions,
         shelves,
     } = opened;
-    let store = &store;
     let channels = Vec::with_capacity(alloc, wires.len())?;
     let threads = Vec::with_capacity(alloc, wires.len())?;
     let back = Vec::with_capacity(alloc, wires.len())?;
@@ -293,28 +389,10 @@ fn serve_opened<N: Boarded, S: Shelf, K: Invariant, W: Wire + Send, R: Threads +
     let Some(first) = others.pop() else {
         return Err(WriterFault::OutOfMemory);
     };
-    let (wires, _ends) = with_workers(
-        rt,
-        alloc,
-        store,
-        shelves,
-        &NoGate,
-        move |background| -> Vec<Option<W>>
-            requires quiet { IsKeptQuietly S.honest K.keeps }
-            requires asked { IsKeptByRequests (S.refuses N.place) W.gives K.keeps }
-            requires fresh { IsFresh K.keeps first.session
-                × All (λ c. IsFresh K.keeps c.session) others.items }
-            requires none { (threads.items ≡ []) × (vec_len threads ≡ 0)
-                × (back.items ≡ []) × (vec_len back ≡ 0) }
-            requires room { (vec_len others ≤ vec_capacity threads)
-                × (vec_len others + 1 ≤ vec_capacity back) }
-            ensures { AreServed S.honest (S.refuses N.place) K.keeps
-                (map (λ w. end (W.descriptor w) (W.happened w))
-                (first.wire ∷ reverse (map (λ c. c.wire) others.items)))
-                (map (option_map (λ w. end (W.descriptor w) (W.happened w))) result.items) }
-        { serve_all(rt, alloc, store, background, first, others, threads, back) },
-    )?;
-    Ok(wires)
+    match serve_beside(rt, alloc, &store, shelves, first, others, threads, back) {
+        Ok(wires) => Ok(wires),
+        Err(fault) => Err(fault),
+    }
 }
 
 /// Puts a state behind a lock that keeps a fact, and serves it over these wires.
@@ -357,7 +435,10 @@ fn serve_named<N: Boarded, S: Shelf, W: Wire + Send, R: Threads + Wait + Sync>(
         (map (option_map (λ w. end (W.descriptor w) (W.happened w))) v.items)) }
 {
     let state = start_with(rt, alloc, shelf, prepared, parts)?;
-    serve_state::<N, S, Brand, W, R>(rt, alloc, state, shelf, plan.workers, wires)
+    match serve_state::<N, S, Brand, W, R>(rt, alloc, state, shelf, plan.workers, wires) {
+        Ok(wires) => Ok(wires),
+        Err(fault) => Err(fault),
+    }
 }
 
 /// The same under the name that was picked for the parts and the shelf, which is given back.
@@ -372,7 +453,7 @@ fn serve_as<N: Boarded, S: Shelf, W: Wire + Send, R: Threads + Wait + Sync>(
 ) -> (Result<Vec<Option<W>>, WriterFault>, S)
     requires parts { AreOf parts.options N.registry N.board N.history parts }
     requires shelf { (S.told shelf).place ≡ N.place }
-    ensures { IfOk result.0 (λ v. IsDatabaseServed S.honest (S.refuses (S.told shelf).place)
+    ensures { IfOk result.0 (λ v. IsDatabaseServed S.honest (S.refuses N.place)
         W.gives parts.options prepared.now.start prepared.now.logs.items (S.told shelf)
         (map (λ w. end (W.descriptor w) (W.happened w)) wires.items)
         (map (option_map (λ w. end (W.descriptor w) (W.happened w))) v.items)) }

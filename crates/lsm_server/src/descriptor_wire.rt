@@ -2,9 +2,7 @@
 
 ghost use Rattle.std.specs.Prelude.{◌≡◌, []};
 
-
 use crate::log::Log;
-
 use lsm_frames::request_length;
 use lsm_wire::{Incoming, Wire};
 use std::alloc::Global;
