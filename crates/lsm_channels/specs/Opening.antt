@@ -51,8 +51,8 @@ IsFound Holds before = (start : Start) × (files : List FolderFile) × (after : 
 abbrev pub IsMet : (make refuse : Bool) → List Call → Type 0
 IsMet make refuse before = IsFound (λ start. IsAllowed start make refuse) before
 
--- The folder of an opening was served over these wires, to the end of each: it was locked and looked
--- at, what there is was to be opened, or begun, and that database was served.
+-- The folder of an opening was served over these wires, to the end of each: it was locked and
+-- looked at, what there is was to be opened, or begun, and that database was served.
 pub record IsFolderServed (Honest : Type 0) (Refused : Asked → ShelfFault → Type 0)
     (gives : List ℕ → Type 0) (o : Opened) (before : List Call) (ws : List End)
     (rs : List (Option End)) : Type 0 where

@@ -84,7 +84,8 @@ fn look<N: Boarded, S: Shelf, K: Invariant, R: Wait>(
     memory: &mut Memory<N>,
 ) -> Result<bool, StateFault>
     requires quiet { IsKeptQuietly S.honest K.keeps }
-    ensures settled { IfOk result (λ b. IsTrue b → IsCompacted S.honest K.keeps memory.old memory.new) }
+    ensures settled { IfOk result (λ b. IsTrue b → IsCompacted S.honest K.keeps memory.old
+        memory.new) }
     ensures known { IsLater memory.new memory.old }
     ensures refused { IfErr result IsOfReserving }
     ensures kept { IsKnown K.keeps memory.new }
@@ -103,7 +104,8 @@ fn compact_once<N: Boarded, S: Shelf, K: Invariant, R: Threads + Wait + Sync>(
     shelf: &mut NamedShelf<N, S>,
 ) -> Result<bool, WorkerFault>
     requires quiet { IsKeptQuietly S.honest K.keeps }
-    ensures settled { IfOk result (λ b. IsTrue b → IsCompacted S.honest K.keeps memory.old memory.new) }
+    ensures settled { IfOk result (λ b. IsTrue b → IsCompacted S.honest K.keeps memory.old
+        memory.new) }
     ensures known { IsLater memory.new memory.old }
     ensures told { Forked shelf.old shelf.new }
     ensures refused { IfErr result (IsCompactFault S.honest) }

@@ -11,7 +11,8 @@ ghost use Rattle.lsm_model.specs.Scanning.{UsersAscend};
 ghost use Rattle.lsm_channels.specs.Keeping.{IsKeptQuietly, IsKnown};
 ghost use Rattle.lsm_channels.specs.Reading.{IsAnswerFault, IsTooLong, IsUnread};
 ghost use Rattle.lsm_channels.specs.Scanning.{IsFull, IsLongPage, IsPage, IsScanFault, IsScanFrom};
-ghost use Rattle.lsm_channels.specs.Scanning.{IsScanned, IsShown, IsUnshown, below, is_below, pair_of};
+ghost use Rattle.lsm_channels.specs.Scanning.{IsScanned, IsShown, IsUnshown, below, is_below};
+ghost use Rattle.lsm_channels.specs.Scanning.{pair_of};
 ghost use Rattle.lsm_channels.specs.Stepping.{Grows, IsLongTurn, Turns, ahead};
 ghost use Rattle.lsm_state.specs.declared.state_fault.StateFault.TheVariants.{TooLarge};
 ghost use Rattle.lsm_store.specs.Readers.{IsPromised};
@@ -188,13 +189,13 @@ pub(crate) fn scan<N: Boarded, S: Shelf, K: Invariant, R: Wait>(
     range: Range<'_>,
 ) -> (ChannelReader<N, S>, Result<Vec<u8>, StateFault>)
     requires quiet { IsKeptQuietly S.honest K.keeps }
-    ensures scanned { IfOk result.1 (λ v. IsScanned S.honest K.keeps (stretch_of range.entry) taken.now
-        reader result.0 memory.old memory.new v.items) }
+    ensures scanned { IfOk result.1 (λ v. IsScanned S.honest K.keeps (stretch_of range.entry)
+        taken.now reader result.0 memory.old memory.new v.items) }
     ensures known { IsLater memory.new memory.old }
     ensures kept { IsKnown K.keeps memory.new }
     ensures later { IsLater result.0.history reader.history }
-    ensures refused { IfErr result.1 (IsScanFault S.honest K.keeps (stretch_of range.entry) taken.now
-        reader result.0 memory.old memory.new) }
+    ensures refused { IfErr result.1 (IsScanFault S.honest K.keeps (stretch_of range.entry)
+        taken.now reader result.0 memory.old memory.new) }
 {
     match view_at(rt, store, reader, memory, taken, range.when) {
         Ok((mut view, seq)) => {

@@ -7,8 +7,8 @@ ghost use Rattle.lsm_frames.specs.Requests.{Writes as AskedWrites};
 ghost use Rattle.lsm_frames.specs.Views.{asked_of, stretch_of};
 ghost use Rattle.lsm_history.specs.History.{IsLater};
 ghost use Rattle.lsm_channels.specs.Answering.{AnswersStatistics, IsAnswered};
-ghost use Rattle.lsm_channels.specs.Keeping.{IsKeptByAsked, IsKeptByWrites, IsKeptQuietly};
-ghost use Rattle.lsm_channels.specs.Keeping.{IsKnown};
+ghost use Rattle.lsm_channels.specs.Keeping.{IsKeptByAsked, IsKeptByRelease, IsKeptByTakes};
+ghost use Rattle.lsm_channels.specs.Keeping.{IsKeptByWrites, IsKeptQuietly, IsKnown};
 
 use crate::channel_reader::ChannelReader;
 use crate::collecting::collect;
@@ -118,8 +118,9 @@ impl<N: Boarded, S: Shelf> Session<N, S> {
         requires writes { IsKeptByWrites (S.refuses N.place) writes K.keeps }
         ensures answered { IfOk result (λ v. IsAnswered S.honest (S.refuses N.place) K.keeps
             (AskedWrites writes.entry) self.old self.new v.items) }
-        ensures unanswered { OnErr result ((frame : List ℕ) × IsAnswered S.honest (S.refuses N.place) K.keeps
-            (AskedWrites writes.entry) self.old self.new frame) }
+        ensures unanswered { OnErr result ((frame : List ℕ)
+            × IsAnswered S.honest (S.refuses N.place) K.keeps (AskedWrites writes.entry) self.old
+            self.new frame) }
         ensures known { IsLater self.new.known self.old.known }
         ensures kept { IsKnown K.keeps self.old.known → IsKnown K.keeps self.new.known }
     {
@@ -145,10 +146,10 @@ impl<N: Boarded, S: Shelf> Session<N, S> {
         background: &Background,
     ) -> Result<Vec<u8>, AllocError>
         requires quiet { IsKeptQuietly S.honest K.keeps }
-        ensures answered { IfOk result (λ v. IsAnswered S.honest (S.refuses N.place) K.keeps Compacts
-            self.old self.new v.items) }
-        ensures unanswered { OnErr result ((frame : List ℕ) × IsAnswered S.honest (S.refuses N.place) K.keeps Compacts
-            self.old self.new frame) }
+        ensures answered { IfOk result (λ v. IsAnswered S.honest (S.refuses N.place) K.keeps
+            Compacts self.old self.new v.items) }
+        ensures unanswered { OnErr result ((frame : List ℕ)
+            × IsAnswered S.honest (S.refuses N.place) K.keeps Compacts self.old self.new frame) }
         ensures known { IsLater self.new.known self.old.known }
         ensures kept { IsKnown K.keeps self.old.known → IsKnown K.keeps self.new.known }
     {
@@ -172,10 +173,10 @@ impl<N: Boarded, S: Shelf> Session<N, S> {
         store: &Store<N, S, K>,
     ) -> Result<Vec<u8>, AllocError>
         requires quiet { IsKeptQuietly S.honest K.keeps }
-        ensures answered { IfOk result (λ v. IsAnswered S.honest (S.refuses N.place) K.keeps Collects
-            self.old self.new v.items) }
-        ensures unanswered { OnErr result ((frame : List ℕ) × IsAnswered S.honest (S.refuses N.place) K.keeps Collects
-            self.old self.new frame) }
+        ensures answered { IfOk result (λ v. IsAnswered S.honest (S.refuses N.place) K.keeps
+            Collects self.old self.new v.items) }
+        ensures unanswered { OnErr result ((frame : List ℕ)
+            × IsAnswered S.honest (S.refuses N.place) K.keeps Collects self.old self.new frame) }
         ensures known { IsLater self.new.known self.old.known }
         ensures kept { IsKnown K.keeps self.old.known → IsKnown K.keeps self.new.known }
     {
@@ -191,11 +192,11 @@ impl<N: Boarded, S: Shelf> Session<N, S> {
         alloc: Global,
         store: &Store<N, S, K>,
     ) -> Result<Vec<u8>, AllocError>
-        requires quiet { IsKeptQuietly S.honest K.keeps }
-        ensures answered { IfOk result (λ v. IsAnswered S.honest (S.refuses N.place) K.keeps Snapshots
-            self.old self.new v.items) }
-        ensures unanswered { OnErr result ((frame : List ℕ) × IsAnswered S.honest (S.refuses N.place) K.keeps Snapshots
-            self.old self.new frame) }
+        requires taken { IsKeptByTakes K.keeps }
+        ensures answered { IfOk result (λ v. IsAnswered S.honest (S.refuses N.place) K.keeps
+            Snapshots self.old self.new v.items) }
+        ensures unanswered { OnErr result ((frame : List ℕ)
+            × IsAnswered S.honest (S.refuses N.place) K.keeps Snapshots self.old self.new frame) }
         ensures known { IsLater self.new.known self.old.known }
         ensures kept { IsKnown K.keeps self.old.known → IsKnown K.keeps self.new.known }
     {
@@ -212,11 +213,12 @@ impl<N: Boarded, S: Shelf> Session<N, S> {
         store: &Store<N, S, K>,
         number: u64,
     ) -> Result<Vec<u8>, AllocError>
-        requires quiet { IsKeptQuietly S.honest K.keeps }
+        requires given_up { IsKeptByRelease number K.keeps }
         ensures answered { IfOk result (λ v. IsAnswered S.honest (S.refuses N.place) K.keeps
             (Releases number) self.old self.new v.items) }
-        ensures unanswered { OnErr result ((frame : List ℕ) × IsAnswered S.honest (S.refuses N.place) K.keeps
-            (Releases number) self.old self.new frame) }
+        ensures unanswered { OnErr result ((frame : List ℕ)
+            × IsAnswered S.honest (S.refuses N.place) K.keeps (Releases number) self.old self.new
+            frame) }
         ensures known { IsLater self.new.known self.old.known }
         ensures kept { IsKnown K.keeps self.old.known → IsKnown K.keeps self.new.known }
     {
@@ -233,10 +235,10 @@ impl<N: Boarded, S: Shelf> Session<N, S> {
         store: &Store<N, S, K>,
     ) -> Result<Vec<u8>, AllocError>
         requires quiet { IsKeptQuietly S.honest K.keeps }
-        ensures answered { IfOk result (λ v. IsAnswered S.honest (S.refuses N.place) K.keeps Statistics
-            self.old self.new v.items) }
-        ensures unanswered { OnErr result ((frame : List ℕ) × IsAnswered S.honest (S.refuses N.place) K.keeps Statistics
-            self.old self.new frame) }
+        ensures answered { IfOk result (λ v. IsAnswered S.honest (S.refuses N.place) K.keeps
+            Statistics self.old self.new v.items) }
+        ensures unanswered { OnErr result ((frame : List ℕ)
+            × IsAnswered S.honest (S.refuses N.place) K.keeps Statistics self.old self.new frame) }
         ensures known { IsLater self.new.known self.old.known }
         ensures kept { IsKnown K.keeps self.old.known → IsKnown K.keeps self.new.known }
     {
@@ -255,8 +257,9 @@ impl<N: Boarded, S: Shelf> Session<N, S> {
         requires quiet { IsKeptQuietly S.honest K.keeps }
         ensures answered { IfOk result.1 (λ v. IsAnswered S.honest (S.refuses N.place) K.keeps
             (Reads when keys.entry) self result.0 v.items) }
-        ensures unanswered { OnErr result.1 ((frame : List ℕ) × IsAnswered S.honest (S.refuses N.place) K.keeps
-            (Reads when keys.entry) self result.0 frame) }
+        ensures unanswered { OnErr result.1 ((frame : List ℕ)
+            × IsAnswered S.honest (S.refuses N.place) K.keeps (Reads when keys.entry) self result.0
+            frame) }
         ensures known { IsLater result.0.known self.known }
         ensures kept { IsKnown K.keeps self.known → IsKnown K.keeps result.0.known }
     {
@@ -311,8 +314,9 @@ impl<N: Boarded, S: Shelf> Session<N, S> {
         requires quiet { IsKeptQuietly S.honest K.keeps }
         ensures answered { IfOk result.1 (λ v. IsAnswered S.honest (S.refuses N.place) K.keeps
             (Scans (stretch_of range.entry)) self result.0 v.items) }
-        ensures unanswered { OnErr result.1 ((frame : List ℕ) × IsAnswered S.honest (S.refuses N.place) K.keeps
-            (Scans (stretch_of range.entry)) self result.0 frame) }
+        ensures unanswered { OnErr result.1 ((frame : List ℕ)
+            × IsAnswered S.honest (S.refuses N.place) K.keeps (Scans (stretch_of range.entry)) self
+            result.0 frame) }
         ensures known { IsLater result.0.known self.known }
         ensures kept { IsKnown K.keeps self.known → IsKnown K.keeps result.0.known }
     {
@@ -372,8 +376,9 @@ impl<N: Boarded, S: Shelf> Session<N, S> {
         requires asked { IsKeptByAsked (S.refuses N.place) (asked_of request) K.keeps }
         ensures answered { IfOk result.1 (λ v. IsAnswered S.honest (S.refuses N.place) K.keeps
             (asked_of request.entry) self result.0 v.items) }
-        ensures unanswered { OnErr result.1 ((frame : List ℕ) × IsAnswered S.honest (S.refuses N.place) K.keeps
-            (asked_of request.entry) self result.0 frame) }
+        ensures unanswered { OnErr result.1 ((frame : List ℕ)
+            × IsAnswered S.honest (S.refuses N.place) K.keeps (asked_of request.entry) self
+            result.0 frame) }
         ensures known { IsLater result.0.known self.known }
         ensures kept { IsKnown K.keeps self.known → IsKnown K.keeps result.0.known }
     {

@@ -4,7 +4,7 @@ ghost use Rattle.std.specs.Prelude.{◌≡◌, ◌⊎◌, ◌<◌, IfErr, IfOk, 
 ghost use Rattle.std.specs.List.{filter};
 ghost use Rattle.lsm_history.specs.History.{IsLater};
 ghost use Rattle.lsm_model.specs.Plain.{without_snapshot};
-ghost use Rattle.lsm_channels.specs.Keeping.{IsKeptQuietly, IsKnown};
+ghost use Rattle.lsm_channels.specs.Keeping.{IsKeptByRelease, IsKeptByTakes, IsKnown};
 ghost use Rattle.lsm_channels.specs.Served.{IsToldBy};
 ghost use Rattle.lsm_channels.specs.Snapshots.{Forgets, IsReleased, IsTakeFault, IsTaken};
 ghost use Rattle.lsm_channels.specs.Snapshots.{IsUnreleased, IsUntaken, Notes, ReleasesAt, TakesAt};
@@ -78,7 +78,7 @@ pub(crate) fn take<N: Boarded, S: Shelf, K: Invariant, R: Wait>(
     memory: &mut Memory<N>,
     taken: &mut Vec<(u64, u64)>,
 ) -> Result<(u64, u64), StateFault>
-    requires quiet { IsKeptQuietly S.honest K.keeps }
+    requires taken { IsKeptByTakes K.keeps }
     ensures ok { IfOk result (λ r.
         IsTaken K.keeps r.0 r.1 memory.old memory.new taken.old.items taken.new.items) }
     ensures refused { IfErr result (λ e.
@@ -113,7 +113,7 @@ fn release_at<N: Boarded, S: Shelf, K: Invariant, R: Wait>(
     memory: &mut Memory<N>,
     number: u64,
 ) -> Result<(), StateFault>
-    requires quiet { IsKeptQuietly S.honest K.keeps }
+    requires given_up { IsKeptByRelease number K.keeps }
     ensures ok { OnOk result (IsReleased K.keeps number memory.old memory.new) }
     ensures refused { IfErr result (λ e. IsUnreleased K.keeps number e memory.old memory.new) }
     ensures known { IsLater memory.new memory.old }
@@ -137,7 +137,7 @@ pub(crate) fn release<N: Boarded, S: Shelf, K: Invariant, R: Wait>(
     taken: &mut Vec<(u64, u64)>,
     number: u64,
 ) -> Result<(), StateFault>
-    requires quiet { IsKeptQuietly S.honest K.keeps }
+    requires given_up { IsKeptByRelease number K.keeps }
     ensures ok { OnOk result (IsReleased K.keeps number memory.old memory.new
         × (taken.new.items ≡ without_snapshot number taken.old.items)) }
     ensures refused { IfErr result (λ e. IsUnreleased K.keeps number e memory.old memory.new

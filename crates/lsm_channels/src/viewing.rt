@@ -135,7 +135,8 @@ pub(crate) fn view_at<N: Boarded, S: Shelf, K: Invariant, R: Wait>(
     when: When,
 ) -> Result<(ChannelView<N, S>, u64), (ChannelReader<N, S>, StateFault)>
     requires quiet { IsKeptQuietly S.honest K.keeps }
-    ensures sees { IfOk result (λ r. Sees K.keeps when taken.now reader r.0 memory.old memory.new r.1) }
+    ensures sees { IfOk result (λ r. Sees K.keeps when taken.now reader r.0 memory.old memory.new
+        r.1) }
     ensures known { IsLater memory.new memory.old }
     ensures kept { IsKnown K.keeps memory.new }
     ensures later { IfErr result (λ e. IsLater e.0.history reader.history) }

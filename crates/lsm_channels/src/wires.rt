@@ -55,8 +55,8 @@ pub(crate) fn open_wires<D: Descriptors>(
     count: usize,
 ) -> Result<Vec<D::Wire>, AllocError>
     requires numbers { first + count ≤ 2 ^ 31 }
-    ensures wires { IfOk result (λ v. map (λ w. end (D.Wire.descriptor w) (D.Wire.happened w)) v.items
-        ≡ ends_from first count) }
+    ensures wires { IfOk result (λ v. map (λ w. end (D.Wire.descriptor w) (D.Wire.happened w))
+        v.items ≡ ends_from first count) }
     ensures opened { OnOk result (D.opened descriptors.new
         ≡ opened_from first count ++ D.opened descriptors.old) }
     ensures none { OnErr result (D.opened descriptors.new ≡ D.opened descriptors.old) }

@@ -5,8 +5,7 @@ use Rattle.lsm_channels.proofs.serving.serve_opened.Goals as goal
 pub serve_beside-requires-clause-fresh : goal.serve_beside-requires-clause-fresh
 serve_beside-requires-clause-fresh g c =
     let fresh = λ k. IsFresh g.K.Invariant.keeps k.session in
-    let all = c.pair_all-others.ensures.fresh in
-    (
+    let all = c.pair_all-others.ensures.fresh in (
       all_last fresh c.pair_all-others.result.items c.pop.new.self.items c.in-Some.first c.in-Some.ensures.items all,
       all_front fresh c.pair_all-others.result.items c.pop.new.self.items c.in-Some.first c.in-Some.ensures.items all,
     )
