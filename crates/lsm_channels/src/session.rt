@@ -13,6 +13,7 @@ ghost use Rattle.lsm_channels.specs.Keeping.{IsKeptByWrites, IsKeptQuietly, IsKn
 use crate::channel_reader::ChannelReader;
 use crate::collecting::collect;
 use crate::compacting::compact;
+use crate::knowing::note;
 use crate::reading::read;
 use crate::refusing::refuse;
 use crate::saying::{say_collected, say_compacted, say_released, say_taken, say_written};
@@ -103,6 +104,18 @@ impl<N: Boarded, S: Shelf> Session<N, S> {
             memory,
             taken: Vec::new(alloc),
         }
+    }
+
+    /// Knows what is remembered here from then on, with all that it knew. So what is performed then
+    /// is answered by a state that has it, whoever brought it in.
+    pub fn note<K: Invariant, R: Wait>(&mut self, rt: &R, store: &Store<N, S, K>, since: Memory<N>)
+        requires quiet { IsKeptQuietly S.honest K.keeps }
+        ensures since { IsLater self.new.known since }
+        ensures known { IsLater self.new.known self.old.known }
+        ensures kept { IsKnown K.keeps self.new.known }
+        ensures same { self.new ≡ record self.old { known = self.new.known } }
+    {
+        note(rt, store, &mut self.memory, since);
     }
 
     // Brings writes in.
