@@ -1,14 +1,19 @@
 -- How a run ends.
-use Rattle.std.proofs.Common.{◌≡◌, ℕ, ◌+◌, ◌^◌, ◌≤◌, ℤ, pos, Bool, List, [], ◌∷◌, ◌++◌, Result, Ok, Err, IfOk, refl, sym, ap, ◌∙◌, subst, inl, inr, ◌⊎◌, arith}
-use Rattle.std.specs.Prelude.{IsOk, MatchResult}
+use Rattle.std.proofs.Common.{◌≡◌, ℕ, ◌+◌, ◌≤◌, ℤ, pos, Bool, List, [], ◌∷◌, ◌++◌, Option, Result, Ok, Err, IfOk, refl, sym, ap, ◌∙◌, subst, inl, inr, ◌⊎◌, arith}
+use Rattle.std.specs.Prelude.{◌^◌, IsOk, MatchResult}
 use Rattle.lsm_frames.specs.Answers.{IsRefused}
 use Rattle.lsm_frames.specs.Openings.{IsOpening, Opened}
+use Rattle.lsm_directory.specs.declared.folder.folder_file.FolderFile.{FolderFile}
+use Rattle.lsm_opening.specs.declared.prepared.Start.{Start}
 use Rattle.lsm_shelf.specs.Asked.{Asked}
+use Rattle.lsm_shelf.specs.Place.{Place}
+use Rattle.lsm_shelf.specs.Told.{Told, fresh}
 use Rattle.lsm_shelf.specs.declared.shelf_fault.ShelfFault.{ShelfFault}
 use Rattle.lsm_wire.specs.Happenings.{Happening, Came, Went, IsUnanswered, IsWritten, unanswered}
 use Rattle.lsm_channels.specs.Answered.{answer_frame}
 use Rattle.lsm_channels.specs.Opening.{AreMadeFor, IsContentServed, IsNoContent, IsRefusal, IsRefusedOn, IsRun, NoneOpened, Outcome, RefusedOn, ServedTo}
-use Rattle.lsm_channels.specs.Serving.{End, end, opened_from}
+use Rattle.lsm_channels.specs.Serving.{End, IsDatabaseServed, end, opened_from}
+use Rattle.lsm_channels.specs.Starting.{options_for}
 
 -- ---- a refusal
 
@@ -20,6 +25,16 @@ refused_on bytes number name (Ok v) whole was w made new said =
     (number, name, whole, inl (said ∙ ap (λ (b : List ℕ). Went b whole ∷ was) made ∙ ap (λ (hs : List Happening). Went (answer_frame (IsRefused number name)) whole ∷ hs) new))
 refused_on bytes number name (Err e) whole was w made new said =
     (number, name, said.1.0, inr (said.1.1 ∙ ap (λ (hs : List Happening). Went unanswered said.1.0 ∷ hs) new))
+
+-- ---- the database of a folder
+
+-- what was served over a shelf that was just made is served at its folder's place
+pub database_at : (Honest : Type 0) (Refused : Asked → ShelfFault → Type 0) (gives : List ℕ → Type 0) (n m : ℕ) (start : Start) (logs : List FolderFile) (was : Told) (p q : Place) (ws : List End)
+    (rs : List (Option End)) → n ≡ m → was ≡ fresh p → p ≡ q → IsDatabaseServed Honest Refused gives (options_for n) start logs was ws rs
+    → IsDatabaseServed Honest Refused gives (options_for m) start logs (fresh q) ws rs
+database_at Honest Refused gives n m start logs was p q ws rs count new same served =
+    subst (λ (k : ℕ). IsDatabaseServed Honest Refused gives (options_for k) start logs (fresh q) ws rs) count
+    (subst (λ (t : Told). IsDatabaseServed Honest Refused gives (options_for n) start logs t ws rs) (new ∙ ap (λ (r : Place). fresh r) same) served)
 
 -- ---- what becomes of an opening
 

@@ -6,7 +6,7 @@ ghost use Rattle.lsm_folder.specs.Calls.{AreHonest, opened};
 ghost use Rattle.lsm_shelf.specs.Place.{IsAtPath};
 ghost use Rattle.lsm_shelf.specs.Refusals.{MayRefuse};
 ghost use Rattle.lsm_frames.specs.OpeningView.{opened_of};
-ghost use Rattle.lsm_frames.specs.Openings.{FitsOpened};
+ghost use Rattle.lsm_frames.specs.Openings.{FitsOpened, IsOpening, Opened};
 ghost use Rattle.lsm_channels.specs.Opening.{IsAllowed, IsBarred, IsContentServed, IsFolderServed};
 ghost use Rattle.lsm_channels.specs.Opening.{IsRefusal, IsRun, IsUnserved, looking, outcome_of};
 ghost use Rattle.lsm_channels.specs.Serving.{end, ends_from, opened_from};
@@ -191,6 +191,26 @@ fn refuse<C: FolderCalls, P: Paths<C>, D: Descriptors>(
     Ended::Refused(wire)
 }
 
+/// Refuses what is no opening, over the channel that it names, if it names one.
+fn refuse_content<C: FolderCalls, P: Paths<C>, D: Descriptors>(
+    paths: &P,
+    descriptors: &mut D,
+    content: &[u8],
+) -> Ended<D::Wire>
+    requires none { (o : Opened) → IsOpening content.now o → ⊥ }
+    ensures { IsContentServed (AreHonest C.calls) MayRefuse D.Wire.gives content.now
+        (outcome_of (λ w. end (D.Wire.descriptor w) (D.Wire.happened w)) result)
+        (D.opened descriptors.old) (D.opened descriptors.new) }
+{
+    match content.split_first_chunk::<4>() {
+        Some((first, _)) => {
+            let first = u32::from_le_bytes(*first);
+            refuse(paths, descriptors, first, &OpeningFault::BadOpening)
+        }
+        None => Ended::Unopened,
+    }
+}
+
 /// Serves the database that an opening request names.
 fn serve_content<
     C: FolderCalls + Send + Sync,
@@ -205,17 +225,13 @@ where
         (outcome_of (λ w. end (D.Wire.descriptor w) (D.Wire.happened w)) result)
         (D.opened descriptors.old) (D.opened descriptors.new) }
 {
-    if let Ok(opening) = Opening::parse(content) {
-        return match serve_at(rt, paths, descriptors, &opening) {
+    match Opening::parse(content) {
+        Ok(opening) => match serve_at(rt, paths, descriptors, &opening) {
             Ok(wires) => Ended::Served(wires),
             Err(fault) => refuse(paths, descriptors, opening.first_channel, &fault),
-        };
+        },
+        Err(_) => refuse_content(paths, descriptors, content),
     }
-    if let Some((first, _)) = content.split_first_chunk::<4>() {
-        let first = u32::from_le_bytes(*first);
-        return refuse(paths, descriptors, first, &OpeningFault::BadOpening);
-    }
-    Ended::Unopened
 }
 
 /// Reads the opening request from descriptor 0, opens the database, and serves it until each
