@@ -9,7 +9,7 @@ returns-in-Ok-Some-clause-next g c = λ h.
     let at = c.loop-level.level in
     let plan = plan_in c.in-Ok-Some.job in
     let planned = (rw c.in-Ok-Some.field-0-is at c.in-Ok-Some.ensures.planned) h in
-    let self_is : c.args.self.now ≡ record { level = c.self.inside.last; from = c.self.inside.from; to = c.self.inside.to } = c.self.view_is in
+    let self_is : c.args.self.now ≡ record { level = c.self.inside.last; from = c.self.inside.from; to = c.self.inside.to } = sym c.self.view_is in
     let last : c.args.self.now.level ≡ c.self.inside.last = ap (λ (s : Span). s.level) self_is in
     let few : at ≤ c.args.self.now.level = omega (arith, c.loop-level-test.true, last) in
     let from : c.as_slice-from.result.now ≡ c.args.self.now.from = c.as_slice-from.ensures ∙ sym (ap (λ (s : Span). s.from) self_is) in
