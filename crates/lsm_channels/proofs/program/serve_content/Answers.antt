@@ -12,8 +12,8 @@ returns-in-Ok-serve_at g c = (opened_of c.in-Ok.opening, (c.in-Ok.ensures.found,
 
 pub returns-in-Err-serve_at : goal.returns-in-Err-serve_at
 returns-in-Err-serve_at g c =
-    opening_refused (AreHonest g.C.FolderCalls.calls) MayRefuse g.D.Wire.Wire.gives c.args.content.now (opened_of c.in-Ok.opening)
-    (outcome_of (λ w. end (g.D.Wire.Wire.descriptor w) (g.D.Wire.Wire.happened w)) c.refuse.result) (g.D.Descriptors.opened c.args.descriptors.now) (g.D.Descriptors.opened c.serve_at.new.descriptors)
+    opening_refused (AreHonest g.C.FolderCalls.calls) MayRefuse g.D-Wire.Wire.gives c.args.content.now (opened_of c.in-Ok.opening)
+    (outcome_of (λ w. end (g.D-Wire.Wire.descriptor w) (g.D-Wire.Wire.happened w)) c.refuse.result) (g.D.Descriptors.opened c.args.descriptors.now) (g.D.Descriptors.opened c.serve_at.new.descriptors)
     (g.D.Descriptors.opened c.refuse.new.descriptors) c.in-Ok.ensures.found (one_opening c.args.content.now opened_of c.parse.result c.in-Ok.opening c.in-Ok.is c.parse.ensures.only)
     c.in-Err-serve_at.ensures.refused c.refuse.ensures
 
