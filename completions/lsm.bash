@@ -21,7 +21,7 @@ _lsm() {
     put) options='--text --begin --beside-log --help' places='DIR KEY VALUE' ;;
     delete) options='--text --begin --beside-log --help' places='DIR KEY' ;;
     load) options='--text --begin --beside-log --workers --from-line --progress --help' places='DIR FILE' ;;
-    compact) options='--workers --progress --help' places='DIR' ;;
+    compact) options='--all --from --to --text --workers --progress --help' places='DIR' ;;
     clean) options='--help' places='DIR' ;;
     shell) options='--text --begin --beside-log --workers --help' places='DIR' ;;
     bench) options='--benchmarks --num --value-size --workers --help' places='DIR' ;;
