@@ -4,3 +4,4 @@ pub mod Database
 pub mod Newest
 pub mod Unchanged
 pub mod SmallRun
+pub mod Stored

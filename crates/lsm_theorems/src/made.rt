@@ -1,0 +1,99 @@
+//! A new database in a folder of the system, from its opening to a read: every premise of the
+//! calls on the way is met by a call before it.
+
+ghost use Rattle.std.specs.Prelude.{◌≡◌, ℕ, IfSome};
+ghost use Rattle.std.specs.Option.{option_map};
+ghost use Rattle.lsm_batch.specs.Batches.{entries_from};
+ghost use Rattle.lsm_state.specs.Making.{IsNewBoard, IsNewHistory};
+ghost use Rattle.lsm_state.specs.Options.{Fits};
+ghost use Rattle.lsm_theorems.specs.Newest.{IsReadOf};
+
+use crate::compared::ComparedShelf;
+use crate::reads::reads_give_the_newest;
+use lsm_batch::Batch;
+use lsm_history::NewHistory;
+use lsm_pins::{Board, Pinner, Publisher};
+use lsm_slots::Boarded;
+use lsm_state::{Options, State};
+use lsm_storage::FileShelf;
+use lsm_table::{NamedShelf, Records, Registry, Shelf};
+use std::alloc::Global;
+use std::marker::Brand;
+use std::sync::{Arc, Wait};
+
+/// What is brought into a new database in the folder of this path is read: the newest entry of the
+/// batch under the key, or none where it has none. It is said of the system's folder, with the
+/// witness that compares, and with no premise; None where a call on the way was refused. So the
+/// premises of the calls of a database (that options fit, that a board and a history are new and
+/// are those of the name, that a shelf is of its place, and that it is honest) are all met at once,
+/// by what a program does.
+pub fn what_came_in_is_read<R: Wait>(
+    rt: &R,
+    host: HostRuntime,
+    path: &str,
+    batch: &Batch,
+    user: &[u8],
+) -> Option<Option<Vec<u8>>>
+    ensures { IfSome result (λ v. (seq : ℕ)
+        × IsReadOf (entries_from 1 batch.now) user.now seq (option_map (λ b. b.items) v)) }
+{
+    let alloc = host.alloc();
+    let options = Options::usual();
+    let records = Records::new(alloc).ok()?;
+    let board = Board::new(alloc, options.readers, options.versions).ok()?;
+    let history = NewHistory::new(alloc).ok()?;
+    let shelf: ComparedShelf = FileShelf::open(host, path).ok()?;
+    read_back::<Brand, ComparedShelf, R>(
+        rt, alloc, shelf, options, records, board, history, batch, user,
+    )
+}
+
+/// The same on any shelf, where that is honest.
+fn read_back<N: Boarded, S: Shelf, R: Wait>(
+    rt: &R,
+    alloc: Global,
+    shelf: S,
+    options: Options,
+    records: Records<S::Receipt>,
+    board: (Publisher, Vec<Pinner>),
+    history: NewHistory,
+    batch: &Batch,
+    user: &[u8],
+) -> Option<Option<Vec<u8>>>
+    requires fits { Fits options }
+    requires records { records ≡ N.registry }
+    requires named { (S.told shelf).place ≡ N.place }
+    requires board { IsNewBoard N.board options board.0 board.1.items }
+    requires history { IsNewHistory N.history history }
+    ensures { S.honest → IfSome result (λ v. (seq : ℕ)
+        × IsReadOf (entries_from 1 batch.now) user.now seq (option_map (λ b. b.items) v)) }
+{
+    let registry = Registry::<N, S>::shared(alloc, records).ok()?;
+    let mut shelf = NamedShelf::of(shelf);
+    let state = brought(
+        rt, alloc, &mut shelf, options, registry, board, history, batch,
+    )?;
+    reads_give_the_newest(&state, &mut shelf, alloc, user, None).ok()
+}
+
+/// A new database, into which the batch came and nothing else.
+fn brought<N: Boarded, S: Shelf, R: Wait>(
+    rt: &R,
+    alloc: Global,
+    shelf: &mut NamedShelf<N, S>,
+    options: Options,
+    registry: Arc<Registry<N, S>>,
+    board: (Publisher, Vec<Pinner>),
+    history: NewHistory,
+    batch: &Batch,
+) -> Option<State<N, S>>
+    requires fits { Fits options }
+    requires board { IsNewBoard N.board options board.0 board.1.items }
+    requires history { IsNewHistory N.history history }
+    ensures { IfSome result (λ s. s.history ≡ entries_from 1 batch.now) }
+{
+    let made = State::<N, S>::create(rt, alloc, shelf, options, registry, board, history);
+    let mut state = made.ok()?;
+    state.ingest(rt, alloc, shelf, batch).ok()?;
+    Some(state)
+}
