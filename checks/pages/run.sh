@@ -13,8 +13,8 @@
 #                 draw them, and each is shown; all code is in fences
 #   links.py      of every page of the repository: each link leads to a file, and to a heading of it
 #   checks.py     checks/README.md has each check of checks/checks.txt, and FIGURES.md no other
-#   definitions   the table in docs/PROVED.md of what a reader has to believe is as tools/definitions
-#                 makes it
+#   definitions   docs/DEFINITIONS.md, and the table in docs/PROVED.md of what a reader has to believe,
+#                 are as tools/definitions makes them
 #   refusals.py   the table of refusals of docs/FORMATS.md has the numbers and names of the code
 #
 # Names of pages as words choose which pages' sessions and code are looked at. Runs the proved
