@@ -6,3 +6,4 @@ pub mod Elements
 pub mod SmallRun
 pub mod Witnesses
 pub mod AnyImage
+pub mod FirstLife

@@ -1,20 +1,24 @@
 //! A new database in a folder of the system, from its opening to a read: every premise of the
 //! calls on the way is met by a call before it.
 
-ghost use Rattle.std.specs.Prelude.{◌≡◌, ℕ, IfSome};
+ghost use Rattle.std.specs.Prelude.{◌≡◌, ◌++◌, IfOk, IfSome, OnOk};
 ghost use Rattle.std.specs.Option.{option_map};
 ghost use Rattle.lsm_batch.specs.Batches.{entries_from};
+ghost use Rattle.lsm_crash.specs.Database.{IsMade};
+ghost use Rattle.lsm_state.specs.Ingesting.{entries_of};
 ghost use Rattle.lsm_state.specs.Making.{IsNewBoard, IsNewHistory};
 ghost use Rattle.lsm_state.specs.Options.{Fits};
-ghost use Rattle.lsm_theorems.specs.Newest.{IsReadOf};
+ghost use Rattle.lsm_theorems.specs.FirstLife.{IsFirstLife};
+ghost use Rattle.lsm_theorems.specs.Newest.{IsReadOfAll};
 
 use crate::compared::ComparedShelf;
-use crate::reads::reads_give_the_newest;
+use crate::memories::read_first;
 use lsm_batch::Batch;
+use lsm_crash::states::premises_of_runs_are_met;
 use lsm_history::NewHistory;
 use lsm_pins::{Board, Pinner, Publisher};
 use lsm_slots::Boarded;
-use lsm_state::{Options, State};
+use lsm_state::{Ingested, Options, State, StateFault};
 use lsm_storage::FileShelf;
 use lsm_table::{NamedShelf, Records, Registry, Shelf};
 use std::alloc::Global;
@@ -34,8 +38,8 @@ pub fn what_came_in_is_read<R: Wait>(
     batch: &Batch,
     user: &[u8],
 ) -> Option<Option<Vec<u8>>>
-    ensures { IfSome result (λ v. (seq : ℕ)
-        × IsReadOf (entries_from 1 batch.now) user.now seq (option_map (λ b. b.items) v)) }
+    ensures { IfSome result (λ v.
+        IsReadOfAll (entries_from 1 batch.now) user.now (option_map (λ b. b.items) v)) }
 {
     let alloc = host.alloc();
     let options = Options::usual();
@@ -65,15 +69,16 @@ fn read_back<N: Boarded, S: Shelf, R: Wait>(
     requires named { (S.told shelf).place ≡ N.place }
     requires board { IsNewBoard N.board options board.0 board.1.items }
     requires history { IsNewHistory N.history history }
-    ensures { S.honest → IfSome result (λ v. (seq : ℕ)
-        × IsReadOf (entries_from 1 batch.now) user.now seq (option_map (λ b. b.items) v)) }
+    ensures { S.honest → IfSome result (λ v.
+        IsReadOfAll (entries_from 1 batch.now) user.now (option_map (λ b. b.items) v)) }
 {
     let registry = Registry::<N, S>::shared(alloc, records).ok()?;
     let mut shelf = NamedShelf::of(shelf);
-    let state = brought(
+    let mut state = brought(
         rt, alloc, &mut shelf, options, registry, board, history, batch,
     )?;
-    reads_give_the_newest(&state, &mut shelf, alloc, user, None).ok()
+    let (value, _memory) = read_first(alloc, &mut state, &mut shelf, user);
+    value.ok()
 }
 
 /// A new database, into which the batch came and nothing else.
@@ -94,6 +99,27 @@ fn brought<N: Boarded, S: Shelf, R: Wait>(
 {
     let made = State::<N, S>::create(rt, alloc, shelf, options, registry, board, history);
     let mut state = made.ok()?;
-    state.ingest(rt, alloc, shelf, batch).ok()?;
+    first_batches_are_a_life(rt, alloc, &mut state, shelf, batch).ok()?;
     Some(state)
+}
+
+/// What is brought into a database that was just made: its first life, from an empty disk on, until
+/// power is cut. So the premises of theorem 7 are met by what these calls do.
+pub fn first_batches_are_a_life<N: Boarded, S: Shelf, R: Wait>(
+    rt: &R,
+    alloc: Global,
+    state: &mut State<N, S>,
+    shelf: &mut NamedShelf<N, S>,
+    batch: &Batch,
+) -> Result<Ingested, StateFault>
+    requires made { IsMade state.old }
+    ensures lived { IfOk result (λ r. IsFirstLife S.honest state.old state.new batch.now r) }
+    ensures brought { OnOk result (state.new.history
+        ≡ entries_of state.old batch.now ++ state.old.history) }
+{
+    premises_of_runs_are_met::<State<N, S>>();
+    let _options = state.options();
+    let ingested = state.ingest(rt, alloc, shelf, batch);
+    let _options = state.options();
+    ingested
 }

@@ -1,4 +1,4 @@
-//! What an opening is supposed to be given, refuted of the program's shelf.
+//! Premises that are refuted of the program's shelf.
 
 ghost use Rattle.std.specs.Prelude.{◌≡◌, ◌≤◌, ◌^◌, ℕ, List, length};
 ghost use Rattle.boxcar.specs.Table.{Shelves};
@@ -11,12 +11,23 @@ ghost use Rattle.lsm_table.specs.Registry.{Table};
 ghost use Rattle.lsm_theorems.specs.Stored.{StoredByProgram};
 ghost use Rattle.lsm_version.specs.Versions.{Levels, level_in};
 
-use lsm_folder::Mute;
+use lsm_folder::{Mute, SystemFolder, the_mute_system_is_not_honest};
 use lsm_storage::SystemShelf;
 use lsm_table::{Naming, Shelf};
 
 /// A shelf on the system's folder, with the witness of the program.
 pub type ProgramShelf = SystemShelf<HostRuntime, Mute>;
+
+/// No shelf of the program is honest, so the theorems say nothing of what its reads give. They are to
+/// be read with the witness that compares (`compared`).
+pub fn no_shelf_of_the_program_is_honest(folder: &SystemFolder<HostRuntime, Mute>) {
+    the_mute_system_is_not_honest(folder);
+    is_not_honest::<ProgramShelf>();
+}
+
+fn is_not_honest<S: Shelf>()
+    requires { S.honest → ⊥ }
+{}
 
 /// The premise `ReadsShown` of `openings_are_not_refused_for_what_is_shown` (`lsm_crash`) can't be
 /// met by the shelf of the program, where the version has a table (`refuted`). For it speaks of each
