@@ -40,7 +40,7 @@ receipt marks number image limit = record {
 }
 
 pub stored : (path : List ℕ) (marks : Shelves) (number : ℕ) (image : List ℕ) → length image ≤ 2 ^ 30 → StoredByProgram (at_path path marks) number image
-stored path marks number image limit = (receipt marks number image limit, (refl, (refl, refl)))
+stored path marks number image limit = (receipt marks number image limit, refl, refl, refl)
 
 abbrev a_byte : List ℕ
 a_byte = 0 ∷ []
@@ -51,7 +51,7 @@ file_in (Some i) = i
 
 -- a name has one file, and that has one text
 one_text : (d : Disk) (name xs ys : List ℕ) → Shows d name xs → Shows d name ys → xs ≡ ys
-one_text d name xs ys (i, (at, text)) (j, (there, other)) = sym text ∙ ap (λ o. d.bytes (file_in o)) (sym at ∙ there) ∙ other
+one_text d name xs ys (i, at, text) (j, there, other) = sym text ∙ ap (λ o. d.bytes (file_in o)) (sym at ∙ there) ∙ other
 
 pub refuted : (path : List ℕ) (marks : Shelves) (v : Levels) (d : Disk) (was is : Told) (level : ℕ) (t : Table) → Has (level_in v.tables level) t → ReadsShown (StoredByProgram (at_path path marks)) v d was is → ⊥
 refuted path marks v d was is level t has shown =
