@@ -46,12 +46,14 @@ _lsm() {
     COMPREPLY=($(compgen -W "$options" -- "$current"))
     return
   fi
+  # Paths alone are file names: blanks in them are quoted, and a slash stands behind a folder. So a
+  # command stays one where a folder has its name.
   kind=$(set -- $places; shift "$place" 2> /dev/null && echo "${1-}")
   case $kind in
-    DIR) mapfile -t COMPREPLY < <(compgen -d -- "$current") ;;
-    FILE) mapfile -t COMPREPLY < <(compgen -f -- "$current") ;;
+    DIR) compopt -o filenames 2> /dev/null; mapfile -t COMPREPLY < <(compgen -d -- "$current") ;;
+    FILE) compopt -o filenames 2> /dev/null; mapfile -t COMPREPLY < <(compgen -f -- "$current") ;;
     COMMAND) COMPREPLY=($(compgen -W 'mktable dump manifest script check list levels get scan ingest put delete load compact clean shell bench help' -- "$current")) ;;
     *) COMPREPLY=($(compgen -W "$options" -- "$current")) ;;
   esac
 }
-complete -o filenames -F _lsm lsm
+complete -F _lsm lsm

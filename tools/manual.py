@@ -201,15 +201,17 @@ _lsm() {{
     COMPREPLY=($(compgen -W "$options" -- "$current"))
     return
   fi
+  # Paths alone are file names: blanks in them are quoted, and a slash stands behind a folder. So a
+  # command stays one where a folder has its name.
   kind=$(set -- $places; shift "$place" 2> /dev/null && echo "${{1-}}")
   case $kind in
-    DIR) mapfile -t COMPREPLY < <(compgen -d -- "$current") ;;
-    FILE) mapfile -t COMPREPLY < <(compgen -f -- "$current") ;;
+    DIR) compopt -o filenames 2> /dev/null; mapfile -t COMPREPLY < <(compgen -d -- "$current") ;;
+    FILE) compopt -o filenames 2> /dev/null; mapfile -t COMPREPLY < <(compgen -f -- "$current") ;;
     COMMAND) COMPREPLY=($(compgen -W '{names}' -- "$current")) ;;
     *) COMPREPLY=($(compgen -W "$options" -- "$current")) ;;
   esac
 }}
-complete -o filenames -F _lsm lsm
+complete -F _lsm lsm
 """
 
 
@@ -231,7 +233,9 @@ def zsh(commands: list[Command]) -> str:
         rows = []
         for option in command.options:
             value = f":{option.value}: " if option.value else ""
-            rows.append(quoted(f"--{option.name}[{spoken(option.help)}]{value}"))
+            # Behind `=` the value may be in the same word.
+            joined = "=" if option.value else ""
+            rows.append(quoted(f"--{option.name}{joined}[{spoken(option.help)}]{value}"))
         rows.append(quoted("--help[Print help]"))
         for index, argument in enumerate(command.arguments, 1):
             rows.append(quoted(f"{index}:{argument.name}:{kinds.get(argument.name, ' ')}"))
@@ -248,7 +252,7 @@ _lsm_commands() {{
 
 _lsm() {{
   if ((CURRENT == 2)); then
-    _lsm_commands
+    _arguments '--help[Print help]' '--version[Print version]' '1:COMMAND:_lsm_commands'
     return
   fi
   local command=$words[2]
@@ -263,31 +267,60 @@ _lsm "$@"
 """
 
 
+FISH = """# Completion of lsm for fish. Made by tools/manual.py from the help of the program.
+
+# Whether the command of the line is this one; none: it has none yet.
+function __lsm_is -a command
+    set -l words (commandline -opc)
+    test "$words[2]" = "$command"
+end
+
+# Whether that command's place of this number, from 1, is being written: no option and no value.
+function __lsm_at -a command place
+    __lsm_is $command; or return
+    set -l words (commandline -opc)
+    set -e words[1..2]
+    set -l at 1
+    set -l wants_value
+    for word in $words
+        if test -n "$wants_value"
+            set wants_value
+            continue
+        end
+        switch $word
+            case VALUED
+                set wants_value yes
+            case '--*'
+            case '*'
+                set at (math $at + 1)
+        end
+    end
+    test -z "$wants_value" -a $at -eq $place
+end
+
+complete -c lsm -f
+complete -c lsm -n '__lsm_is' -l help -d 'Print help'
+complete -c lsm -n '__lsm_is' -l version -d 'Print version'
+"""
+
+
 def fish(commands: list[Command]) -> str:
-    made = [
-        "# Completion of lsm for fish. Made by tools/manual.py from the help of the program.",
-        "complete -c lsm -f",
-        "complete -c lsm -n __fish_use_subcommand -l help -d 'Print help'",
-        "complete -c lsm -n __fish_use_subcommand -l version -d 'Print version'",
-    ]
+    valued = sorted({f"--{o.name}" for c in commands for o in c.options if o.value})
+    made = [FISH.rstrip().replace("VALUED", " ".join(valued))]
+    names = " ".join(command.name for command in commands)
+    kinds = {"FILE": "-F", "DIR": "-a '(__fish_complete_directories)'", "COMMAND": f"-a '{names}'"}
     for command in commands:
-        seen = f"'__fish_seen_subcommand_from {command.name}'"
-        made.append(
-            f"complete -c lsm -n __fish_use_subcommand -a {command.name} -d {fish_quoted(command.about)}"
-        )
-        kinds = {argument.name for argument in command.arguments}
-        if "FILE" in kinds:
-            made.append(f"complete -c lsm -n {seen} -F")
-        elif "DIR" in kinds:
-            made.append(f"complete -c lsm -n {seen} -a '(__fish_complete_directories)'")
-        if "COMMAND" in kinds:
-            names = " ".join(it.name for it in commands)
-            made.append(f"complete -c lsm -n {seen} -a '{names}'")
-        for option in command.options:
+        about = fish_quoted(command.about)
+        made.append(f"complete -c lsm -n '__lsm_is' -a {command.name} -d {about}")
+        for place, argument in enumerate(command.arguments, 1):
+            if argument.name in kinds:
+                offered = kinds[argument.name]
+                made.append(f"complete -c lsm -n '__lsm_at {command.name} {place}' {offered}")
+        options = [*command.options, Option("help", None, "Print help")]
+        for option in options:
             value = " -x" if option.value else ""
-            made.append(
-                f"complete -c lsm -n {seen} -l {option.name}{value} -d {fish_quoted(option.help)}"
-            )
+            text = fish_quoted(option.help)
+            made.append(f"complete -c lsm -n '__lsm_is {command.name}' -l {option.name}{value} -d {text}")
     return "\n".join(made) + "\n"
 
 

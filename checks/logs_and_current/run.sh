@@ -40,12 +40,12 @@ is_done() { # WORDS..: without a word on standard error
   [[ $status == 0 && ! -s err ]] || stop "it is not done"
 }
 
-refuses() { # FIRST SECOND WORDS..: status 1, that first line, and a second line that matches
+refuses() { # FIRST SECOND WORDS..: status 1, that first line, and what stands behind it matches
   local first=$1 second=$2
   shift 2
   lsm "$@"
   [[ $status == 1 && ! -s out && $(head -n 1 err) == "$first" ]] || stop "it is not $first"
-  [[ $(sed -n 2p err) =~ $second ]] || stop "the second line is not $second"
+  [[ $(sed 1d err) =~ $second ]] || stop "no line behind it is $second"
 }
 
 is_same() { # OLD NEW: two folders, but for the file LOCK

@@ -7,6 +7,9 @@ import tty
 
 program = sys.argv[1]
 CLEAR = b"\r\x1b[K"
+# A line that says how far it is does not wrap, however narrow the terminal; what follows does.
+KEPT = b"\x1b[?7l", b"\x1b[?7h"
+os.environ["TERM"] = "xterm"
 
 
 def run(*words, out=subprocess.PIPE, terminal=True):
@@ -42,8 +45,12 @@ def want(found, wanted):
     assert found == wanted, f"{found!r}, not {wanted!r}"
 
 
+def in_line(line):
+    return KEPT[0] + line.encode() + KEPT[1]
+
+
 def shown(*lines):
-    return b"".join(CLEAR + line.encode() for line in lines) + CLEAR
+    return b"".join(CLEAR + in_line(line) for line in lines) + CLEAR
 
 
 def stays(*lines):
@@ -80,7 +87,8 @@ def a_load_that_is_refused():
     status, out, err = run("load", "db", "bad.txt", "--text")
     want((status, out), (1, b""))
     first, second, third, last = err.split(CLEAR)[1:]
-    want((first, second, last), (b"lines 1 to 65536 are in", b"bad line 70001\n", b"lines 1 to 70000 are in\n"))
+    want((first, second), (in_line("lines 1 to 65536 are in"), b"bad line 70001\n"))
+    want(last, in_line("lines 1 to 70000 are in") + b"\n")
     assert third.startswith(b"line 70001, column 4: "), third
 
 
@@ -89,7 +97,8 @@ def a_compaction():
     assert status == 0 and out.startswith(b"installed "), (status, out)
     lines = err.split(CLEAR)
     want((lines[0], lines[-1]), (b"", b""))
-    assert lines[1].startswith(b"opened ") and lines[-2].startswith(b"removed ") and b"\n" not in err, err
+    assert lines[1].startswith(KEPT[0] + b"opened ") and b"\n" not in err, err
+    assert lines[-2].startswith(KEPT[0] + b"removed "), err
 
 
 def a_check():
@@ -135,6 +144,13 @@ def lines_that_are_asked_for():
     want((status, err), (0, stays(*(f"checked {n} of {count} files" for n in range(1, count + 1)))))
 
 
+def a_dumb_terminal():
+    os.environ["TERM"] = "dumb"
+    status, _out, err = run("check", "db")
+    want((status, err), (0, b""))
+    os.environ["TERM"] = "xterm"
+
+
 def no_terminal():
     for words in (("check", "db"), ("compact", "db"), ("load", "db", "more.txt", "--text")):
         status, _out, err = run(*words, terminal=False)
@@ -161,6 +177,7 @@ for part in (
     a_check_that_is_refused,
     scans,
     lines_that_are_asked_for,
+    a_dumb_terminal,
     no_terminal,
     other_commands_and_words,
 ):

@@ -1,8 +1,9 @@
 #!/usr/bin/env bash
 # What `lsm` shows of how far it is, where standard error is a terminal: one line, which each later
-# one replaces, and which is gone at the end; nothing where it is none, or where a `scan` writes
-# anywhere but into a file; with --progress lines that stay; a refusal, and which lines are in, stay
-# too. Needs python3, and tmux for a look at the screen, which is left out where there is none.
+# one replaces, and which is gone at the end, also in a window of 40 columns; nothing where it is
+# none or dumb, or where a `scan` writes anywhere but into a file; with --progress lines that stay; a
+# refusal, and which lines are in, stay too. Needs python3, and tmux for a look at the screen, which
+# is left out where there is none.
 # LSM=/path/to/lsm names a built program.
 set -euo pipefail
 here=$(cd "$(dirname "$0")" && pwd)
@@ -17,17 +18,33 @@ if ! command -v tmux > /dev/null; then
   echo "not tried: the screen: tmux is not installed"
   exit
 fi
-tmux -L "$name" new-session -d -x 90 -y 30 \
-  "$program check db; $program load db more.txt --text; $program get db key000007 --text; echo status \$?; sleep 60"
-for _ in $(seq 600); do
-  tmux -L "$name" capture-pane -p | sed '/^$/d' > seen
-  [[ $(tail -n 1 seen) != "status 0" ]] || break
-  sleep 0.1
-done
-sed -E 's/[0-9]+/N/g' seen > found
+
+see() { # COLUMNS COMMANDS: what stands on a screen behind these, whose numbers are N in `found`
+  tmux -L "$name" new-session -d -x "$1" -y 30 "$2; echo status \$?; sleep 60"
+  for _ in $(seq 600); do
+    tmux -L "$name" capture-pane -p | sed '/^$/d' > seen
+    [[ $(tail -n 1 seen) != "status 0" ]] || break
+    sleep 0.1
+  done
+  tmux -L "$name" kill-server
+  sed -E 's/[0-9]+/N/g' seen > found
+}
+
+see 90 "$program check db; $program load db more.txt --text; $program get db key000007 --text"
 {
   for _ in $(seq 7); do echo "level N files N bytes N entries N"; done
   printf '%s\n' "last N" "rest N" "loaded N lines in N batches" "value N" "status N"
 } > wanted
 cmp found wanted || { cat seen >&2; exit 1; }
 echo "a screen: as wanted"
+
+# 24 tables, whose lines are wider than the window; and the terminal wraps again behind them
+mkdir narrow
+for n in {11..22} {31..42}; do
+  "$program" put narrow "$n" 00 > out || { "$program" compact narrow > out && "$program" put narrow "$n" 00 > out; }
+done
+long="behind_it_a_line_of_fifty_characters_is_wrapped_again"
+see 40 "$program check narrow --workers 1 > out; printf '%s\n' $long"
+printf '%s\n' "${long:0:40}" "${long:40}" "status N" > wanted
+cmp found wanted || { cat seen >&2; exit 1; }
+echo "a narrow screen: as wanted"

@@ -1,12 +1,21 @@
 -- Why a command on a directory is refused, and what it prints of that: this project's rule.
 use Rattle.std.specs.Prelude.{ℕ, List, [], codes, Option, Some, None}
 use Rattle.lsm_table.specs.declared.read_fault.ReadFault.{ReadFault}
+use Rattle.lsm_table.specs.declared.read_fault.ReadFault.TheVariants as read_faults
+use Rattle.lsm_table.specs.declared.table_fault.TableFault.{TableFault}
+use Rattle.lsm_table.specs.declared.table_fault.TableFault.TheVariants as table_faults
 use Rattle.lsm_shelf.specs.declared.shelf_fault.ShelfFault.{ShelfFault}
+use Rattle.lsm_shelf.specs.declared.shelf_fault.ShelfFault.TheVariants as shelf_faults
 use Rattle.lsm_shelf.specs.ShelfFault as shelf
 use Rattle.lsm_manifest.specs.LogFault as log
+use Rattle.lsm_manifest.specs.declared.log_fault.LogFault.{LogFault}
+use Rattle.lsm_manifest.specs.declared.log_fault.LogFault.TheVariants as log_faults
 use Rattle.lsm_manifest.specs.EditFault as edit
+use Rattle.lsm_manifest.specs.declared.edit_fault.EditFault.{EditFault}
+use Rattle.lsm_manifest.specs.declared.edit_fault.EditFault.TheVariants as edit_faults
 use Rattle.lsm_manifest.specs.ReplayFault as replay
 use Rattle.lsm_manifest.specs.declared.replay_fault.ReplayFault.{ReplayFault}
+use Rattle.lsm_manifest.specs.declared.replay_fault.ReplayFault.TheVariants as replay_faults
 use Rattle.lsm_table.specs.ReadFault as read
 use Rattle.lsm_verify.specs.CheckFault as check
 use Rattle.lsm_journal.specs.RecoverFault as recover
@@ -99,14 +108,87 @@ file_of NumbersSpent = None
 file_of Locked = None
 file_of Absent = None
 
--- what a fault means, as a line of its own, beside the file that it names
-abbrev pub meaning : DirectoryFault → Option (List ℕ)
-meaning OutOfMemory = Some []
-meaning Write = Some []
-meaning (Shelf fault) = Some []
-meaning (Manifest fault) = Some []
-meaning (Tables fault) = Some []
-meaning (Read fault) = Some []
-meaning NumbersSpent = Some []
-meaning Locked = Some (codes "another program has the folder open\n")
-meaning Absent = Some []
+-- ---- what a fault means, on a line of its own
+
+-- of a manifest that is damaged
+abbrev pub damaged : List ℕ
+damaged = codes "in the manifest that CURRENT names; LevelDB's RepairDB makes a new one\n"
+
+-- of a manifest that is not there, or that CURRENT does not name in its form
+abbrev pub unnamed : List ℕ
+unnamed =
+    codes "CURRENT has to name a manifest that is there: echo MANIFEST-N > DIR/CURRENT\n"
+
+abbrev pub shelf_meaning : ShelfFault → List ℕ
+shelf_meaning shelf_faults.OutOfMemory = []
+shelf_meaning shelf_faults.Device = []
+shelf_meaning shelf_faults.Missing = unnamed
+shelf_meaning (shelf_faults.Taken number) = []
+
+abbrev pub log_meaning : LogFault → List ℕ
+log_meaning log_faults.OutOfMemory = []
+log_meaning (log_faults.LogChecksum offset) = damaged
+log_meaning (log_faults.LogOrder offset) = damaged
+log_meaning (log_faults.LogType offset) = damaged
+
+-- RocksDB's manifests have tags that LevelDB's have not
+abbrev pub edit_meaning : EditFault → List ℕ
+edit_meaning edit_faults.OutOfMemory = []
+edit_meaning (edit_faults.UnknownTag tag) =
+    codes "in the manifest that CURRENT names; RocksDB writes tags that LevelDB has not\n"
+edit_meaning (edit_faults.BadLevel level) = damaged
+edit_meaning edit_faults.EditCut = damaged
+edit_meaning edit_faults.BadEditKey = damaged
+
+abbrev pub replay_meaning : ReplayFault → List ℕ
+replay_meaning replay_faults.OutOfMemory = []
+replay_meaning replay_faults.NoNextFile = damaged
+replay_meaning replay_faults.NoLogNumber = damaged
+replay_meaning replay_faults.NoLastSequence = damaged
+replay_meaning replay_faults.OtherComparator =
+    codes "in the manifest that CURRENT names; lsm manifest prints which comparator it has\n"
+replay_meaning (replay_faults.DoubleFile number) =
+    codes "in the manifest that CURRENT names; open it once more in the program that wrote it\n"
+
+abbrev pub recover_meaning : RecoverFault → List ℕ
+recover_meaning (recover_faults.Shelf fault) = shelf_meaning fault
+recover_meaning (recover_faults.Log fault) = log_meaning fault
+recover_meaning (recover_faults.Edit fault) = edit_meaning fault
+recover_meaning (recover_faults.Replay fault) = replay_meaning fault
+
+abbrev pub table_meaning : TableFault → List ℕ
+table_meaning table_faults.OutOfMemory = []
+table_meaning table_faults.BadRestarts = []
+table_meaning (table_faults.BadEntry offset) = []
+table_meaning (table_faults.OutOfOrder offset) = []
+table_meaning table_faults.ShortFile = []
+table_meaning table_faults.BadMagic = []
+table_meaning table_faults.BadHandle = []
+table_meaning (table_faults.BadChecksum offset) = []
+table_meaning (table_faults.Compressed kind) =
+    codes "compressed tables are not read: COMMANDS has the line that copies all pairs\n"
+table_meaning (table_faults.BadBlockType kind) = []
+table_meaning table_faults.BadIndex = []
+
+abbrev pub read_meaning : ReadFault → List ℕ
+read_meaning (read_faults.Shelf fault) = []
+read_meaning (read_faults.Table fault) = table_meaning fault
+
+abbrev pub check_meaning : CheckFault → List ℕ
+check_meaning (check_faults.Read file fault) = read_meaning fault
+check_meaning (check_faults.DoubleFile number) = []
+check_meaning (check_faults.Overlap level) = []
+check_meaning (check_faults.WrongRange number) = []
+check_meaning (check_faults.AgeOrder user) = []
+
+-- what a fault means, beside the file of a table that it names
+abbrev pub meaning_of : DirectoryFault → List ℕ
+meaning_of OutOfMemory = []
+meaning_of Write = []
+meaning_of (Shelf fault) = []
+meaning_of (Manifest fault) = recover_meaning fault
+meaning_of (Tables fault) = check_meaning fault
+meaning_of (Read fault) = read_meaning fault
+meaning_of NumbersSpent = []
+meaning_of Locked = codes "another program has the folder open\n"
+meaning_of Absent = []

@@ -4,6 +4,7 @@ pub mod Folders
 pub mod Looking
 pub mod FileNames
 pub mod Logs
+pub mod Rest
 pub mod DirectoryFault
 pub mod Inputs
 -- What private functions and proofs cite alone

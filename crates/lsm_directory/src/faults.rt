@@ -2,3 +2,4 @@
 
 pub(crate) mod directory_fault;
 pub(crate) mod directory_refusals;
+pub(crate) mod meanings;

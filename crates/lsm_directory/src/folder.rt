@@ -6,4 +6,5 @@ pub(crate) mod folder_file;
 pub(crate) mod holding;
 pub(crate) mod logs;
 pub(crate) mod looking;
+pub(crate) mod rest;
 pub(crate) mod wording;

@@ -3,11 +3,16 @@
 ghost use Rattle.std.specs.Prelude.{◌≡◌};
 
 use std::alloc::{AllocError, Global};
-use std::fs;
 use std::io::{self, IsTerminal, Write};
+use std::{env, fs};
 
 /// To the beginning of the terminal's line, and nothing behind it any more.
 const CLEAR: &[u8] = b"\r\x1b[K";
+
+/// What is wider than the terminal stays in its line (DECAWM is off), and no more so (it is on).
+const KEEP_IN_LINE: &[u8] = b"\x1b[?7l";
+
+const WRAP_AGAIN: &[u8] = b"\x1b[?7h";
 
 /// How the lines begin that say how far a command is.
 const BEGINNINGS: [&[u8]; 7] = [
@@ -31,9 +36,17 @@ fn goes_into_file(files: &HostRuntime) -> bool {
     }
 }
 
+/// Whether the terminal is said to know no more than characters and ends of lines.
+fn is_dumb(host: &HostRuntime) -> bool {
+    match env::var(host, "TERM") {
+        Ok(name) => name.as_str() == "dumb",
+        Err(_) => false,
+    }
+}
+
 /// Whether a command that these words name is to show on standard error how far it is, though they
-/// do not ask for it: one that may take long, at a terminal on which nothing else is written while
-/// it runs.
+/// do not ask for it: one that may take long, at a terminal that is not dumb, and on which nothing
+/// else is written while it runs.
 pub fn shows_how_far(host: &HostRuntime, words: &[String]) -> bool {
     let [name, rest @ ..] = words else {
         return false;
@@ -48,6 +61,7 @@ pub fn shows_how_far(host: &HostRuntime, words: &[String]) -> bool {
             .iter()
             .any(|word| word.as_str().starts_with("--progress"))
         && host.stderr().is_terminal()
+        && !is_dumb(host)
 }
 
 /// The words, and `--progress` behind the first one if it is to be asked for.
@@ -80,14 +94,16 @@ fn marks_of(line: &[u8]) -> Option<u64> {
 }
 
 /// Standard error. Where it shows how far a command is, each line that says so takes the place of
-/// the one before it, and the last one is gone at the end; all other lines stay. Contracts see what
-/// it holds where it shows nothing: just what is written.
+/// the one before it, however narrow the terminal, and the last one is gone at the end; all other
+/// lines stay. Contracts see what it holds where it shows nothing: just what is written.
 #[derive(Drop)]
 pub struct OneLine<E: Write + Drop> {
     out: E,
     shows: bool,
     /// What was written of a line that has not ended.
     line: Vec<u8>,
+    /// What shows a line that has ended.
+    shown: Vec<u8>,
     /// Whether the terminal's line says how far it is.
     is_shown: bool,
 }
@@ -102,21 +118,41 @@ impl<E: Write + Drop> OneLine<E> {
             out,
             shows,
             line: Vec::new(alloc),
+            shown: Vec::new(alloc),
             is_shown: false,
         }
     }
 
-    /// Appends a bar to the line, if it says of how many it is.
+    /// Appends a bar to what is shown, if the line says of how many it is.
     fn push_bar(&mut self) -> Result<(), AllocError> {
         let Some(set) = marks_of(self.line.as_slice()) else {
             return Ok(());
         };
-        self.line.extend_from_slice(b"  [")?;
+        self.shown.extend_from_slice(b"  [")?;
         for mark in 0..MARKS {
-            self.line.push(if mark < set { b'#' } else { b'.' })?;
+            self.shown.push(if mark < set { b'#' } else { b'.' })?;
         }
-        self.line.push(b']')?;
+        self.shown.push(b']')?;
         Ok(())
+    }
+
+    /// Shows the line in the place of the one before it. That the terminal wraps again is in the
+    /// same write, so that it does so however the program ends.
+    fn show_line(&mut self) -> io::Result<()> {
+        self.shown.clear();
+        self.shown.extend_from_slice(CLEAR)?;
+        self.shown.extend_from_slice(KEEP_IN_LINE)?;
+        self.shown.extend_from_slice(self.line.as_slice())?;
+        self.push_bar()?;
+        self.shown.extend_from_slice(WRAP_AGAIN)?;
+        self.out.write_all(self.shown.as_slice())
+    }
+
+    /// Writes a line that stays.
+    fn keep_line(&mut self) -> io::Result<()> {
+        self.out.write_all(CLEAR)?;
+        self.line.push(b'\n')?;
+        self.out.write_all(self.line.as_slice())
     }
 
     /// Writes the line that has ended.
@@ -126,12 +162,10 @@ impl<E: Write + Drop> OneLine<E> {
             .iter()
             .any(|beginning| line.starts_with(beginning));
         if self.is_shown {
-            self.push_bar()?;
+            self.show_line()?;
         } else {
-            self.line.push(b'\n')?;
+            self.keep_line()?;
         }
-        self.out.write_all(CLEAR)?;
-        self.out.write_all(self.line.as_slice())?;
         self.line.clear();
         Ok(())
     }

@@ -1,7 +1,8 @@
 //! Why a command on a directory ends with status 1.
 
-ghost use Rattle.std.specs.Prelude.{◌≡◌};
-ghost use Rattle.lsm_directory.specs.DirectoryFault.{fault_text, file_of, meaning, number_of, of_open};
+ghost use Rattle.std.specs.Prelude.{◌≡◌, Some};
+ghost use Rattle.lsm_directory.specs.DirectoryFault.{fault_text, file_of, meaning_of, number_of};
+ghost use Rattle.lsm_directory.specs.DirectoryFault.{of_open};
 ghost use Rattle.lsm_directory.specs.declared.faults.directory_fault.DirectoryFault.TheVariants.{OutOfMemory};
 ghost use Rattle.lsm_directory.specs.declared.faults.directory_fault.DirectoryFault.TheVariants.{Shelf};
 ghost use Rattle.lsm_directory.specs.declared.faults.directory_fault.DirectoryFault.TheVariants.{Manifest};
@@ -10,6 +11,7 @@ ghost use Rattle.lsm_directory.specs.declared.faults.directory_fault.DirectoryFa
 ghost use Rattle.lsm_directory.specs.declared.faults.directory_fault.DirectoryFault.TheVariants.{Write as WriteVariant};
 
 use crate::faults::directory_refusals::{of_locked, of_manifest, of_spent, of_tables};
+use crate::faults::meanings::meaning_of;
 use crate::telling::Exit;
 use crate::telling::output::OutputFault;
 use lsm_batch::Write as KeyWrite;
@@ -99,7 +101,7 @@ impl fmt::Display for DirectoryFault {
 impl Exit for DirectoryFault {
     ghost file = { file_of };
 
-    ghost meaning = { meaning };
+    ghost meaning = { λ f. Some (meaning_of f) };
 
     fn table_file(&self) -> Option<u64> {
         self.file()
@@ -113,10 +115,7 @@ impl Exit for DirectoryFault {
     }
 
     fn explain<E: Write>(&self, err: &mut E, _writes: &[KeyWrite]) -> io::Result<()> {
-        match self {
-            DirectoryFault::Locked => err.write_all(b"another program has the folder open\n"),
-            _ => Ok(()),
-        }
+        err.write_all(meaning_of(self).as_bytes())
     }
 }
 
