@@ -1,7 +1,7 @@
 //! A new database in a folder of the system, from its opening to a read: every premise of the
 //! calls on the way is met by a call before it.
 
-ghost use Rattle.std.specs.Prelude.{◌≡◌, ◌++◌, IfOk, IfSome, OnOk};
+ghost use Rattle.std.specs.Prelude.{◌≡◌, ◌++◌, IfOk, OnOk};
 ghost use Rattle.std.specs.Option.{option_map};
 ghost use Rattle.lsm_batch.specs.Batches.{entries_from};
 ghost use Rattle.lsm_crash.specs.Database.{IsMade};
@@ -27,7 +27,7 @@ use std::sync::{Arc, Wait};
 
 /// What is brought into a new database in the folder of this path is read: the newest entry of the
 /// batch under the key, or none where it has none. It is said of the system's folder, with the
-/// witness that compares, and with no premise; None where a call on the way was refused. So the
+/// witness that compares, and with no premise; or a call on the way was refused. So the
 /// premises of the calls of a database (that options fit, that a board and a history are new and
 /// are those of the name, that a shelf is of its place, and that it is honest) are all met at once,
 /// by what a program does.
@@ -37,16 +37,16 @@ pub fn what_came_in_is_read<R: Wait>(
     path: &str,
     batch: &Batch,
     user: &[u8],
-) -> Option<Option<Vec<u8>>>
-    ensures { IfSome result (λ v.
+) -> Result<Option<Vec<u8>>, StateFault>
+    ensures { IfOk result (λ v.
         IsReadOfAll (entries_from 1 batch.now) user.now (option_map (λ b. b.items) v)) }
 {
     let alloc = host.alloc();
     let options = Options::usual();
-    let records = Records::new(alloc).ok()?;
-    let board = Board::new(alloc, options.readers, options.versions).ok()?;
-    let history = NewHistory::new(alloc).ok()?;
-    let shelf: ComparedShelf = FileShelf::open(host, path).ok()?;
+    let records = Records::new(alloc)?;
+    let board = Board::new(alloc, options.readers, options.versions)?;
+    let history = NewHistory::new(alloc)?;
+    let shelf: ComparedShelf = FileShelf::open(host, path)?;
     read_back::<Brand, ComparedShelf, R>(
         rt, alloc, shelf, options, records, board, history, batch, user,
     )
@@ -63,22 +63,22 @@ fn read_back<N: Boarded, S: Shelf, R: Wait>(
     history: NewHistory,
     batch: &Batch,
     user: &[u8],
-) -> Option<Option<Vec<u8>>>
+) -> Result<Option<Vec<u8>>, StateFault>
     requires fits { Fits options }
     requires records { records ≡ N.registry }
     requires named { (S.told shelf).place ≡ N.place }
     requires board { IsNewBoard N.board options board.0 board.1.items }
     requires history { IsNewHistory N.history history }
-    ensures { S.honest → IfSome result (λ v.
+    ensures { S.honest → IfOk result (λ v.
         IsReadOfAll (entries_from 1 batch.now) user.now (option_map (λ b. b.items) v)) }
 {
-    let registry = Registry::<N, S>::shared(alloc, records).ok()?;
+    let registry = Registry::<N, S>::shared(alloc, records)?;
     let mut shelf = NamedShelf::of(shelf);
     let mut state = brought(
         rt, alloc, &mut shelf, options, registry, board, history, batch,
     )?;
     let (value, _memory) = read_first(alloc, &mut state, &mut shelf, user);
-    value.ok()
+    value
 }
 
 /// A new database, into which the batch came and nothing else.
@@ -91,16 +91,15 @@ fn brought<N: Boarded, S: Shelf, R: Wait>(
     board: (Publisher, Vec<Pinner>),
     history: NewHistory,
     batch: &Batch,
-) -> Option<State<N, S>>
+) -> Result<State<N, S>, StateFault>
     requires fits { Fits options }
     requires board { IsNewBoard N.board options board.0 board.1.items }
     requires history { IsNewHistory N.history history }
-    ensures { IfSome result (λ s. s.history ≡ entries_from 1 batch.now) }
+    ensures { IfOk result (λ s. s.history ≡ entries_from 1 batch.now) }
 {
-    let made = State::<N, S>::create(rt, alloc, shelf, options, registry, board, history);
-    let mut state = made.ok()?;
-    first_batches_are_a_life(rt, alloc, &mut state, shelf, batch).ok()?;
-    Some(state)
+    let mut state = State::<N, S>::create(rt, alloc, shelf, options, registry, board, history)?;
+    first_batches_are_a_life(rt, alloc, &mut state, shelf, batch)?;
+    Ok(state)
 }
 
 /// What is brought into a database that was just made: its first life, from an empty disk on, until

@@ -8,4 +8,4 @@ returns-clause-lived g c =
     let is : Held = c.ingest-ingested.new.self in
     let board = g.N.Boarded.board in
     lived_so g.S.Shelf.honest board (c.premises_of_runs_are_met.ensures.new board) c.ingest-ingested.result was is c.args.batch.now c.args.shelf.now c.ingest-ingested.new.shelf
-    (c.options-options.ensures.law, c.options-options.ensures.slots) (c.options-options-2.ensures.law, c.options-options-2.ensures.slots) c.requires c.ingest-ingested.ensures.welcome c.ingest-ingested.ensures.ok c.ingest-ingested.ensures.event
+    (c.options-options.ensures.law, c.options-options.ensures.slots) (c.options-options-2.ensures.law, c.options-options-2.ensures.slots) c.requires.made c.ingest-ingested.ensures.welcome c.ingest-ingested.ensures.ok c.ingest-ingested.ensures.event
