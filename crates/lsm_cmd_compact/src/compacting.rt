@@ -36,10 +36,7 @@ use lsm_requests::CompactOptions;
 use lsm_slots::Boarded;
 use lsm_state::{State, StateFault};
 use lsm_store::laws::what_was_found_is_kept;
-use lsm_store::{
-    Gate, Invariant, ManualCompaction, NoGate, Returned, Store, run_workers_over,
-    run_workers_returning,
-};
+use lsm_store::{Invariant, ManualCompaction, NoGate, Picks, Returned, Store, run_workers_by};
 use lsm_table::{NamedShelf, Shelf, ShelfFault};
 use std::alloc::{AllocError, AllocFailed, Global};
 use std::io::{self, Write};
