@@ -27,7 +27,6 @@ CRATES = {
     "lsm_lines": ("program", "lines to batches"),
     "lsm_server": ("program", "the program lsm_server"),
     "lsm_channels": ("program", "an answer to each request"),
-    "lsm_wire": ("program", "a channel's end"),
     "lsm_frames": ("file", "requests, answers as bytes"),
     "lsm_cmd_compact": ("program", "compact"),
     "lsm_cmd_write": ("program", "ingest, put, clean"),

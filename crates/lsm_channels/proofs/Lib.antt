@@ -1,8 +1,3 @@
-mod KeepingLaws
-mod RunLaws
-mod Sending
-mod TurnLaws
-mod WireLaws
 mod KnownLaws
 mod SeenLaws
 mod PinLaws

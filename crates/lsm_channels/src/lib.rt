@@ -29,20 +29,18 @@ mod refusing;
 mod saying;
 mod viewing;
 
-// Frames over wires, a thread for each channel.
+// Frames over descriptors, a thread for each channel.
 mod channel;
-mod channel_thread;
+mod descriptors;
 mod opened;
 mod serving;
-mod wires;
 
 // A database is opened.
-mod ended;
 mod opening_fault;
 mod parts;
 mod plan;
 mod program;
 
-pub use ended::Ended;
+pub use descriptors::Descriptors;
 pub use program::serve_opening;
 pub use session::Session;

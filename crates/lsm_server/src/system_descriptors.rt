@@ -1,10 +1,6 @@
 //! The descriptors of this process.
 
-ghost use Rattle.std.specs.Prelude.{◌≡◌, []};
-
-use crate::descriptor_wire::DescriptorWire;
-use crate::opens::Opens;
-use lsm_wire::Descriptors;
+use lsm_channels::Descriptors;
 use std::fs;
 
 /// A process has fewer files open than this. Numbers from here on are channels in memory, where the
@@ -15,25 +11,15 @@ const PAST_FILES: i32 = 1_000_000;
 #[derive(Drop)]
 pub(crate) struct SystemDescriptors {
     files: HostRuntime,
-    opens: Opens,
 }
 
 impl SystemDescriptors {
-    pub(crate) fn new(files: HostRuntime) -> SystemDescriptors
-        ensures { result.opens.opened ≡ [] }
-    {
-        SystemDescriptors {
-            files,
-            opens: Opens::empty(),
-        }
+    pub(crate) fn new(files: HostRuntime) -> SystemDescriptors {
+        SystemDescriptors { files }
     }
 }
 
 impl Descriptors for SystemDescriptors {
-    type Wire = DescriptorWire;
-
-    ghost opened = { λ d. d.opens.opened };
-
     fn is_open(&self, fd: i32) -> bool {
         if fd >= PAST_FILES {
             return true;
@@ -42,10 +28,5 @@ impl Descriptors for SystemDescriptors {
             return false;
         };
         matches!(fs::exists(&self.files, path.as_str()), Ok(true))
-    }
-
-    fn wire(&mut self, fd: i32) -> DescriptorWire {
-        self.opens.add(fd);
-        DescriptorWire::of(fd)
     }
 }
