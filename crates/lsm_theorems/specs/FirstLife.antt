@@ -1,5 +1,5 @@
 -- The first life of a database (this project's rule).
-use Rattle.std.specs.Prelude.{ℕ, List, [], ◌∷◌, Some}
+use Rattle.std.specs.Prelude.{List, [], ◌∷◌, Some}
 use Rattle.lsm_batch.specs.declared.write.Write.{Write}
 use Rattle.lsm_crash.specs.Database.{Answered, Ingest}
 use Rattle.lsm_crash.specs.Disk.{Disk, empty_disk}
