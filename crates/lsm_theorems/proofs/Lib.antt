@@ -5,3 +5,5 @@ pub mod CallSteps
 pub mod Elements
 pub mod SmallRun
 pub mod Witnesses
+pub mod AnyImage
+pub mod FirstLife

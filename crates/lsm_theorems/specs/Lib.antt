@@ -3,4 +3,6 @@ pub mod Calls
 pub mod Database
 pub mod Newest
 pub mod Unchanged
+pub mod FirstLife
 pub mod SmallRun
+pub mod Stored

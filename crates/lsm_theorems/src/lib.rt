@@ -26,4 +26,7 @@ pub mod bytes;
 pub mod crashes;
 
 // That there is something of which the laws speak.
+pub mod compared;
 pub mod instances;
+pub mod made;
+pub mod shown;

@@ -45,7 +45,8 @@ pub fn later_reads_go_on<N: Boarded, S: Shelf, K: Invariant, R: Wait>(
     read_on(alloc, &mut store.lock(rt).state, shelf, memory, user)
 }
 
-fn read_first<N: Boarded, S: Shelf>(
+/// A read at the last sequence, and all that had come in.
+pub(crate) fn read_first<N: Boarded, S: Shelf>(
     alloc: Global,
     state: &mut State<N, S>,
     shelf: &mut NamedShelf<N, S>,
