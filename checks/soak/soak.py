@@ -23,7 +23,7 @@ BATCHES = (1, 10, 1000)
 ROUND = {1: 2000, 10: 10000, 1000: 50000}
 # Bytes written for a byte that came in. Small batches of keys that lie everywhere cost more: LevelDB
 # gathers them in memory, here each is merged into what lies below it.
-IN_ORDER, EVERYWHERE = 9, 40
+IN_ORDER, EVERYWHERE = 12, 40
 # Once so many bytes came in, LevelDB has long left its memory too, and its own bytes are the measure.
 MEASURED = 16 << 20
 OF_LEVELDB = {
