@@ -1,5 +1,5 @@
 -- How a run ends.
-use Rattle.std.proofs.Common.{◌≡◌, ℕ, ◌+◌, ◌≤◌, ℤ, pos, Bool, List, [], ◌∷◌, ◌++◌, Option, Result, Ok, Err, IfOk, refl, sym, ap, ◌∙◌, subst, inl, inr, ◌⊎◌, arith}
+use Rattle.std.proofs.Common.{◌≡◌, ℕ, ◌+◌, ◌≤◌, ℤ, pos, Bool, List, [], ◌∷◌, ◌++◌, Option, Result, Ok, Err, IfOk, refl, sym, ap, ◌∙◌, subst, inl, inr, ◌⊎◌, true≢false, arith}
 use Rattle.std.specs.Prelude.{◌^◌, IsOk, MatchResult}
 use Rattle.lsm_frames.specs.Answers.{IsRefused}
 use Rattle.lsm_frames.specs.Openings.{IsOpening, Opened}
@@ -40,12 +40,12 @@ database_at Honest Refused gives n m start logs was p q ws rs count new same ser
 
 -- what was made, behind the wires of an opening or behind none, is one more
 one_more_made : (content : List ℕ) (o : Opened) (d : ℤ) (was mid is : List ℤ) → IsOpening content o → (mid ≡ was) ⊎ (mid ≡ opened_from o.first o.channels ++ was) → d ≡ pos o.first → is ≡ pos o.first ∷ mid
-    → (made : List ℤ) × (AreMadeFor content made × (is ≡ d ∷ (made ++ was)))
+    → (made : List ℤ) × AreMadeFor content made × (is ≡ d ∷ (made ++ was))
 one_more_made content o d was mid is opening (inl none) named more =
-    ([], (inl refl, more ∙ ap (λ (ds : List ℤ). pos o.first ∷ ds) none ∙ ap (λ (n : ℤ). n ∷ was) (sym named)))
+    ([], inl refl, more ∙ ap (λ (ds : List ℤ). pos o.first ∷ ds) none ∙ ap (λ (n : ℤ). n ∷ was) (sym named))
 one_more_made content o d was mid is opening (inr each) named more =
     let made : List ℤ = opened_from o.first o.channels in
-    (made, (inr (o, (opening, refl)), more ∙ ap (λ (ds : List ℤ). pos o.first ∷ ds) each ∙ ap (λ (n : ℤ). n ∷ (made ++ was)) (sym named)))
+    (made, inr (o, opening, refl), more ∙ ap (λ (ds : List ℤ). pos o.first ∷ ds) each ∙ ap (λ (n : ℤ). n ∷ (made ++ was)) (sym named))
 
 -- an opening was refused over its first channel
 pub opening_refused : (Honest : Type 0) (Refused : Asked → ShelfFault → Type 0) (gives : List ℕ → Type 0) (content : List ℕ) (o : Opened) (outcome : Outcome) (was mid is : List ℤ)
@@ -57,7 +57,7 @@ opening_refused Honest Refused gives content o NoneOpened was mid is opening onl
     let past : 2 ^ 31 ≤ o.first = refusal.0 in
     absurd (omega (arith, numbers, some, past))
 opening_refused Honest Refused gives content o (RefusedOn w) was mid is opening only wires refusal =
-    (refusal.1.0, (λ other same. refusal.0 ∙ ap (λ (x : Opened). pos x.first) (only other same), one_more_made content o w.descriptor was mid is opening wires refusal.0 refusal.1.1))
+    (refusal.1, (λ other same. refusal.0 ∙ ap (λ (x : Opened). pos x.first) (only other same)), one_more_made content o w.descriptor was mid is opening wires refusal.0 refusal.2)
 opening_refused Honest Refused gives content o (ServedTo rs) was mid is opening only wires refusal = absurd refusal
 
 -- what is no opening was refused over the channel that it names
@@ -65,13 +65,13 @@ pub content_refused : (Honest : Type 0) (Refused : Asked → ShelfFault → Type
     → ((other : Opened) → IsOpening content other → ⊥) → IsRefusal first was is outcome → IsContentServed Honest Refused gives content outcome was is
 content_refused Honest Refused gives content first NoneOpened was is none refusal = (none, refusal.1)
 content_refused Honest Refused gives content first (RefusedOn w) was is none refusal =
-    (refusal.1.0, (λ other same. absurd (none other same), ([], (inl refl, refusal.1.1 ∙ ap (λ (n : ℤ). n ∷ was) (sym refusal.0)))))
+    (refusal.1, (λ other same. absurd (none other same)), ([], inl refl, refusal.2 ∙ ap (λ (n : ℤ). n ∷ was) (sym refusal.0)))
 content_refused Honest Refused gives content first (ServedTo rs) was is none refusal = absurd refusal
 
 -- what is read as no opening is none
 pub no_opening : {T E : Type 0} (content : List ℕ) (P : Opened → T → Type 0) (r : Result T E) (e : E) → r ≡ Err e
     → ((other : Opened) → IsOpening content other → IsOk r × IfOk r (λ v. P other v)) → (other : Opened) → IsOpening content other → ⊥
-no_opening {T} {E} content P r e is only other opening = subst (λ (x : Result T E). IsOk x) is (only other opening).0
+no_opening {T} {E} content P r e is only other opening = true≢false (sym (subst (λ (x : Result T E). IsOk x) is (only other opening).0))
 
 -- what is read as an opening is no other one
 pub one_opening : {T E : Type 0} (content : List ℕ) (of : T → Opened) (r : Result T E) (v : T) → r ≡ Ok v
@@ -86,9 +86,13 @@ seen_end d e was is came zero same none noted =
 
 pub nothing_came : (Honest : Type 0) (Refused : Asked → ShelfFault → Type 0) (gives : List ℕ → Type 0) (came : Happening) (opening : End) (was is : List ℤ) → IsNoContent came
     → opening ≡ end (pos 0) (came ∷ []) → is ≡ pos 0 ∷ was → IsRun Honest Refused gives opening NoneOpened was is
-nothing_came Honest Refused gives came opening was is none seen made = inl (came, (none, (seen, (refl, made))))
+nothing_came Honest Refused gives came opening was is none seen made = inl (came, none, seen, refl, made)
 
 pub content_came : (Honest : Type 0) (Refused : Asked → ShelfFault → Type 0) (gives : List ℕ → Type 0) (content : List ℕ) (opening : End) (outcome : Outcome) (was mid is : List ℤ)
     → opening ≡ end (pos 0) (Came content ∷ []) → mid ≡ pos 0 ∷ was → IsContentServed Honest Refused gives content outcome mid is → IsRun Honest Refused gives opening outcome was is
 content_came Honest Refused gives content opening outcome was mid is seen made served =
-    inr (content, (seen, subst (λ (ds : List ℤ). IsContentServed Honest Refused gives content outcome ds is) made served))
+    inr (content, seen, subst (λ (ds : List ℤ). IsContentServed Honest Refused gives content outcome ds is) made served)
+
+-- what is said of a result that is Ok
+pub ok_at : {T E : Type 0} (P : T → Type 0) (r : Result T E) (v : T) → r ≡ Ok v → IfOk r P → P v
+ok_at {T} {E} P r v is ok = subst (λ (x : Result T E). IfOk x P) is ok

@@ -1,5 +1,5 @@
 -- What a session is answered by what is read.
-use Rattle.std.proofs.Common.{◌≡◌, ℕ, List, Result, Ok, Err, IfErr, IfOk, refl, subst, inl, inr}
+use Rattle.std.proofs.Common.{◌≡◌, ℕ, List, Result, Ok, Err, IfErr, IfOk, OnErr, refl, subst, inl, inr}
 use Rattle.std.specs.Prelude.{◌⊎◌}
 use Rattle.lsm_codec.specs.Entries.{Entry}
 use Rattle.lsm_history.specs.History.{IsLater}
@@ -52,3 +52,12 @@ says_some done (Err e) = (refusal_frame e, refl)
 pub says_some_work : (r : Result (Unit {0}) WorkerFault) → (frame : List ℕ) × SaysWork r frame
 says_some_work (Ok x) = (done_frame Nothing, refl)
 says_some_work (Err e) = (worker_refusal_frame e, refl)
+
+-- what would have been said, where there was no memory for it
+pub unsaid : {T E : Type 0} {P : Type 0} (r : Result T E) → P → OnErr r P
+unsaid (Ok v) p = tt
+unsaid (Err e) p = p
+
+pub unsaid_as : {T E : Type 0} (P Q : List ℕ → Type 0) (r : Result T E) → ((frame : List ℕ) → P frame → Q frame) → OnErr r ((frame : List ℕ) × P frame) → OnErr r ((frame : List ℕ) × Q frame)
+unsaid_as P Q (Ok v) as said = tt
+unsaid_as P Q (Err e) as said = (said.0, as said.0 said.1)

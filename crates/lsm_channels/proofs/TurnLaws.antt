@@ -1,5 +1,5 @@
 -- One turn of a channel.
-use Rattle.std.proofs.Common.{◌≡◌, ℕ, Bool, true, false, List, [], ◌∷◌, Result, Ok, Err, IfOk, OnErr, refl, sym, ap, ◌∙◌, subst}
+use Rattle.std.proofs.Common.{◌≡◌, ℕ, Bool, true, false, List, [], ◌∷◌, Result, Ok, Err, IfOk, OnErr, refl, sym, ap, ◌∙◌, subst, true≢false}
 use Rattle.std.specs.Prelude.{IsOk, MatchResult}
 use Rattle.lsm_frames.specs.Requests.{Asked, IsRequest}
 use Rattle.lsm_wire.specs.Conversing.{Answers, IsEnd, IsTurnOrEnd, Malformed, Unanswered, Untaken}
@@ -29,7 +29,7 @@ both_err P Q (Err e) p q = (p.0, (p.1, q))
 -- what is read as no request is none
 pub no_request : {T E : Type 0} (content : List ℕ) (P : Asked → T → Type 0) (r : Result T E) (e : E) → r ≡ Err e
     → ((asked : Asked) → IsRequest content asked → IsOk r × IfOk r (λ v. P asked v)) → (asked : Asked) → IsRequest content asked → ⊥
-no_request {T} {E} content P r e is only asked request = subst (λ (x : Result T E). IsOk x) is (only asked request).0
+no_request {T} {E} content P r e is only asked request = true≢false (sym (subst (λ (x : Result T E). IsOk x) is (only asked request).0))
 
 pub called : {S : Type 0} (answers : Answers S) (s : S) (was mid is : List Happening) (content : List ℕ) → ((asked : Asked) → IsRequest content asked → ⊥) → mid ≡ Came content ∷ was
     → IsCalledNoRequest mid is → IsEnd answers s s was is

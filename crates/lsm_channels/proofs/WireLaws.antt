@@ -141,3 +141,6 @@ all_front {X} P xs ys x last all = (split_last P ys x (subst (λ (zs : List X). 
 
 pub all_last : {X : Type 0} (P : X → Type 0) (xs ys : List X) (x : X) → xs ≡ ys ++ x ∷ [] → All P xs → P x
 all_last {X} P xs ys x last all = (split_last P ys x (subst (λ (zs : List X). All P zs) last all)).1
+
+pub all_first : {X : Type 0} (P : X → Type 0) (xs ys : List X) (x : X) → xs ≡ x ∷ ys → All P xs → P x
+all_first {X} P xs ys x first all = All-head P x ys (subst (λ (zs : List X). All P zs) first all)

@@ -9,7 +9,7 @@ use Rattle.lsm_channels.proofs.TurnLaws.{both_err, both_ok, called, no_request, 
 use Rattle.lsm_channels.proofs.channel.answer.Goals as goal
 
 pub perform-session-requires-clause-asked : goal.perform-session-requires-clause-asked
-perform-session-requires-clause-asked g c = c.requires.asked c.args.content.now (asked_of c.in-Ok.request) c.requires.given c.in-Ok.ensures.found
+perform-session-requires-clause-asked g c κs within = c.requires.asked c.args.content.now (asked_of c.in-Ok.request) c.requires.given c.in-Ok.ensures.found
 
 pub returns-in-Ok-clause-turn : goal.returns-in-Ok-clause-turn
 returns-in-Ok-clause-turn g c = λ was came.

@@ -8,7 +8,7 @@ use Rattle.lsm_channels.proofs.RunLaws.{no_opening, one_opening, opening_refused
 use Rattle.lsm_channels.proofs.program.serve_content.Goals as goal
 
 pub returns-in-Ok-serve_at : goal.returns-in-Ok-serve_at
-returns-in-Ok-serve_at g c = (opened_of c.in-Ok.opening, (c.in-Ok.ensures.found, (c.in-Ok-serve_at.ensures.served, c.in-Ok-serve_at.ensures.opened)))
+returns-in-Ok-serve_at g c = (opened_of c.in-Ok.opening, c.in-Ok.ensures.found, c.in-Ok-serve_at.ensures.served, c.in-Ok-serve_at.ensures.opened)
 
 pub returns-in-Err-serve_at : goal.returns-in-Err-serve_at
 returns-in-Err-serve_at g c =

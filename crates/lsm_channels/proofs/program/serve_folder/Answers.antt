@@ -5,7 +5,7 @@ use Rattle.lsm_requests.specs.declared.ingest_options.IngestOptions.{IngestOptio
 use Rattle.lsm_opening.specs.Preparing.{IsPrepared, IsUnprepared}
 use Rattle.lsm_shelf.specs.Refusals.{MayRefuse}
 use Rattle.lsm_channels.specs.Serving.{End, end}
-use Rattle.lsm_channels.proofs.RunLaws.{database_at}
+use Rattle.lsm_channels.proofs.RunLaws.{database_at, ok_at}
 use Rattle.lsm_channels.proofs.program.serve_folder.Goals as goal
 
 pub returns-in-Err-clause-refused : goal.returns-in-Err-clause-refused
@@ -29,5 +29,5 @@ returns-in-Ok-done-clause-served g c =
       place = place c.args.folder;
       at = c.requires.at;
       served = database_at (AreHonest g.C.FolderCalls.calls) MayRefuse g.W.Wire.gives c.args.plan.channels c.args.opening.now.channels start logs _ (place c.prepare.new.folder) (place c.args.folder)
-          (map seen c.args.wires.items) (map (option_map seen) c.in-Ok-done.wires.items) c.requires.channels c.over-shelf.ensures.fresh c.prepare.ensures.place c.in-Ok-done.ensures;
+          (map seen c.args.wires.items) (map (option_map seen) c.in-Ok-done.wires.items) c.requires.channels c.over-shelf.ensures.fresh c.prepare.ensures.place (ok_at _ c.serve_on-done.result.0 c.in-Ok-done.wires c.in-Ok-done.is c.serve_on-done.ensures);
     }

@@ -1,13 +1,12 @@
-use Rattle.lsm_channels.specs.Serving.{End, IsFresh, IsServed, IsServedFirst, end}
+use Rattle.lsm_channels.specs.Serving.{End, IsServed, IsServedFirst, end}
 use Rattle.lsm_channels.proofs.WireLaws.{all_front, all_last, served_wires}
 use Rattle.lsm_channels.proofs.serving.serve_opened.Goals as goal
 
 pub serve_beside-requires-clause-fresh : goal.serve_beside-requires-clause-fresh
 serve_beside-requires-clause-fresh g c =
-    let fresh = λ k. IsFresh g.K.Invariant.keeps k.session in
     let all = c.pair_all-others.ensures.fresh in (
-      all_last fresh c.pair_all-others.result.items c.pop.new.self.items c.in-Some.first c.in-Some.ensures.items all,
-      all_front fresh c.pair_all-others.result.items c.pop.new.self.items c.in-Some.first c.in-Some.ensures.items all,
+      all_last _ c.pair_all-others.result.items c.pop.new.self.items c.in-Some.first c.in-Some.ensures.items all,
+      all_front _ c.pair_all-others.result.items c.pop.new.self.items c.in-Some.first c.in-Some.ensures.items all,
     )
 
 pub returns-in-Ok : goal.returns-in-Ok

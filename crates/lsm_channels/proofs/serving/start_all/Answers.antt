@@ -2,7 +2,7 @@ use Rattle.std.proofs.Common.{arith}
 use Rattle.std.proofs.lemmas.List.Elements.{All-tail, All-same}
 use Rattle.std.specs.Vec.Iter.{into_iter_items}
 use Rattle.lsm_channels.specs.Serving.{IsFresh}
-use Rattle.lsm_channels.proofs.WireLaws.{all_behind, made_one_more}
+use Rattle.lsm_channels.proofs.WireLaws.{all_behind, all_first, made_one_more}
 use Rattle.lsm_channels.proofs.serving.start_all.Goals as goal
 
 pub loop-channel-preserved : goal.loop-channel-preserved
@@ -22,3 +22,7 @@ loop-channel-preserved g c =
       room = omega arith;
       all = omega arith;
     }
+
+pub start-thread-requires-clause-fresh : goal.start-thread-requires-clause-fresh
+start-thread-requires-clause-fresh g c κs within =
+    all_first _ (into_iter_items c.loop-channel.channel-iterator) (into_iter_items c.next.new.self) c.in-Some.channel c.in-Some.ensures.steps.0 c.loop-channel.invariant.fresh

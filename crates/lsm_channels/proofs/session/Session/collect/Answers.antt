@@ -11,10 +11,10 @@ returns-in_err-answer-clause-unanswered g c =
     let said = says_some (λ (n : ℕ). Removed n) c.collect-done.result in
     let after : Served = record { reader = c.self.inside.reader; shelf = c.collect-done.new.shelf; known = c.collect-done.new.memory; taken = c.self.inside.taken.items } in
     subst (λ (x : Served). (frame : List ℕ) × IsAnswered g.S.Shelf.honest (g.S.Shelf.refuses g.N.Naming.place) g.K.Invariant.keeps Collects x after frame) c.self.view_is
-    (said.0, (refl, (refl, (c.collect-done.result, (c.collect-done.ensures.ok, (c.collect-done.ensures.refused, said.1))))))
+    (said.0, (refl, refl, (c.collect-done.result, c.collect-done.ensures.ok, c.collect-done.ensures.refused, said.1)))
 
 pub returns-clause-answered : goal.returns-clause-answered
 returns-clause-answered g c =
     let after : Served = record { reader = c.self.inside.reader; shelf = c.collect-done.new.shelf; known = c.collect-done.new.memory; taken = c.self.inside.taken.items } in
     subst (λ (x : Served). IsAnswered g.S.Shelf.honest (g.S.Shelf.refuses g.N.Naming.place) g.K.Invariant.keeps Collects x after c.in_ok-answer.answer.items) c.self.view_is
-    (refl, (refl, (c.collect-done.result, (c.collect-done.ensures.ok, (c.collect-done.ensures.refused, c.in_ok-answer.ensures)))))
+    (refl, refl, (c.collect-done.result, c.collect-done.ensures.ok, c.collect-done.ensures.refused, c.in_ok-answer.ensures))

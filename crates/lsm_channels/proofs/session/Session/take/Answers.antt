@@ -11,4 +11,4 @@ returns-in_err-answer-clause-unanswered g c =
     let said = says_some (λ (r : ℕ × ℕ). Pinned r.0 r.1) c.take-done.result in
     let after : Served = record { reader = c.self.inside.reader; shelf = c.self.inside.shelf; known = c.take-done.new.memory; taken = c.take-done.new.taken.items } in
     subst (λ (x : Served). (frame : List ℕ) × IsAnswered g.S.Shelf.honest (g.S.Shelf.refuses g.N.Naming.place) g.K.Invariant.keeps Snapshots x after frame) c.self.view_is
-    (said.0, ((refl, refl), (c.take-done.result, (c.take-done.ensures.ok, (c.take-done.ensures.refused, said.1)))))
+    (said.0, ((refl, refl), (c.take-done.result, c.take-done.ensures.ok, c.take-done.ensures.refused, said.1)))

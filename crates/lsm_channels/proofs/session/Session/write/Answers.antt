@@ -12,4 +12,10 @@ returns-in_err-answer-clause-unanswered g c =
     let said = says_some (λ (r : Ingested). Wrote r.first r.last) c.write-done.result in
     let after : Served = record { reader = c.self.inside.reader; shelf = c.write-done.new.shelf; known = c.write-done.new.memory; taken = c.self.inside.taken.items } in
     subst (λ (x : Served). (frame : List ℕ) × IsAnswered g.S.Shelf.honest (g.S.Shelf.refuses g.N.Naming.place) g.K.Invariant.keeps (Writes c.args.writes) x after frame) c.self.view_is
-    (said.0, (refl, (refl, (c.write-done.result, (c.write-done.ensures.ok, (c.write-done.ensures.refused, said.1))))))
+    (said.0, (refl, refl, (c.write-done.result, c.write-done.ensures.ok, c.write-done.ensures.refused, said.1)))
+
+pub returns-clause-answered : goal.returns-clause-answered
+returns-clause-answered g c =
+    let after : Served = record { reader = c.self.inside.reader; shelf = c.write-done.new.shelf; known = c.write-done.new.memory; taken = c.self.inside.taken.items } in
+    subst (λ (x : Served). IsAnswered g.S.Shelf.honest (g.S.Shelf.refuses g.N.Naming.place) g.K.Invariant.keeps (Writes c.args.writes) x after c.in_ok-answer.answer.items) c.self.view_is
+    (refl, refl, (c.write-done.result, c.write-done.ensures.ok, c.write-done.ensures.refused, c.in_ok-answer.ensures))
