@@ -59,5 +59,5 @@ unsaid (Ok v) p = tt
 unsaid (Err e) p = p
 
 pub unsaid_as : {T E : Type 0} (P Q : List ℕ → Type 0) (r : Result T E) → ((frame : List ℕ) → P frame → Q frame) → OnErr r ((frame : List ℕ) × P frame) → OnErr r ((frame : List ℕ) × Q frame)
-unsaid_as P Q (Ok v) as said = tt
-unsaid_as P Q (Err e) as said = (said.0, as said.0 said.1)
+unsaid_as P Q (Ok v) so said = tt
+unsaid_as P Q (Err e) so said = (said.0, so said.0 said.1)
