@@ -24,6 +24,7 @@ CRATES = {
     "lsm_cmd_shell": ("program", "a reply to each line"),
     "lsm_cmd_load": ("program", "lines into a folder"),
     "lsm_bulk_load": ("database", "lines into a store"),
+    "lsm_database": ("database", "what a program embeds"),
     "lsm_lines": ("program", "lines to batches"),
     "lsm_server": ("program", "the program lsm_server"),
     "lsm_channels": ("program", "an answer to each request"),

@@ -1,0 +1,2 @@
+pub mod DatabaseLaws
+pub mod PairLaws
