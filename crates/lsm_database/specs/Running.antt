@@ -1,5 +1,5 @@
 -- What the run of a program on a database is, and why there is none (this project's rule).
-use Rattle.std.specs.Prelude.{◌≡◌, ◌⊎◌, ℕ, Bool, true, false, List, All, length}
+use Rattle.std.specs.Prelude.{◌≡◌, ◌⊎◌, ℕ, Bool, true, false, List, All}
 use Rattle.lsm_codec.specs.Entries.{Entry}
 use Rattle.lsm_folder.specs.Calls.{AreHonest}
 use Rattle.lsm_folder.specs.declared.folder_calls.FolderCalls.{Ghosts}
@@ -31,16 +31,15 @@ use Rattle.lsm_database.specs.declared.open_options.OpenOptions.{OpenOptions}
 -- ---- on a shelf
 
 -- The database was begun or opened, and a program answered; this is what it says, of all that had
--- come in before. So many workers compacted beside it, and ended so. Once the database was begun or
--- opened its shelf was asked for forks alone.
-pub record Runs (Honest : Type 0) (start : Start) (logs : List FolderFile) (workers : ℕ)
+-- come in before. Workers compacted beside it, and ended so. Once the database was begun or opened
+-- its shelf was asked for forks alone.
+pub record Runs (Honest : Type 0) (start : Start) (logs : List FolderFile)
     (Says : List Entry → Type 0) (ends : List WorkerEnd) (was is : Told) : Type 0 where
   pub state : Held
   pub mid : Told
   pub started : IsStarted Honest start logs state was mid
   pub forked : Forked mid is
   pub said : Says state.history
-  pub count : length ends ≡ workers
   pub each : All (IsWorkersEnd Honest) ends
 
 -- memory ran out, or there was no thread; or a shelf was not forked
@@ -74,7 +73,7 @@ module _ {C M : Type 0} (folders : Ghosts C M) where
     pub on : IsShelfAt folders path (IsPrepared plainly start logs) begun
     pub may : may_start o.create_if_missing start ≡ true
     pub ended : FileShelf C M
-    pub ran : Runs (AreHonest folders.calls) start logs o.workers Says ends
+    pub ran : Runs (AreHonest folders.calls) start logs Says ends
         (told_by folders begun) (told_by folders ended)
 
   -- Memory ran out, or no folder was opened at the path; or its lock was not held, or the looking

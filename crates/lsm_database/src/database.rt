@@ -96,7 +96,6 @@ impl<'a, N: Boarded, S: Shelf, R: Wait> Database<'a, N, S, R> {
     ///
     /// The refusals are those of `State::ingest`. `LevelZeroFull` only where no worker can make
     /// room: there is none, or each has ended by a fault.
-    #[tactic(auto, using(crate::proofs::DatabaseLaws::tried_again))]
     pub fn write(&mut self, batch: &Batch) -> Result<Ingested, StateFault>
         ensures came { IfOk result (λ r. ComesIn batch.now r self.old self.new) }
         ensures refused { IfErr result (λ e.
@@ -113,10 +112,11 @@ impl<'a, N: Boarded, S: Shelf, R: Wait> Database<'a, N, S, R> {
 
     // The current version, and all that has come in is known.
     fn version(&mut self) -> Result<Arc<Version<N, S>>, ReadFault>
-        ensures lent { (h : Held) × IsLent S.honest h self.old.known self.new.known
-            × IfOk result (λ v. arc_value v ≡ h.slots.version) }
+        ensures ok { IfOk result (λ v. (h : Held) × IsLent S.honest h self.old.known self.new.known
+            × (arc_value v ≡ h.slots.version)) }
+        ensures refused { IfErr result (λ e. (h : Held)
+            × IsLent S.honest h self.old.known self.new.known × (e ≡ out_of_memory)) }
         ensures rest { self.new ≡ record self.old { known = self.new.known } }
-        ensures memory { IfErr result (λ e. e ≡ out_of_memory) }
     {
         learn(&mut self.store.lock(self.rt).state, &mut self.memory)
     }

@@ -18,6 +18,7 @@ use std::mem;
 use std::sync::{Arc, Wait};
 
 /// The state has all that is known, and all that has come in in it is known from then on.
+#[tactic(auto, using(crate::proofs::DatabaseLaws::lent))]
 fn catch_up<N: Boarded, S: Shelf>(state: &mut State<N, S>, memory: &mut Memory<N>)
     ensures lent { IsLent S.honest state.old memory.old memory.new }
     ensures same { state.new ≡ state.old }

@@ -1,6 +1,6 @@
 //! A program runs on the database in a folder.
 
-ghost use Rattle.std.specs.Prelude.{◌≡◌, IfErr, IfOk};
+ghost use Rattle.std.specs.Prelude.{◌≡◌, IfErr, IfOk, vec_len};
 ghost use Rattle.lsm_directory.specs.Folders.{IsFolderAt};
 ghost use Rattle.lsm_folder.specs.Calls.{AreHonest};
 ghost use Rattle.lsm_opening.specs.Preparing.{IsPrepared, plainly};
@@ -11,7 +11,7 @@ use crate::open_options::OpenOptions;
 use crate::program::Program;
 use crate::running::run_on;
 use lsm_directory::{Paths, SystemPaths, open_at as folder_at};
-use lsm_folder::{FolderCalls, Reasons, Witness};
+use lsm_folder::{FolderCalls, Reasons, SystemFolder, Witness};
 use lsm_opening::{Prepared, Start, WriterFault, plainly, prepare};
 use lsm_storage::FileShelf;
 use lsm_store::WorkerEnd;
@@ -68,6 +68,7 @@ where
     P: Program,
     ensures ran { IfOk result (λ r. RunsAt C.FolderCalls path.now options
         (λ es. P.says program (AreHonest C.calls) es r.0) r.1.items) }
+    ensures count { IfOk result (λ r. vec_len r.1 ≡ options.workers) }
     ensures refused { IfErr result (IsUnopened C.FolderCalls C.Mark.Mark path.now options) }
 {
     let (folder, prepared) = prepare_at(rt, folders, path)?;
@@ -89,7 +90,12 @@ pub fn open<W: Witness, P: Program>(
     path: &str,
     options: OpenOptions,
     program: P,
-) -> Result<(P::Answer, Vec<WorkerEnd>), DatabaseFault> {
+) -> Result<(P::Answer, Vec<WorkerEnd>), DatabaseFault>
+    ensures ran { IfOk result (λ r. RunsAt ⟦<SystemFolder<HostRuntime, W> as FolderCalls>⟧ path.now
+        options (λ es. P.says program
+        (AreHonest ⟦<SystemFolder<HostRuntime, W> as FolderCalls>⟧.calls) es r.0) r.1.items) }
+    ensures count { IfOk result (λ r. vec_len r.1 ≡ options.workers) }
+{
     let files = match rt.clone() {
         Ok(files) => files,
         Err(_) => return Err(DatabaseFault::Opening(WriterFault::OutOfMemory)),

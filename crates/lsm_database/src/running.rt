@@ -100,8 +100,9 @@ fn run_named<N: Boarded, S: Shelf, R: Threads + Wait + Sync, P: Program>(
     program: P,
 ) -> Result<(P::Answer, Vec<WorkerEnd>), WriterFault>
     requires parts { AreOf usual N.registry N.board N.history parts }
-    ensures ran { IfOk result (λ r. Runs S.honest prepared.now.start prepared.now.logs.items workers
+    ensures ran { IfOk result (λ r. Runs S.honest prepared.now.start prepared.now.logs.items
         (λ es. P.says program S.honest es r.0) r.1.items shelf.old shelf.new) }
+    ensures count { IfOk result (λ r. vec_len r.1 ≡ workers) }
     ensures refused { IfErr result (λ e. IsRunRefusal (Stored S.Receipt (S.is_of N.place)
         S.Receipt.number S.Receipt.image) (S.refuses N.place) S.honest prepared.now.start
         prepared.now.logs.items e shelf.old shelf.new) }
@@ -142,8 +143,8 @@ fn run_as<N: Boarded, S: Shelf, R: Threads + Wait + Sync, P: Program>(
     requires parts { AreOf usual N.registry N.board N.history parts }
     requires shelf { (S.told shelf).place ≡ N.place }
     ensures ran { IfOk result.0 (λ r. Runs S.honest prepared.now.start prepared.now.logs.items
-        workers (λ es. P.says program S.honest es r.0) r.1.items (S.told shelf)
-        (S.told result.1)) }
+        (λ es. P.says program S.honest es r.0) r.1.items (S.told shelf) (S.told result.1)) }
+    ensures count { IfOk result.0 (λ r. vec_len r.1 ≡ workers) }
     ensures refused { IfErr result.0 (λ e. IsRunRefusal (Stored S.Receipt (S.is_of N.place)
         S.Receipt.number S.Receipt.image) (S.refuses N.place) S.honest prepared.now.start
         prepared.now.logs.items e (S.told shelf) (S.told result.1)) }
@@ -165,8 +166,8 @@ pub(crate) fn run_on<S: Shelf, R: Threads + Wait + Sync, P: Program>(
     program: P,
 ) -> (Result<(P::Answer, Vec<WorkerEnd>), WriterFault>, S)
     ensures ran { IfOk result.0 (λ r. Runs S.honest prepared.now.start prepared.now.logs.items
-        workers (λ es. P.says program S.honest es r.0) r.1.items (S.told shelf)
-        (S.told result.1)) }
+        (λ es. P.says program S.honest es r.0) r.1.items (S.told shelf) (S.told result.1)) }
+    ensures count { IfOk result.0 (λ r. vec_len r.1 ≡ workers) }
     ensures refused { IfErr result.0 (λ e. IsRunRefusal (Stored S.Receipt
         (S.is_of (S.told shelf).place) S.Receipt.number S.Receipt.image)
         (S.refuses (S.told shelf).place) S.honest prepared.now.start prepared.now.logs.items e
