@@ -94,7 +94,7 @@ IsFirstOut from p line = from + p.lines < 2 ^ 128 → line ≡ from + p.lines
 abbrev pub IsLoadFault : (ℕ → List ℕ → Type 0) → (Asked → ShelfFault → Type 0) → Type 0 → Start
     → List FolderFile → ℕ → Pending → Stopped → Told → Told → Type 0
 IsLoadFault Stored Refused Honest start logs from pending (Before e) was is =
-    ((e ≡ OutOfMemory) × (is ≡ was)) ⊎ IsStartRefusal Stored Refused Honest start logs e was is
+    IsStartRefusal Stored Refused Honest start logs e was is
 IsLoadFault Stored Refused Honest start logs from pending (Lines fault line) was is =
     (p : Progress) × IsFirstOut from p line
     × StopsLoading Refused Honest start logs pending p fault was is

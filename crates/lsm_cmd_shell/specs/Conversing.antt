@@ -16,7 +16,9 @@ use Rattle.lsm_opening.specs.WriterFault.{of_shelf}
 use Rattle.lsm_opening.specs.declared.faults.compact_fault.CompactFault.{CompactFault}
 use Rattle.lsm_opening.specs.declared.faults.compact_fault.CompactFault.TheVariants.{Writer, Worker}
 use Rattle.lsm_opening.specs.declared.faults.writer_fault.WriterFault.{WriterFault}
-use Rattle.lsm_opening.specs.declared.faults.writer_fault.WriterFault.TheVariants.{OutOfMemory, Read as ReadFault, Write as WriteFault}
+use Rattle.lsm_opening.specs.declared.faults.writer_fault.WriterFault.TheVariants.{OutOfMemory}
+use Rattle.lsm_opening.specs.declared.faults.writer_fault.WriterFault.TheVariants.{Read as ReadFault}
+use Rattle.lsm_opening.specs.declared.faults.writer_fault.WriterFault.TheVariants.{Write as WriteFault}
 use Rattle.lsm_opening.specs.declared.prepared.Start.{Start}
 use Rattle.lsm_cmd_shell.specs.Beside.{IsTalkedBeside, waiting}
 use Rattle.lsm_cmd_shell.specs.Talk.{IsTalk}

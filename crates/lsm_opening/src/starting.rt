@@ -1,6 +1,6 @@
 //! The state with which a command or the server begins.
 
-ghost use Rattle.std.specs.Prelude.{◌≡◌, ◌≤◌, IfErr, IfOk, OnOk};
+ghost use Rattle.std.specs.Prelude.{◌≡◌, ◌≤◌, ◌⊎◌, IfErr, IfOk, OnOk};
 ghost use Rattle.lsm_directory.specs.Logs.{NoneUnread};
 ghost use Rattle.lsm_journal.specs.Recovering.{IsRecovered};
 ghost use Rattle.lsm_manifest.specs.EditFit.{IsFit};
@@ -8,7 +8,8 @@ ghost use Rattle.lsm_manifest.specs.WholeEdit.{whole_edit};
 ghost use Rattle.lsm_opening.specs.Parts.{AreOf, usual};
 ghost use Rattle.lsm_opening.specs.Starting.{FindsLimit, IsBeginRefusal, IsNew, IsNewWith};
 ghost use Rattle.lsm_opening.specs.Starting.{IsNotOpenedWith, IsNotReopenedWith, IsOpeningRefusal};
-ghost use Rattle.lsm_opening.specs.Starting.{IsReopenedWith, IsStartRefusal, IsStartRefusalWith};
+ghost use Rattle.lsm_opening.specs.Starting.{IsOutOfMemory, IsReopenedWith, IsStartRefusal};
+ghost use Rattle.lsm_opening.specs.Starting.{IsStartRefusalWith};
 ghost use Rattle.lsm_opening.specs.Starting.{IsStarted, IsStartedWith, IsUnbegun, IsUncreated};
 ghost use Rattle.lsm_opening.specs.Starting.{IsUnflushed, Opens, OpensWith, limit_for, whole_size};
 ghost use Rattle.lsm_shelf.specs.Stored.{Stored};
@@ -254,6 +255,10 @@ pub fn start_with<N: Boarded, S: Shelf, R: Wait>(
     ensures started { IfOk result (λ s. IsStartedWith S.honest parts.options prepared.now.start
         prepared.now.logs.items s shelf.old shelf.new) }
     ensures seats { IfOk result (λ s. SeatsPinners s) }
+    ensures refused { IfErr result (λ e. IsOutOfMemory e shelf.old shelf.new
+        ⊎ IsStartRefusalWith (Stored S.Receipt (S.is_of N.place) S.Receipt.number S.Receipt.image)
+        (S.refuses N.place) S.honest parts.options prepared.now.start prepared.now.logs.items e
+        shelf.old shelf.new) }
 {
     let parts = match parts.named(alloc) {
         Ok(parts) => parts,

@@ -18,6 +18,16 @@ compact_state-requires-clause-kept g c κs within = c.what_was_found_is_kept.ens
 pub compact_state-requires-clause-steps : goal.compact_state-requires-clause-steps
 compact_state-requires-clause-steps g c κs within = c.what_was_found_is_kept.ensures.kept c.in_ok-state.state
 
+pub returns-in_err-state-clause-fault : goal.returns-in_err-state-clause-fault
+returns-in_err-state-clause-fault g c =
+    let p = err_from_is_err_and c.from_residual-in_err-state.result c.from_residual-in_err-state.ensures.1 in
+    rw (p.1, p.2) (inr (inl (inl (c.in_err-state.field-0.0, refl, c.in_err-state.ensures.refused))))
+
+pub returns-in_err-state-clause-left : goal.returns-in_err-state-clause-left
+returns-in_err-state-clause-left g c =
+    let p = err_from_is_err_and c.from_residual-in_err-state.result c.from_residual-in_err-state.ensures.1 in
+    rw (p.1, p.2) (λ other. keeps_same (g.O.Write.contents c.args.out.now))
+
 pub returns-in_err-left-clause-fault : goal.returns-in_err-left-clause-fault
 returns-in_err-left-clause-fault g c =
     let p = err_from_is_err_and c.from_residual-in_err-left.result c.from_residual-in_err-left.ensures.1 in
