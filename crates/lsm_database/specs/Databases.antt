@@ -85,8 +85,8 @@ pub record Finds (Honest : Type 0) (key : List ℕ) (v : Option (List ℕ)) (d e
       → v ≡ answer (all_entries (files lent.slots.version)) key lent.slots.version.last
   pub history : Honest → v ≡ answer e.known key lent.slots.version.last
 
--- The first keys at or past this one that have a value, each with it, ascending, up to so many: over
--- an honest shelf those in all that had come in.
+-- The first keys at or past this one that have a value, each with it, ascending, up to so many:
+-- over an honest shelf those in all that had come in.
 pub record Shows (Honest : Type 0) (from : List ℕ) (limit : ℕ) (pairs : List Pair) (d e : Seen)
     : Type 0 where
   pub lent : Held

@@ -106,4 +106,4 @@ module _ {C M : Type 0} (folders : Ghosts C M) (marks : mark.Ghosts M) where
   abbrev pub IsUnopened : List ℕ → OpenOptions → DatabaseFault → Type 0
   IsUnopened path o Missing = IsMissingAt folders path o
   IsUnopened path o (Opening e) =
-      IsUnpreparedAt folders path e ⊎ IsUnrunAt folders marks path e
+      IsUnpreparedAt folders path e ⊎ IsUnrunAt path e

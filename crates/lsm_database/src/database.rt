@@ -1,174 +1,109 @@
 //! A database that is open.
 
 ghost use Rattle.std.specs.Prelude.{◌≡◌, ◌∷◌, [], Some, None, IfErr, IfOk, OnOk};
-ghost use Rattle.std.specs.Arc.{arc_value};
 ghost use Rattle.std.specs.Option.{option_map};
-ghost use Rattle.lsm_database.specs.Databases.{ComesIn, Finds, IsLent, IsUnread, IsUnswept};
+ghost use Rattle.lsm_database.specs.Databases.{ComesIn, Finds, IsUnread, IsUnswept};
 ghost use Rattle.lsm_database.specs.Databases.{IsUnwritten, Shows, StaysOut, Sweeps};
-ghost use Rattle.lsm_state.specs.Held.{Held};
-ghost use Rattle.lsm_table.specs.ReadFault.{out_of_memory};
 
-use crate::batches::{delete_of, put_of};
-use crate::lent::{bring_in, learn};
-use crate::pairs::first_pairs;
 use lsm_batch::Batch;
-use lsm_history::Memory;
-use lsm_opening::sweep;
-use lsm_query::{Pair, get_by, scan_from_by};
-use lsm_reader::Cached;
-use lsm_slots::Boarded;
+use lsm_query::Pair;
 use lsm_state::{Ingested, StateFault};
-use lsm_store::{Background, Store};
-use lsm_table::{NamedShelf, ReadFault, Shelf};
-use lsm_version::Version;
-use std::alloc::Global;
-use std::marker::Model;
-use std::sync::{Arc, Wait};
+use lsm_table::ReadFault;
 
 /// A database that is open, while workers compact beside. It is lent to a `Program`.
 ///
-/// Contracts see what it knows to have come in (`Seen`). What is written is on the device before a
+/// Contracts see what it knows to have come in (`seen`). What is written is on the device before a
 /// call answers. Nothing but the program that it is lent to writes, so what a read knows is what
 /// was there when it was opened, and what was written since; contracts say that this came in, and
-/// not that nothing else did.
-#[derive(Drop)]
-pub struct Database<'a, N: Boarded, S: Shelf, R: Wait> {
-    pub(crate) rt: &'a R,
-    pub(crate) alloc: Global,
-    pub(crate) store: &'a Store<N, S>,
-    pub(crate) background: &'a Background,
-    pub(crate) shelf: NamedShelf<N, S>,
-    pub(crate) blocks: Cached<N, S>,
-    pub(crate) memory: Memory<N>,
-}
-
-impl<'a, N: Boarded, S: Shelf, R: Wait> Model for Database<'a, N, S, R> {
+/// not that nothing else did. Each call needs that the database is `ready`, as it is where it is
+/// lent, and leaves it so.
+pub trait Database {
+    ghost use Rattle.atomic_table.specs.Seated.{TableId};
+    ghost use Rattle.lsm_shelf.specs.Asked.{Asked};
+    ghost use Rattle.lsm_shelf.specs.declared.shelf_fault.ShelfFault.{ShelfFault};
     ghost use Rattle.lsm_database.specs.Databases.{Seen};
 
-    ghost Value = { Seen };
+    /// What it knows to have come in, and what its shelves were told.
+    ghost seen: { Self → Seen };
 
-    ghost view = { λ d. record { known = d.memory; told = d.shelf; read = d.blocks } };
-}
+    /// The premise on reads: that of its shelf.
+    ghost honest: { Type 0 };
 
-impl<'a, N: Boarded, S: Shelf, R: Wait> Database<'a, N, S, R> {
+    /// Which calls its shelf may refuse with which faults.
+    ghost refuses: { Asked → ShelfFault → Type 0 };
+
+    /// Its board.
+    ghost board: { TableId };
+
+    /// It is one whose calls do what they say.
+    ghost ready: { Self → Type 0 };
+
     /// Gives a key a value. The refusals are those of `write`; `OutOfMemory`.
-    pub fn put(&mut self, key: &[u8], value: &[u8]) -> Result<Ingested, StateFault>
+    fn put(&mut self, key: &[u8], value: &[u8]) -> Result<Ingested, StateFault>
+        requires { ready self.old }
+        ensures ready { ready self.new }
         ensures came { IfOk result (λ r. ComesIn
-            (record { key = key.now; value = Some value.now } ∷ []) r self.old self.new) }
-        ensures refused { IfErr result (λ e. IsUnwritten (S.refuses N.place)
-            (record { key = key.now; value = Some value.now } ∷ []) e self.old self.new) }
-    {
-        let batch = put_of(self.alloc, key, value)?;
-        self.write(&batch)
-    }
+            (record { key = key.now; value = Some value.now } ∷ []) r (seen self.old)
+            (seen self.new)) }
+        ensures refused { IfErr result (λ e. IsUnwritten refuses
+            (record { key = key.now; value = Some value.now } ∷ []) e (seen self.old)
+            (seen self.new)) };
 
     /// Deletes a key, if it is there. The refusals are those of `write`; `OutOfMemory`.
-    pub fn delete(&mut self, key: &[u8]) -> Result<Ingested, StateFault>
-        ensures came { IfOk result (λ r. ComesIn
-            (record { key = key.now; value = None } ∷ []) r self.old self.new) }
-        ensures refused { IfErr result (λ e. IsUnwritten (S.refuses N.place)
-            (record { key = key.now; value = None } ∷ []) e self.old self.new) }
-    {
-        let batch = delete_of(self.alloc, key)?;
-        self.write(&batch)
-    }
-
-    // One try, after which the workers look again.
-    fn try_write(&mut self, batch: &Batch) -> Result<Ingested, StateFault>
-        ensures came { IfOk result (λ r. ComesIn batch.now r self.old self.new) }
-        ensures refused { IfErr result (λ e.
-            StaysOut (S.refuses N.place) batch.now e self.old self.new) }
-    {
-        let came = bring_in(
-            &mut self.store.lock(self.rt).state,
-            self.rt,
-            self.alloc,
-            &mut self.shelf,
-            &mut self.memory,
-            batch,
-        );
-        self.background.wake(self.rt);
-        came
-    }
+    fn delete(&mut self, key: &[u8]) -> Result<Ingested, StateFault>
+        requires { ready self.old }
+        ensures ready { ready self.new }
+        ensures came { IfOk result (λ r. ComesIn (record { key = key.now; value = None } ∷ []) r
+            (seen self.old) (seen self.new)) }
+        ensures refused { IfErr result (λ e. IsUnwritten refuses
+            (record { key = key.now; value = None } ∷ []) e (seen self.old) (seen self.new)) };
 
     /// Brings a batch in, whose keys ascend: all of it or nothing. Where level 0 is full it waits
     /// until workers have made room there.
     ///
     /// The refusals are those of `State::ingest`. `LevelZeroFull` only where no worker can make
     /// room: there is none, or each has ended by a fault.
-    pub fn write(&mut self, batch: &Batch) -> Result<Ingested, StateFault>
-        ensures came { IfOk result (λ r. ComesIn batch.now r self.old self.new) }
+    fn write(&mut self, batch: &Batch) -> Result<Ingested, StateFault>
+        requires { ready self.old }
+        ensures ready { ready self.new }
+        ensures came { IfOk result (λ r. ComesIn batch.now r (seen self.old) (seen self.new)) }
         ensures refused { IfErr result (λ e.
-            StaysOut (S.refuses N.place) batch.now e self.old self.new) }
-    {
-        match self.try_write(batch) {
-            Err(StateFault::LevelZeroFull) => {
-                self.background.wait_until_idle(self.rt);
-                self.try_write(batch)
-            }
-            came => came,
-        }
-    }
-
-    // The current version, and all that has come in is known.
-    fn version(&mut self) -> Result<Arc<Version<N, S>>, ReadFault>
-        ensures ok { IfOk result (λ v. (h : Held) × IsLent S.honest h self.old.known self.new.known
-            × (arc_value v ≡ h.slots.version)) }
-        ensures refused { IfErr result (λ e. (h : Held)
-            × IsLent S.honest h self.old.known self.new.known × (e ≡ out_of_memory)) }
-        ensures rest { self.new ≡ record self.old { known = self.new.known } }
-    {
-        learn(&mut self.store.lock(self.rt).state, &mut self.memory)
-    }
+            StaysOut refuses batch.now e (seen self.old) (seen self.new)) };
 
     /// The newest value of a key, or none. Blocks that were read are kept, and not read again as
     /// long as they are.
     ///
     /// `Shelf` where the shelf refused. `Table` with `OutOfMemory` where a growth was refused, and
     /// with another refusal of a table only where the shelf's bytes are not those that were put.
-    pub fn get(&mut self, key: &[u8]) -> Result<Option<Vec<u8>>, ReadFault>
+    fn get(&mut self, key: &[u8]) -> Result<Option<Vec<u8>>, ReadFault>
+        requires { ready self.old }
+        ensures ready { ready self.new }
         ensures found { IfOk result (λ v.
-            Finds S.honest key.now (option_map (λ b. b.items) v) self.old self.new) }
+            Finds honest key.now (option_map (λ b. b.items) v) (seen self.old) (seen self.new)) }
         ensures refused { IfErr result (λ e.
-            IsUnread S.honest (S.refuses N.place) e self.old self.new) }
-    {
-        let version = self.version()?;
-        let last = version.last();
-        get_by(&version, &mut self.blocks, self.alloc, key, last)
-    }
+            IsUnread honest refuses e (seen self.old) (seen self.new)) };
 
     /// The first keys at or past `from` that have a value, each with it, ascending; up to so many.
     /// All of them are as of one moment. The refusals are those of `get`.
-    pub fn scan(&mut self, from: &[u8], limit: usize) -> Result<Vec<Pair>, ReadFault>
+    fn scan(&mut self, from: &[u8], limit: usize) -> Result<Vec<Pair>, ReadFault>
+        requires { ready self.old }
+        ensures ready { ready self.new }
         ensures shown { IfOk result (λ v.
-            Shows S.honest from.now limit v.items self.old self.new) }
+            Shows honest from.now limit v.items (seen self.old) (seen self.new)) }
         ensures refused { IfErr result (λ e.
-            IsUnread S.honest (S.refuses N.place) e self.old self.new) }
-    {
-        let version = self.version()?;
-        let last = version.last();
-        let mut scan = scan_from_by(&version, &mut self.blocks, self.alloc, last, from)?;
-        first_pairs(self.alloc, &mut scan, &mut self.blocks, limit)
-    }
+            IsUnread honest refuses e (seen self.old) (seen self.new)) };
 
     /// Removes the tables that nothing needs any more. Answers how many.
-    pub fn collect(&mut self) -> Result<usize, StateFault>
-        ensures ok { OnOk result (Sweeps S.honest N.board self.old self.new) }
+    fn collect(&mut self) -> Result<usize, StateFault>
+        requires { ready self.old }
+        ensures ready { ready self.new }
+        ensures ok { OnOk result (Sweeps honest board (seen self.old) (seen self.new)) }
         ensures refused { IfErr result (λ e.
-            IsUnswept (S.refuses N.place) S.honest N.board e self.old self.new) }
-    {
-        sweep(
-            self.rt,
-            self.alloc,
-            &mut self.store.lock(self.rt).state,
-            &mut self.shelf,
-        )
-    }
+            IsUnswept refuses honest board e (seen self.old) (seen self.new)) };
 
     /// Waits until the workers have nothing to compact, or have ended.
-    pub fn wait_until_idle(&mut self)
-        ensures { self.new ≡ self.old }
-    {
-        self.background.wait_until_idle(self.rt);
-    }
+    fn wait_until_idle(&mut self)
+        requires { ready self.old }
+        ensures ready { ready self.new }
+        ensures same { seen self.new ≡ seen self.old };
 }

@@ -16,6 +16,7 @@ pub enum DatabaseFault {
 }
 
 impl From<WriterFault> for DatabaseFault {
+    ghost use Rattle.std.specs.Prelude.{◌≡◌};
     ghost use Rattle.lsm_database.specs.declared.database_fault.DatabaseFault.TheVariants.{Opening};
 
     ghost from_gives = { λ fault e. e ≡ Opening fault };

@@ -4,15 +4,18 @@
 //! Stands on `lsm_opening` for the folder, on `lsm_store` for what compacts beside, and on
 //! `lsm_query` for reads; it picks the name of the database, so that a program needs no proof file.
 //! Its contract: a program ran on the database that was begun or opened there (`ran` of `open_at`),
-//! or why none did (`refused`); what `Database::write` brings in (`came`), and what `get` and `scan`
-//! answer (`found`, `shown`).
+//! or why none did (`refused`); what `Database::write` brings in (`came`), and what `get` and
+//! `scan` answer (`found`, `shown`).
 #![tactic(auto)]
 
 // A database that is open: what comes in, what is read, what is removed.
 mod batches;
 mod database;
+mod handle;
+mod known;
 mod lent;
 mod pairs;
+mod served;
 
 // The program that is run on it.
 mod program;
@@ -29,10 +32,9 @@ pub use lsm_batch::Batch;
 pub use lsm_codec::Bytes;
 pub use lsm_folder::{Images, Mute};
 pub use lsm_query::Pair;
-pub use lsm_slots::Boarded;
 pub use lsm_state::{Ingested, StateFault};
 pub use lsm_store::WorkerEnd;
-pub use lsm_table::{ReadFault, Shelf};
+pub use lsm_table::ReadFault;
 pub use open_options::OpenOptions;
 pub use opening::{open, open_at};
 pub use program::Program;

@@ -28,8 +28,14 @@ fn prepare_at<C: FolderCalls, F: Paths<C>, R: Wait>(
         (IsPrepared plainly r.1.start r.1.logs.items) r.0) }
     ensures refused { IfErr result (IsUnpreparedAt C.FolderCalls path.now) }
 {
-    let reasons = Reasons::new(folders.alloc())?;
-    let mut folder = folder_at(folders, path, &reasons)?;
+    let reasons = match Reasons::new(folders.alloc()) {
+        Ok(reasons) => reasons,
+        Err(_) => return Err(WriterFault::OutOfMemory),
+    };
+    let mut folder = match folder_at(folders, path, &reasons) {
+        Ok(folder) => folder,
+        Err(fault) => return Err(WriterFault::Directory(fault)),
+    };
     match prepare(rt, folders.alloc(), &mut folder, plainly()) {
         Ok(prepared) => Ok((folder, prepared)),
         Err(fault) => Err(fault),
@@ -51,8 +57,8 @@ fn may_start(prepared: &Prepared, options: OpenOptions) -> bool
 /// what each worker has done: a worker that met a fault has ended early. Once it answers, the lock
 /// of the folder is free, and all that was written is on the device.
 ///
-/// The folder has to be there. Neither is done beside a log that LevelDB would read: `UnflushedLog`.
-/// `Missing` where there is no database and none is to be begun.
+/// The folder has to be there. Neither is done beside a log that LevelDB would read:
+/// `UnflushedLog`. `Missing` where there is no database and none is to be begun.
 pub fn open_at<C, F, R, P>(
     rt: &R,
     folders: &F,
@@ -71,7 +77,10 @@ where
     ensures count { IfOk result (λ r. vec_len r.1 ≡ options.workers) }
     ensures refused { IfErr result (IsUnopened C.FolderCalls C.Mark.Mark path.now options) }
 {
-    let (folder, prepared) = prepare_at(rt, folders, path)?;
+    let (folder, prepared) = match prepare_at(rt, folders, path) {
+        Ok(found) => found,
+        Err(fault) => return Err(DatabaseFault::Opening(fault)),
+    };
     if !may_start(&prepared, options) {
         return Err(DatabaseFault::Missing);
     }
@@ -84,21 +93,23 @@ where
     }
 }
 
-/// The same in a folder of the system.
-pub fn open<W: Witness, P: Program>(
-    rt: &HostRuntime,
+/// The same in a folder of the system, which is asked by `files`.
+pub fn open<W, R, P>(
+    rt: &R,
+    files: HostRuntime,
     path: &str,
     options: OpenOptions,
     program: P,
 ) -> Result<(P::Answer, Vec<WorkerEnd>), DatabaseFault>
+where
+    W: Witness + Send + Sync,
+    W::Kept: Send + Sync,
+    R: Threads + Wait + Sync,
+    P: Program,
     ensures ran { IfOk result (λ r. RunsAt ⟦<SystemFolder<HostRuntime, W> as FolderCalls>⟧ path.now
         options (λ es. P.says program
         (AreHonest ⟦<SystemFolder<HostRuntime, W> as FolderCalls>⟧.calls) es r.0) r.1.items) }
     ensures count { IfOk result (λ r. vec_len r.1 ≡ options.workers) }
 {
-    let files = match rt.clone() {
-        Ok(files) => files,
-        Err(_) => return Err(DatabaseFault::Opening(WriterFault::OutOfMemory)),
-    };
     open_at(rt, &SystemPaths::<W>::new(files), path, options, program)
 }

@@ -1,13 +1,9 @@
 //! What is run on a database.
 
 use crate::database::Database;
-use lsm_slots::Boarded;
-use lsm_table::Shelf;
-use std::sync::Wait;
 
-/// What is run on a database while it is open. The name `N` of the database is picked when it is
-/// opened, so `run` is generic in it; in the shelf `S` on its folder, and in what waits for locks
-/// too.
+/// What is run on a database while it is open. Its database has a name of its own, which is picked
+/// when it is opened, so `run` is generic in its type.
 pub trait Program: Drop {
     ghost use Rattle.std.specs.Prelude.{List};
     ghost use Rattle.lsm_codec.specs.Entries.{Entry};
@@ -20,9 +16,7 @@ pub trait Program: Drop {
     ghost says: { Self → Type 0 → List Entry → Self.Answer → Type 0 } = { λ _ _ _ _. Unit {0} };
 
     /// Runs on the database. Workers compact beside until it answers.
-    fn run<N: Boarded, S: Shelf, R: Wait>(
-        self,
-        database: &mut Database<'_, N, S, R>,
-    ) -> Self::Answer
-        ensures said { says self S.honest database.old.known result };
+    fn run<D: Database>(self, database: &mut D) -> Self::Answer
+        requires ready { D.ready database.old }
+        ensures said { says self D.honest (D.seen database.old).known result };
 }

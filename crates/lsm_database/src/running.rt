@@ -5,17 +5,22 @@ ghost use Rattle.lsm_shelf.specs.Stored.{Stored};
 ghost use Rattle.lsm_shelf.specs.Told.{Forked, NotNamed};
 ghost use Rattle.lsm_store.specs.Workers.{IsWorkersEnd};
 ghost use Rattle.lsm_opening.specs.Parts.{AreOf, usual};
+ghost use Rattle.lsm_database.specs.Calls.{AnswersGet, AnswersScan, AnswersSweep};
+ghost use Rattle.lsm_database.specs.Calls.{AnswersWrite};
 ghost use Rattle.lsm_database.specs.Running.{IsRunRefusal, Runs};
 
-use crate::database::Database;
+use crate::handle::Handle;
 use crate::program::Program;
+use crate::served::Served;
+use lsm_batch::Batch;
 use lsm_history::Memory;
 use lsm_opening::{Crew, NewParts, Prepared, WriterFault, start};
+use lsm_query::Pair;
 use lsm_reader::Cached;
 use lsm_slots::Boarded;
-use lsm_state::State;
+use lsm_state::{Ingested, State, StateFault};
 use lsm_store::{Background, NoGate, Store, WorkerEnd, with_workers};
-use lsm_table::{NamedShelf, Shelf, ShelfFault};
+use lsm_table::{NamedShelf, ReadFault, Shelf, ShelfFault};
 use std::alloc::Global;
 use std::marker::Brand;
 use std::num::NonZeroUsize;
@@ -39,6 +44,43 @@ fn cache_over<N: Boarded, S: Shelf>(
     let fork = shelf.fork(alloc)?;
     let cache = Cached::new(alloc, fork, blocks)?;
     Ok(cache)
+}
+
+/// Runs a program on a database.
+fn run_on_handle<N: Boarded, S: Shelf, R: Wait, P: Program>(
+    handle: Handle<'_, N, S, R>,
+    program: P,
+) -> P::Answer
+    ensures said { P.says program S.honest handle.entry.known result }
+{
+    let mut database = Served {
+        alloc: handle.alloc,
+        inner: handle,
+        write: |handle: &mut Handle<'_, N, S, R>, batch: &Batch| -> Result<Ingested, StateFault>
+            ensures { AnswersWrite (S.refuses N.place) batch.now result handle.old handle.new }
+        { handle.write(batch) },
+        get: |handle: &mut Handle<'_, N, S, R>, key: &[u8]| -> Result<Option<Vec<u8>>, ReadFault>
+            ensures { AnswersGet S.honest (S.refuses N.place) key.now result
+                handle.old handle.new }
+        { handle.get(key) },
+        scan: |handle: &mut Handle<'_, N, S, R>, from: &[u8], limit: usize| -> Result<
+            Vec<Pair>,
+            ReadFault,
+        >
+            ensures { AnswersScan S.honest (S.refuses N.place) from.now limit result
+                handle.old handle.new }
+        { handle.scan(from, limit) },
+        collect: |handle: &mut Handle<'_, N, S, R>| -> Result<usize, StateFault>
+            ensures { AnswersSweep S.honest (S.refuses N.place) N.board result
+                handle.old handle.new }
+        { handle.collect() },
+        wait: |handle: &mut Handle<'_, N, S, R>|
+            ensures { handle.new ≡ handle.old }
+        {
+            handle.wait_until_idle();
+        },
+    };
+    program.run(&mut database)
 }
 
 /// Runs a program on the state of a store, while a worker for each shelf compacts: its answer, and
@@ -67,7 +109,7 @@ fn run_in_store<N: Boarded, S: Shelf, R: Threads + Wait + Sync, P: Program>(
         move |background: &Background| -> P::Answer
             ensures { P.says program S.honest memory result }
         {
-            let mut database = Database {
+            let handle = Handle {
                 rt,
                 alloc,
                 store,
@@ -76,7 +118,7 @@ fn run_in_store<N: Boarded, S: Shelf, R: Threads + Wait + Sync, P: Program>(
                 blocks,
                 memory,
             };
-            program.run(&mut database)
+            run_on_handle(handle, program)
         },
     );
     match run {
@@ -154,9 +196,9 @@ fn run_as<N: Boarded, S: Shelf, R: Threads + Wait + Sync, P: Program>(
     (run, shelf.into_shelf())
 }
 
-/// Begins the database of a shelf, or opens the one that is there, as `prepare` found it, and runs a
-/// program on it while so many workers compact: its answer, and what each worker has done. The shelf
-/// is given back.
+/// Begins the database of a shelf, or opens the one that is there, as `prepare` found it, and runs
+/// a program on it while so many workers compact: its answer, and what each worker has done. The
+/// shelf is given back.
 pub(crate) fn run_on<S: Shelf, R: Threads + Wait + Sync, P: Program>(
     rt: &R,
     alloc: Global,
