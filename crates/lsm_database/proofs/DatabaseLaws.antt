@@ -1,6 +1,6 @@
 -- Calls on a database.
-use Rattle.std.proofs.Common.{◌≡◌, ◌≤◌, ℕ, List, [], ◌++◌, Option, refl, sym, ap, ◌∙◌, subst, append_assoc, inl, length, take, arith}
-use Rattle.std.specs.Prelude.{Result, Ok, Err, IfOk, IfErr}
+use Rattle.std.proofs.Common.{◌≡◌, ℕ, List, [], ◌++◌, Option, refl, sym, ap, ◌∙◌, subst, append_assoc, inl, inr, take}
+use Rattle.std.specs.Prelude.{Result, Ok, Err, IfOk, IfErr, OnOk}
 use Rattle.std.proofs.lemmas.Result.{IfOk-weaker}
 use Rattle.lsm_codec.specs.Entries.{Entry, answer}
 use Rattle.lsm_codec.specs.Keys.{UserKey}
@@ -26,7 +26,7 @@ use Rattle.lsm_store.specs.Promised.{AnswersAll}
 use Rattle.lsm_store.specs.Readers.{Learnt}
 use Rattle.lsm_store.proofs.BackgroundLaws.{full_asks_nothing}
 use Rattle.lsm_store.proofs.ScanLaws.{past_of_all}
-use Rattle.lsm_database.specs.Databases.{ComesIn, Finds, IsLent, IsUnread, Reads, Seen, Shows, StaysOut}
+use Rattle.lsm_database.specs.Databases.{ComesIn, Finds, IsLent, IsUnread, Reads, Seen, Shows, StaysOut, seen}
 
 -- a state that was only looked at since
 pub lent : (honest : Type 0) (h k : Held) (knew knows : List Entry) → k ≡ h → IsLater h.history knew → knows ≡ h.history → (honest → Agrees (plain k) k.history) → IsLent honest h knew knows
@@ -86,45 +86,39 @@ shows_all honest h knew knows from t ps has y scan =
     subst (λ (es : List Entry). IsScan h.slots.version.last (at_or_past from es) ps) (sym has.known)
     (past_of_all (learnt h t) from h.slots.version.last ps (reads_all h (has.agrees y)) (inl refl) scan)
 
-module _ (Honest : Type 0) (Refused : Asked → ShelfFault → Type 0) (h : Held) (d m e : Seen) (has : IsLent Honest h d.known m.known)
-    (learnt_only : m ≡ record d { known = m.known }) (read_only : e ≡ record m { read = e.read }) (becomes : Becomes m.read e.read) where
-  reads : Reads Honest h d e
-  reads = record {
-    has = rw read_only has;
-    told = ap (λ (s : Seen). s.told) read_only ∙ ap (λ (s : Seen). s.told) learnt_only;
-    read = subst (λ (t : Told). Becomes t e.read) (ap (λ (s : Seen). s.read) learnt_only) becomes;
-  }
+module _ (Honest : Type 0) (Refused : Asked → ShelfFault → Type 0) (h : Held) (knew knows : List Entry) (told told' read mid read' : Told) (has : IsLent Honest h knew knows)
+    (same_told : told' ≡ told) (same_read : mid ≡ read) (becomes : Becomes mid read') where
+  reads : Reads Honest h (seen knew told read) (seen knows told' read')
+  reads = record { has = has; told = same_told; read = subst (λ (t : Told). Becomes t read') same_read becomes }
 
-  pub finds : (key : List ℕ) (v : Option (List ℕ)) (version : Levels) → version ≡ h.slots.version → (Honest → v ≡ answer (all_entries (files version)) key version.last) → Finds Honest key v d e
-  finds key v version same found = record {
-    lent = h;
-    reads = reads;
-    version = λ y. rw same at (found y);
-    history = λ y. answers_all Honest h d.known e.known key v reads.has y (rw same at (found y));
-  }
+  pub finds : (key : List ℕ) (v : Option (List ℕ)) (version : Levels) → version ≡ h.slots.version → (Honest → v ≡ answer (all_entries (files version)) key version.last)
+      → Finds Honest key v (seen knew told read) (seen knows told' read')
+  finds key v version same found =
+      let in_it : Honest → v ≡ answer (all_entries (files h.slots.version)) key h.slots.version.last =
+      subst (λ (x : Levels). Honest → v ≡ answer (all_entries (files x)) key x.last) same found
+      in
+      record { lent = h; reads = reads; version = in_it; history = λ y. answers_all Honest h knew knows key v has y (in_it y) }
 
-  pub shows : (from : UserKey) (limit : ℕ) (pairs all : List Pair) (version : Levels) → version ≡ h.slots.version
-      → (Honest → IsScan version.last (at_or_past from (all_entries (files version))) all) → (Honest → pairs ≡ take limit all) → Shows Honest from limit pairs d e
-  shows from limit pairs all version same scan first = record {
-    lent = h;
-    reads = reads;
-    shown = λ y. (all, shows_all Honest h d.known e.known from e.read all reads.has y (rw same at (scan y)), first y);
-  }
+  pub shows : (from : UserKey) (limit : ℕ) (pairs : List Pair) (version : Levels) → version ≡ h.slots.version
+      → (Honest → (all : List Pair) × IsScan version.last (at_or_past from (all_entries (files version))) all × (pairs ≡ take limit all))
+      → Shows Honest from limit pairs (seen knew told read) (seen knows told' read')
+  shows from limit pairs version same shown =
+      let in_it : Honest → (all : List Pair) × IsScan h.slots.version.last (at_or_past from (all_entries (files h.slots.version))) all × (pairs ≡ take limit all) =
+      subst (λ (x : Levels). Honest → (all : List Pair) × IsScan x.last (at_or_past from (all_entries (files x))) all × (pairs ≡ take limit all)) same shown
+      in
+      record { lent = h; reads = reads; shown = λ y. ((in_it y).0, shows_all Honest h knew knows from read (in_it y).0 has y (in_it y).1, (in_it y).2) }
 
-  pub unread : (fault : ReadFault) → (Honest → IsMemoryOrShelf fault) → IsSomeReadRefusal Refused fault → ReadCounted fault m.read e.read → IsUnread Honest Refused fault d e
-  unread fault sound refused counted = record {
-    lent = h;
-    reads = reads;
-    sound = sound;
-    refused = refused;
-    counted = subst (λ (t : Told). ReadCounted fault t e.read) (ap (λ (s : Seen). s.read) learnt_only) counted;
-  }
+  pub unread : (fault : ReadFault) → (Honest → IsMemoryOrShelf fault) → IsSomeReadRefusal Refused fault → ReadCounted fault mid read'
+      → IsUnread Honest Refused fault (seen knew told read) (seen knows told' read')
+  unread fault sound refused counted =
+      record { lent = h; reads = reads; sound = sound; refused = refused; counted = subst (λ (t : Told). ReadCounted fault t read') same_read counted }
 
 -- memory ran out before anything was read
-pub unlearnt : (Honest : Type 0) (Refused : Asked → ShelfFault → Type 0) (h : Held) (d m : Seen) (fault : ReadFault) → IsLent Honest h d.known m.known → m ≡ record d { known = m.known }
-    → fault ≡ out_of_memory → IsUnread Honest Refused fault d m
-unlearnt Honest Refused h d m fault has learnt_only none =
-    subst (λ (f : ReadFault). IsUnread Honest Refused f d m) (sym none) (unread Honest Refused h d m m has learnt_only refl (becomes_same m.read) out_of_memory (λ y. tt) tt tt)
+pub unlearnt : (Honest : Type 0) (Refused : Asked → ShelfFault → Type 0) (h : Held) (knew knows : List Entry) (told told' read read' : Told) (fault : ReadFault) → IsLent Honest h knew knows → told' ≡ told
+    → read' ≡ read → fault ≡ out_of_memory → IsUnread Honest Refused fault (seen knew told read) (seen knows told' read')
+unlearnt Honest Refused h knew knows told told' read read' fault has same_told same_read none =
+    subst (λ (f : ReadFault). IsUnread Honest Refused f (seen knew told read) (seen knows told' read')) (sym none)
+    (unread Honest Refused h knew knows told told' read read' read' has same_told same_read (becomes_same read') out_of_memory (λ y. tt) tt tt)
 
 -- ---- under the premise on reads
 
@@ -139,3 +133,7 @@ err_under H P (Err e) f = f
 pub err_both : {T E : Type 0} (P Q R : E → Type 0) (r : Result T E) → ((e : E) → P e → Q e → R e) → IfErr r P → IfErr r Q → IfErr r R
 err_both P Q R (Ok v) f p q = tt
 err_both P Q R (Err e) f p q = f e p q
+
+pub ok_then : {T E : Type 0} (P Q : Type 0) (r : Result T E) → (P → Q) → OnOk r P → OnOk r Q
+ok_then P Q (Ok v) f p = f p
+ok_then P Q (Err e) f p = tt

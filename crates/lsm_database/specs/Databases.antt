@@ -30,6 +30,9 @@ pub record Seen : Type 0 where
   pub told : Told
   pub read : Told
 
+abbrev pub seen : List Entry → Told → Told → Seen
+seen known told read = record { known = known; told = told; read = read }
+
 -- A state that is lent has all that was known, and all that had come in in it is known then. Over
 -- an honest shelf none of that is later than its last sequence, and each read of it that is
 -- promised gives what it gives over that.

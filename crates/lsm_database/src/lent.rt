@@ -21,6 +21,7 @@ use std::sync::{Arc, Wait};
 #[tactic(auto, using(crate::proofs::DatabaseLaws::lent))]
 fn catch_up<N: Boarded, S: Shelf>(state: &mut State<N, S>, memory: &mut Memory<N>)
     ensures lent { IsLent S.honest state.old memory.old memory.new }
+    ensures later { IsLater state.old.history memory.old }
     ensures same { state.new ≡ state.old }
 {
     let now = state.remember();
@@ -44,7 +45,27 @@ pub(crate) fn learn<N: Boarded, S: Shelf>(
     Ok(version)
 }
 
-/// Brings the batch into the state.
+/// Brings the batch into the state, and remembers the history with it.
+fn ingest<N: Boarded, S: Shelf, R: Wait>(
+    state: &mut State<N, S>,
+    rt: &R,
+    alloc: Global,
+    shelf: &mut NamedShelf<N, S>,
+    batch: &Batch,
+) -> (Result<Ingested, StateFault>, Memory<N>)
+    ensures came { IfOk result.0 (λ r.
+        BringsIn state.old state.new batch.now r shelf.old shelf.new) }
+    ensures refused { IfErr result.0 (λ e.
+        KeepsOut (S.refuses N.place) state.old state.new batch.now e shelf.old shelf.new) }
+    ensures memory { result.1 ≡ state.new.history }
+{
+    match state.ingest(rt, alloc, shelf, batch) {
+        Ok(came) => (Ok(came), state.remember()),
+        Err(fault) => (Err(fault), state.remember()),
+    }
+}
+
+/// The same on a state that has all that is known. All that has come in in it is known then.
 pub(crate) fn bring_in<N: Boarded, S: Shelf, R: Wait>(
     state: &mut State<N, S>,
     rt: &R,
@@ -61,14 +82,7 @@ pub(crate) fn bring_in<N: Boarded, S: Shelf, R: Wait>(
     ensures known { memory.new ≡ state.new.history }
 {
     catch_up(state, memory);
-    match state.ingest(rt, alloc, shelf, batch) {
-        Ok(came) => {
-            *memory = state.remember();
-            Ok(came)
-        }
-        Err(fault) => {
-            *memory = state.remember();
-            Err(fault)
-        }
-    }
+    let (came, known) = ingest(state, rt, alloc, shelf, batch);
+    *memory = known;
+    came
 }

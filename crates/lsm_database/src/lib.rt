@@ -15,6 +15,7 @@ mod handle;
 mod known;
 mod lent;
 mod pairs;
+mod reads;
 mod served;
 
 // The program that is run on it.

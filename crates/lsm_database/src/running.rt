@@ -7,6 +7,7 @@ ghost use Rattle.lsm_store.specs.Workers.{IsWorkersEnd};
 ghost use Rattle.lsm_opening.specs.Parts.{AreOf, usual};
 ghost use Rattle.lsm_database.specs.Calls.{AnswersGet, AnswersScan, AnswersSweep};
 ghost use Rattle.lsm_database.specs.Calls.{AnswersWrite};
+ghost use Rattle.lsm_database.specs.Databases.{seen};
 ghost use Rattle.lsm_database.specs.Running.{IsRunRefusal, Runs};
 
 use crate::handle::Handle;
@@ -51,28 +52,32 @@ fn run_on_handle<N: Boarded, S: Shelf, R: Wait, P: Program>(
     handle: Handle<'_, N, S, R>,
     program: P,
 ) -> P::Answer
-    ensures said { P.says program S.honest handle.entry.known result }
+    ensures said { P.says program S.honest handle.entry.memory result }
 {
     let mut database = Served {
         alloc: handle.alloc,
         inner: handle,
         write: |handle: &mut Handle<'_, N, S, R>, batch: &Batch| -> Result<Ingested, StateFault>
-            ensures { AnswersWrite (S.refuses N.place) batch.now result handle.old handle.new }
+            ensures { AnswersWrite (S.refuses N.place) batch.now result (seen handle.old.memory handle.old.shelf handle.old.blocks)
+                (seen handle.new.memory handle.new.shelf handle.new.blocks) }
         { handle.write(batch) },
         get: |handle: &mut Handle<'_, N, S, R>, key: &[u8]| -> Result<Option<Vec<u8>>, ReadFault>
             ensures { AnswersGet S.honest (S.refuses N.place) key.now result
-                handle.old handle.new }
+                (seen handle.old.memory handle.old.shelf handle.old.blocks)
+                (seen handle.new.memory handle.new.shelf handle.new.blocks) }
         { handle.get(key) },
         scan: |handle: &mut Handle<'_, N, S, R>, from: &[u8], limit: usize| -> Result<
             Vec<Pair>,
             ReadFault,
         >
             ensures { AnswersScan S.honest (S.refuses N.place) from.now limit result
-                handle.old handle.new }
+                (seen handle.old.memory handle.old.shelf handle.old.blocks)
+                (seen handle.new.memory handle.new.shelf handle.new.blocks) }
         { handle.scan(from, limit) },
         collect: |handle: &mut Handle<'_, N, S, R>| -> Result<usize, StateFault>
             ensures { AnswersSweep S.honest (S.refuses N.place) N.board result
-                handle.old handle.new }
+                (seen handle.old.memory handle.old.shelf handle.old.blocks)
+                (seen handle.new.memory handle.new.shelf handle.new.blocks) }
         { handle.collect() },
         wait: |handle: &mut Handle<'_, N, S, R>|
             ensures { handle.new ≡ handle.old }
