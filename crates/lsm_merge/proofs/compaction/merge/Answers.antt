@@ -3,6 +3,7 @@ use Rattle.lsm_model.specs.Merging.{entries_of}
 use Rattle.lsm_merge.specs.declared.merge_fault.MergeFault.{MergeFault}
 use Rattle.std.specs.Prelude.{IfErr}
 use Rattle.lsm_table.specs.declared.table_options.TableOptions.{TableOptions}
+use Rattle.lsm_shelf.proofs.CallerLemmas.{becomes_same}
 use Rattle.lsm_merge.specs.Causes.{AnswersOf, AsksFor, HasCause, NamesRefused, NamesTicket}
 use Rattle.lsm_merge.specs.Inputs.{IsOrderFault, input_numbers}
 use Rattle.lsm_model.specs.Files.{all_entries}
@@ -200,3 +201,12 @@ returns-in_err-step-clause-before g c =
 pub returns-in_err-stream-clause-refused : goal.returns-in_err-stream-clause-refused
 returns-in_err-stream-clause-refused g c =
     err_is (NamesRefused (g.S.Shelf.refuses g.N.Naming.place) c.args.job.now.table) c.from_residual.result c.in_err-stream.field-0.0 c.from_residual.ensures.1 (c.in_err-stream.ensures.refused c.args.job.now.table)
+
+-- no memory for the rows
+
+pub returns-in_default-clause-asked : goal.returns-in_default-clause-asked
+returns-in_default-clause-asked g c = asks_none c.args.job.now.ticket (g.D.NumberSource.asked c.args.numbers.now) (g.D.NumberSource.asked c.args.numbers.now) refl
+
+pub returns-in_default-clause-before : goal.returns-in_default-clause-before
+returns-in_default-clause-before g c =
+    before_none g.S.Shelf.honest c.args.job.now c.args.outputs.now.put c.args.shelf.now c.args.shelf.now (ap (λ (m : Made). m.put) c.requires.fresh) (becomes_same c.args.shelf.now)
