@@ -39,10 +39,12 @@ one_rises rs = record { later = λ i j d le lt. (let e : i ≡ j = omega arith i
 
 pub one_more_rises : (rs : List (UserKey × UserKey)) (n : ℕ) (x y : UserKey × UserKey) → 0 < n → n < length rs → x ≡ get_or rs (n - 1) x → y ≡ get_or rs n y → rises x y ≡ true
     → RisesTo rs n → RisesTo rs (n + 1)
-one_more_rises rs n x y some lt isx isy xy h = record { later = λ i j d le jn. elim (cases_lt j n) [
-  | inl early ↦ h.later i j d le early
-  | inr at ↦ (let e : n ≡ j = omega arith in subst (λ (k : ℕ). rises (get_or rs i d) (get_or rs k d) ≡ true) e (last i d (omega arith)))
-] }
+one_more_rises rs n x y some lt isx isy xy h = record {
+  later = λ i j d le jn. elim (cases_lt j n) [
+    | inl early ↦ h.later i j d le early
+    | inr at ↦ (let e : n ≡ j = omega arith in subst (λ (k : ℕ). rises (get_or rs i d) (get_or rs k d) ≡ true) e (last i d (omega arith)))
+  ];
+}
   where
     step : (d : UserKey × UserKey) → rises (get_or rs (n - 1) d) (get_or rs n d) ≡ true
     step d = (let a : get_or rs (n - 1) d ≡ x = get_or_default rs (n - 1) d x (omega arith) ∙ sym isx in
@@ -56,10 +58,12 @@ one_more_rises rs n x y some lt isx isy xy h = record { later = λ i j d le jn. 
     ]
 
 pub front_rises : (rs : List (UserKey × UserKey)) (n : ℕ) → n ≤ length rs → RisesTo rs n → IsRising (take n rs)
-front_rises rs n le h = record { later = λ i j d low lt. (let bound : j < n = subst (λ (k : ℕ). j < k) (length-take-le n rs le) lt in
-    let a : get_or (take n rs) i d ≡ get_or rs i d = get_or-take n rs i d (omega arith) in
-    let b : get_or (take n rs) j d ≡ get_or rs j d = get_or-take n rs j d bound in
-    subst (λ (r : UserKey × UserKey). rises r (get_or (take n rs) j d) ≡ true) (sym a) (subst (λ (s : UserKey × UserKey). rises (get_or rs i d) s ≡ true) (sym b) (h.later i j d low bound))) }
+front_rises rs n le h = record {
+  later = λ i j d low lt. (let bound : j < n = subst (λ (k : ℕ). j < k) (length-take-le n rs le) lt in
+      let a : get_or (take n rs) i d ≡ get_or rs i d = get_or-take n rs i d (omega arith) in
+      let b : get_or (take n rs) j d ≡ get_or rs j d = get_or-take n rs j d bound in
+      subst (λ (r : UserKey × UserKey). rises r (get_or (take n rs) j d) ≡ true) (sym a) (subst (λ (s : UserKey × UserKey). rises (get_or rs i d) s ≡ true) (sym b) (h.later i j d low bound)));
+}
 
 -- ---- the search for a user key in a row
 
@@ -77,8 +81,10 @@ not_false false h = absurd (cc h)
 
 pub parted : (rs : List (UserKey × UserKey)) (k : UserKey) → IsRising rs → IsPartitionedBy (ends_before k) rs
 parted rs k h i j d le lt e =
-    ap not (true_or_not (user_le k (get_or rs i d).1) (λ t. absurd (cc (not_true (user_le k (get_or rs j d).1) e,
-    user_le_trans k (get_or rs i d).1 (get_or rs j d).1 t (rises_says (get_or rs i d) (get_or rs j d) (h.later i j d le lt)).1))))
+    ap not (true_or_not (user_le k (get_or rs i d).1) (λ t. absurd (cc (
+      not_true (user_le k (get_or rs j d).1) e,
+      user_le_trans k (get_or rs i d).1 (get_or rs j d).1 t (rises_says (get_or rs i d) (get_or rs j d) (h.later i j d le lt)).1,
+    ))))
 
 none_of : (p : UserKey × UserKey → Bool) (rs : List (UserKey × UserKey)) → ((i : ℕ) (d : UserKey × UserKey) → i < length rs → p (get_or rs i d) ≡ false) → list_any p rs ≡ false
 none_of p [] h = refl

@@ -22,12 +22,7 @@ fn is_void(floor: u64, ranges: &Rows<'_>, key: &KeyRef<'_>) -> bool
 }
 
 /// Whether an entry of this key is kept, where the entry before shadows it or not.
-pub(crate) fn is_kept(
-    shadowed: bool,
-    floor: u64,
-    ranges: &Rows<'_>,
-    key: &KeyRef<'_>,
-) -> bool
+pub(crate) fn is_kept(shadowed: bool, floor: u64, ranges: &Rows<'_>, key: &KeyRef<'_>) -> bool
     ensures { (before : Option Entry)
         → shadowed ≡ is_shadowed floor before (entry_of (key_of key.now) [])
         → result ≡ is_kept floor ranges.now before (entry_of (key_of key.now) []) }
