@@ -1,4 +1,4 @@
-use Rattle.std.proofs.Common.{◌≡◌, true, false, List, All, sym, ◌∙◌, subst, get_or, take, take_all, Bor}
+use Rattle.std.proofs.Common.{◌≡◌, true, false, List, All, sym, ◌∙◌, subst, get_or, take_all, Bor}
 use Rattle.std.specs.List.{flat_map, list_any}
 use Rattle.std.proofs.lemmas.List.Elements.{All-get_or}
 use Rattle.lsm_codec.specs.Keys.{UserKey}
