@@ -4,7 +4,8 @@
 # refused is `52 Locked` and left nothing, and a scan that was not refused printed just what is
 # there. Then a reader that holds the folder beside a reader and beside a compaction, and a live
 # LevelDB that has it open, beside each command: all but `52 Locked` is a difference, and once it is
-# closed all are done. Needs g++ and libleveldb-dev. LSM=/path/to/lsm names a built program.
+# closed all are done; but `levels`, which asks for no lock, is done each time. Needs g++ and
+# libleveldb-dev. LSM=/path/to/lsm names a built program.
 set -euo pipefail
 here=$(cd "$(dirname "$0")" && pwd)
 work=$(mktemp -d)
@@ -93,6 +94,7 @@ beside() { # WANTED WORDS..: a command beside whoever holds the folder, done (0)
 
 each_beside() { # READING WRITING: what is wanted of reading and of writing commands beside whoever holds the folder
   local command
+  beside 0 levels db
   for command in "check db" "list db" "get db a11 --text" "scan db"; do beside "$1" $command; done
   for command in "ingest db first --text" "compact db" "clean db"; do beside "$2" $command; done
 }
@@ -132,4 +134,4 @@ each_beside 1 1
 exec 4>&-
 wait
 each_beside 0 0
-echo "beside a live LevelDB: each command is refused 52, and done once it is closed"
+echo "beside a live LevelDB: each command but levels is refused 52, and done once it is closed"

@@ -19,7 +19,7 @@ use Rattle.lsm_text.specs.Printing.{Begins}
 use Rattle.lsm_text.specs.declared.form.Form.{Form}
 use Rattle.lsm_directory.specs.Folders.{IsShelfAt, told_by}
 use Rattle.lsm_directory.specs.Logs.{IsFirstUnread, NoneUnread}
-use Rattle.lsm_directory.specs.Looking.{TellsBeside}
+use Rattle.lsm_directory.specs.Looking.{TellsLogs}
 use Rattle.lsm_directory.specs.declared.faults.directory_fault.DirectoryFault.{DirectoryFault}
 use Rattle.lsm_directory.specs.declared.faults.directory_fault.DirectoryFault.TheVariants as why
 use Rattle.lsm_directory.specs.declared.folder.folder_file.FolderFile.{FolderFile}
@@ -42,7 +42,7 @@ module _ (form : Form) (output : LevelsOutput) where
   stops_text s rest text old new is begun = (text, is, begun)
 
   pub laid_out : {T : Type 0} (r : Result T DirectoryFault) (others : List FolderFile) (was is : Told) (s : Shape) (rest : ℕ) (old new said_old said_new : Option (List ℕ))
-      → Names was is s rest → OnOk r (Shows form output s rest old new) → (NoneUnread s.log s.prev_log others → Keeps said_old said_new)
+      → Names was is s rest → OnOk r (Shows form output s rest old new) → (rest ≡ 0 → NoneUnread s.log s.prev_log others → Keeps said_old said_new)
       → OnOk r (IsLaidOut form output others was is old new said_old said_new)
   laid_out (Ok x) others was is s rest old new said_old said_new named shown quiet = record { shape = s; rest = rest; named = named; shown = shown; quiet = quiet }
   laid_out (Err e) others was is s rest old new said_old said_new named shown quiet = tt
@@ -84,14 +84,14 @@ noted log prev files n first none =
 
 module _ {C M : Type 0} (folders : Ghosts C M) where
   pub lays_out : {T : Type 0} (r : Result T DirectoryFault) (line : LevelsLine) (others : List FolderFile) (begun ended : FileShelf C M) (old new said_old said_new : Option (List ℕ))
-      → IsShelfAt folders line.path.now (TellsBeside others) begun
+      → IsShelfAt folders line.path.now (TellsLogs others) begun
       → OnOk r (IsLaidOut line.form line.output others (told_by folders begun) (told_by folders ended) old new said_old said_new)
       → OnOk r (LaysOutAt folders line old new said_old said_new)
   lays_out (Ok x) line others begun ended old new said_old said_new on done = record { others = others; begun = begun; on = on; ended = ended; done = done }
   lays_out (Err e) line others begun ended old new said_old said_new on done = tt
 
   pub fails : {T : Type 0} (r : Result T DirectoryFault) (line : LevelsLine) (others : List FolderFile) (begun ended : FileShelf C M) (old new : Option (List ℕ))
-      → IsShelfAt folders line.path.now (TellsBeside others) begun
+      → IsShelfAt folders line.path.now (TellsLogs others) begun
       → IfErr r (λ e. IsLayoutFault MayRefuse line.form line.output e (told_by folders begun) (told_by folders ended) old new)
       → ReadsManifest (told_by folders begun) (told_by folders ended) → IfErr r (λ e. FailsToLayOut folders line e old new)
   fails (Ok x) line others begun ended old new on says reads = tt
@@ -109,7 +109,7 @@ module _ {C M : Type 0} (folders : Ghosts C M) where
       rest = done.done.rest;
       named = done.done.named;
       shown = done.done.shown;
-      quiet = λ none. Keeps-trans said told last (done.done.quiet none) (kept zero);
+      quiet = λ whole none. Keeps-trans said told last (done.done.quiet whole none) (kept zero);
     };
   }
   laid_on (Err e) status line old new said told last err done kept zero = absurd (omega (arith, err, zero))

@@ -17,7 +17,7 @@ use Rattle.lsm_text.specs.declared.form.Form.{Form}
 use Rattle.lsm_directory.specs.Folders.{IsShelfAt, told_by}
 use Rattle.lsm_directory.specs.Holding.{IsFolderFault}
 use Rattle.lsm_directory.specs.Logs.{NoneUnread}
-use Rattle.lsm_directory.specs.Looking.{TellsBeside}
+use Rattle.lsm_directory.specs.Looking.{TellsLogs}
 use Rattle.lsm_directory.specs.declared.faults.directory_fault.DirectoryFault.{DirectoryFault}
 use Rattle.lsm_directory.specs.declared.faults.directory_fault.DirectoryFault.TheVariants as why
 use Rattle.lsm_directory.specs.declared.folder.folder_file.FolderFile.{FolderFile}
@@ -81,14 +81,15 @@ IsNotNamed Refused why.NumbersSpent was is = ⊥
 IsNotNamed Refused why.Locked was is = ⊥
 IsNotNamed Refused why.Absent was is = ⊥
 
--- That shape was shown; and where there is no log to note, standard error is as it was.
+-- That shape was shown; and where the manifest ends with a whole record and there is no log to note,
+-- standard error is as it was.
 pub record IsLaidOut (form : Form) (output : LevelsOutput) (others : List FolderFile)
     (was is : Told) (old new said_old said_new : Option (List ℕ)) : Type 0 where
   pub shape : Shape
   pub rest : ℕ
   pub named : Names was is shape rest
   pub shown : Shows form output shape rest old new
-  pub quiet : NoneUnread shape.log shape.prev_log others → Keeps said_old said_new
+  pub quiet : rest ≡ 0 → NoneUnread shape.log shape.prev_log others → Keeps said_old said_new
 
 -- What a fault says: the manifest could not be read, and nothing was written; or it was read, and
 -- its shape could not be shown.
@@ -106,13 +107,13 @@ ReadsManifest was is = Becomes was is
 -- ---- a folder
 
 module _ {C M : Type 0} (folders : Ghosts C M) where
-  -- The lock of the folder at the path was held, and these files were found beside its tables. On a
-  -- shelf of it the command was done.
+  -- These files were found beside the tables of the folder at the path, and no lock was asked for.
+  -- On a shelf of it the command was done.
   pub record LaysOutAt (line : LevelsLine) (old new said_old said_new : Option (List ℕ))
       : Type 0 where
     pub others : List FolderFile
     pub begun : FileShelf C M
-    pub on : IsShelfAt folders line.path.now (TellsBeside others) begun
+    pub on : IsShelfAt folders line.path.now (TellsLogs others) begun
     pub ended : FileShelf C M
     pub done : IsLaidOut line.form line.output others (told_by folders begun)
         (told_by folders ended) old new said_old said_new
@@ -122,14 +123,14 @@ module _ {C M : Type 0} (folders : Ghosts C M) where
       : Type 0 where
     pub others : List FolderFile
     pub begun : FileShelf C M
-    pub on : IsShelfAt folders line.path.now (TellsBeside others) begun
+    pub on : IsShelfAt folders line.path.now (TellsLogs others) begun
     pub ended : FileShelf C M
     pub says : IsLayoutFault MayRefuse line.form line.output fault (told_by folders begun)
         (told_by folders ended) old new
     pub reads : ReadsManifest (told_by folders begun) (told_by folders ended)
 
-  -- memory ran out, or the folder was not opened, locked or looked at, and nothing was written; or
-  -- what is above
+  -- memory ran out, or the folder was not opened or looked at, and nothing was written; or what is
+  -- above
   abbrev pub FailsToLayOut : LevelsLine → DirectoryFault → (old new : Option (List ℕ)) → Type 0
   FailsToLayOut line fault old new =
       ((IsFolderFault fault ⊎ (fault ≡ why.OutOfMemory)) × Keeps old new)

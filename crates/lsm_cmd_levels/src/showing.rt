@@ -1,6 +1,6 @@
 //! What is shown of a folder's manifest.
 
-ghost use Rattle.std.specs.Prelude.{◌≡◌, IfErr, IfOk, OnOk};
+ghost use Rattle.std.specs.Prelude.{◌≡◌, IfErr, IfOk, OnOk, true};
 ghost use Rattle.std.specs.Io.KnownBytes.{Keeps};
 ghost use Rattle.lsm_directory.specs.Logs.{NoneUnread};
 ghost use Rattle.lsm_cmd_levels.specs.Layout.{IsLaidOut, IsLayoutFault, IsNotNamed, IsShown, IsUnshown};
@@ -9,7 +9,9 @@ ghost use Rattle.lsm_cmd_levels.specs.Layout.{Names, ReadsManifest, Shows, text_
 use crate::drawing::{Sheet, picture_text};
 use crate::due::{Due, due_next};
 use crate::lines::{files_text, levels_text};
-use lsm_directory::{DirectoryFault, FolderFile, Wording, first_unread, push_logs, write_output};
+use lsm_directory::{
+    DirectoryFault, FolderFile, Wording, first_unread, push_logs, push_rest, write_output,
+};
 use lsm_journal::{Journal, Recovered};
 use lsm_manifest::Shape;
 use lsm_requests::LevelsOutput;
@@ -55,29 +57,49 @@ pub fn text_of(
     Ok(text)
 }
 
-/// Writes a note for each log that is not read.
+/// Writes a note of the manifest's end, where that is no whole record, and one for each log that is
+/// not read.
 fn write_notes<E: Write>(
     alloc: Global,
     files: &[FolderFile],
-    shape: &Shape,
+    recovered: &Recovered,
     err: &mut E,
 ) -> io::Result<()> {
+    let shape = &recovered.shape;
     let mut text = Vec::new(alloc);
+    if recovered.rest > 0 {
+        push_rest(&mut text, recovered.rest)?;
+    }
     push_logs(&mut text, Wording::Noted, files, shape.log, shape.prev_log)?;
     err.write_all(text.as_slice())?;
     err.flush()
 }
 
-/// Notes each log that is not read. What can't be written is left out.
-fn tell_notes<E: Write>(alloc: Global, files: &[FolderFile], shape: &Shape, err: &mut E)
-    ensures { NoneUnread shape.now.log shape.now.prev_log files.now
+/// Whether there is anything to note: the manifest's end is no whole record, or a log is not read.
+#[tactic(auto, using(crate::proofs::ShowLaws::noted))]
+fn has_note(files: &[FolderFile], recovered: &Recovered) -> bool
+    ensures { result ≡ true → recovered.now.rest ≡ 0
+        → NoneUnread recovered.now.shape.log recovered.now.shape.prev_log files.now → ⊥ }
+{
+    if recovered.rest > 0 {
+        return true;
+    }
+    let shape = &recovered.shape;
+    match first_unread(files, shape.log, shape.prev_log) {
+        Some(_) => true,
+        None => false,
+    }
+}
+
+/// Notes the manifest's end, where that is no whole record, and each log that is not read. What
+/// can't be written is left out.
+fn tell_notes<E: Write>(alloc: Global, files: &[FolderFile], recovered: &Recovered, err: &mut E)
+    ensures { recovered.now.rest ≡ 0
+        → NoneUnread recovered.now.shape.log recovered.now.shape.prev_log files.now
         → Keeps (E.contents err.old) (E.contents err.new) }
 {
-    match first_unread(files, shape.log, shape.prev_log) {
-        None => {}
-        Some(_) => {
-            let _ = write_notes(alloc, files, shape, err);
-        }
+    if has_note(files, recovered) {
+        let _ = write_notes(alloc, files, recovered, err);
     }
 }
 
@@ -138,7 +160,7 @@ fn read_as<N: Naming, S: Shelf, R: Wait>(
 }
 
 /// Reads the manifest that the directory of a shelf names, and writes what is shown of it on
-/// `out`; notes on `err` each log that is not read. The shelf is given back.
+/// `out`; notes on `err` what is not read. The shelf is given back.
 #[tactic(auto, using(crate::proofs::ShowLaws::laid_out, crate::proofs::ShowLaws::not_shown, crate::proofs::ShowLaws::not_named, crate::proofs::ShowLaws::named_reads, crate::proofs::ShowLaws::fault_reads))]
 pub fn lay_out<S: Shelf, R: Wait, O: Write, E: Write>(
     rt: &R,
@@ -159,7 +181,7 @@ pub fn lay_out<S: Shelf, R: Wait, O: Write, E: Write>(
     let (read, shelf) = read_as::<Brand, S, R>(rt, alloc, shelf);
     match read {
         Ok(recovered) => {
-            tell_notes(alloc, files, &recovered.shape, err);
+            tell_notes(alloc, files, &recovered, err);
             (show(alloc, form, output, &recovered, out), shelf)
         }
         Err(fault) => (Err(fault), shelf),

@@ -123,7 +123,7 @@ module _ (Stored : ℕ → List ℕ → Type 0) (Refused : Asked → ShelfFault 
 
 pub is_done : {T : Type 0} (r : Result T DirectoryFault) (form : Form) (command : DirectoryCommand) (others : List FolderFile) (progress : Bool) (Stored : ℕ → List ℕ → Type 0) (Honest : Type 0) (was mid is : Told) (v : Levels) (rest log prev : ℕ)
     (old new said judged noted told : Option (List ℕ)) → Becomes mid is → Holds Honest was mid v rest log prev → AreGiven Stored v → (ReliesOn Honest command → OnOk r (Prints form command v rest log prev others old new))
-    → (IsFalse progress → Keeps said judged) → (HasNoNote command log prev others → Keeps judged noted) → (IsFalse progress → Keeps noted told) → OnOk r (IsLookedIntoAsGiven form command others progress Stored Honest was is old new said told)
+    → (IsFalse progress → Keeps said judged) → (HasNoNote command rest log prev others → Keeps judged noted) → (IsFalse progress → Keeps noted told) → OnOk r (IsLookedIntoAsGiven form command others progress Stored Honest was is old new said told)
 is_done (Ok x) form command others progress Stored Honest was mid is v rest log prev old new said judged noted told b h given w j q k = record {
   looked = record {
     version = v;

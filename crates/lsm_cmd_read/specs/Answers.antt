@@ -1,7 +1,7 @@
 -- What stands on standard output after a command on a directory, and what its faults say: this
 -- project's rule.
-use Rattle.std.specs.Prelude.{◌≡◌, ◌≢◌, ◌⊎◌, ℕ, Bool, true, false, IsFalse, List, Option, Some}
-use Rattle.std.specs.Prelude.{None, ⊤}
+use Rattle.std.specs.Prelude.{◌≡◌, ◌≢◌, ◌⊎◌, ◌<◌, ℕ, Bool, true, false, IsFalse, List, [], ◌++◌}
+use Rattle.std.specs.Prelude.{Option, Some, None, ⊤}
 use Rattle.std.specs.Io.KnownBytes.{Appends, Keeps}
 use Rattle.lsm_codec.specs.Entries.{answer}
 use Rattle.lsm_shelf.specs.Asked.{Asked}
@@ -16,7 +16,8 @@ use Rattle.lsm_text.specs.declared.form.Form.{Form}
 use Rattle.lsm_requests.specs.declared.get_output.GetOutput.TheVariants.{Line}
 use Rattle.lsm_cmd_read.specs.Directory.{AreGiven, Holds}
 use Rattle.lsm_cmd_read.specs.Listing.{IsChecked, list_text, shown_answer}
-use Rattle.lsm_directory.specs.Logs.{AreThose, IsUnread, NoneUnread, log_lines, note_line}
+use Rattle.lsm_directory.specs.Logs.{AppendsLogs, NoneUnread, note_line}
+use Rattle.lsm_directory.specs.Rest.{rest_note}
 use Rattle.lsm_cmd_read.specs.Scanned.{LeavesScan, PrintsScan}
 use Rattle.lsm_cmd_read.specs.Opening.{IsOpenRefusal}
 use Rattle.lsm_directory.specs.declared.folder.folder_file.FolderFile.{FolderFile}
@@ -44,26 +45,32 @@ ReliesOn Honest ListFiles = ⊤
 ReliesOn Honest (Get key output) = Honest
 ReliesOn Honest (Scan options) = Honest
 
--- A note was written for each log among these files that is not read.
-abbrev pub WritesNotes : (log prev : ℕ) → List FolderFile → Option (List ℕ) → Option (List ℕ)
-    → Type 0
-WritesNotes log prev files old new =
-    (logs : List FolderFile) × AreThose (IsUnread log prev) files logs
-    × Appends old new (log_lines note_line logs)
+-- To a text a note was added of so many bytes at the manifest's end, where there are any.
+abbrev pub AppendsRest : ℕ → (old new : List ℕ) → Type 0
+AppendsRest rest old new =
+    ((rest ≡ 0) × (new ≡ old)) ⊎ ((0 < rest) × (new ≡ old ++ rest_note rest))
 
--- Of these files beside the tables a command says nothing on standard error: a check says what it
--- has to say on standard output, and any other command notes each log that is not read.
-abbrev pub HasNoNote : DirectoryCommand → (log prev : ℕ) → List FolderFile → Type 0
-HasNoNote (Check workers) log prev others = ⊤
-HasNoNote ListFiles log prev others = NoneUnread log prev others
-HasNoNote (Get key output) log prev others = NoneUnread log prev others
-HasNoNote (Scan options) log prev others = NoneUnread log prev others
+-- Notes were written of the manifest's end, and of each log among these files that is not read.
+abbrev pub WritesNotes : (rest log prev : ℕ) → List FolderFile → Option (List ℕ)
+    → Option (List ℕ) → Type 0
+WritesNotes rest log prev files old new =
+    (text : List ℕ) × ((note : List ℕ) × AppendsRest rest [] note
+    × AppendsLogs note_line log prev files note text) × Appends old new text
+
+-- Of a manifest with so many bytes at its end that hold no whole record, and of these files beside
+-- the tables, a command says nothing on standard error. It notes such bytes, and each log that is
+-- not read; but a check says of logs what it has to say on standard output.
+abbrev pub HasNoNote : DirectoryCommand → (rest log prev : ℕ) → List FolderFile → Type 0
+HasNoNote (Check workers) rest log prev others = rest ≡ 0
+HasNoNote ListFiles rest log prev others = (rest ≡ 0) × NoneUnread log prev others
+HasNoNote (Get key output) rest log prev others = (rest ≡ 0) × NoneUnread log prev others
+HasNoNote (Scan options) rest log prev others = (rest ≡ 0) × NoneUnread log prev others
 
 -- Standard error is kept where no progress is asked for and there is nothing to note.
-abbrev pub IsQuiet : DirectoryCommand → Bool → (log prev : ℕ) → List FolderFile → Option (List ℕ)
-    → Option (List ℕ) → Type 0
-IsQuiet command progress log prev others old new =
-    IsFalse progress → HasNoNote command log prev others → Keeps old new
+abbrev pub IsQuiet : DirectoryCommand → Bool → (rest log prev : ℕ) → List FolderFile
+    → Option (List ℕ) → Option (List ℕ) → Type 0
+IsQuiet command progress rest log prev others old new =
+    IsFalse progress → HasNoNote command rest log prev others → Keeps old new
 
 -- The shelf's directory holds a version, what the command prints of it was written on standard
 -- output (by `get` and `scan`, over an honest shelf), and standard error is quiet.
@@ -76,7 +83,7 @@ pub record IsLookedInto (form : Form) (command : DirectoryCommand) (others : Lis
   pub prev : ℕ
   pub holds : Holds Honest was is version rest log prev
   pub printed : ReliesOn Honest command → Prints form command version rest log prev others old new
-  pub quiet : IsQuiet command progress log prev others said_old said_new
+  pub quiet : IsQuiet command progress rest log prev others said_old said_new
 
 -- So it is of a version whose tables the shelf gave.
 pub record IsLookedIntoAsGiven (form : Form) (command : DirectoryCommand) (others : List FolderFile)

@@ -178,8 +178,8 @@ fn named<N: Naming, S: Shelf>(
     Ok(named)
 }
 
-/// Opens the directory of a shelf to read, by a thread for each of the other ones, notes the logs
-/// that are not read, and does what a command asks of it. Nothing is written there.
+/// Opens the directory of a shelf to read, by a thread for each of the other ones, notes what is
+/// not read, and does what a command asks of it. Nothing is written there.
 #[tactic(auto, using(crate::proofs::ReadingOutcomes::reads_none, crate::proofs::ReadingOutcomes::reads_later, lsm_directory::proofs::CallerLemmas::keeps_same))]
 fn perform<N: Naming, S: Shelf, R: Threads + Wait + Sync, O: Write, E: Write + Send>(
     rt: &R,
@@ -212,6 +212,7 @@ fn perform<N: Naming, S: Shelf, R: Threads + Wait + Sync, O: Write, E: Write + S
     tell_notes(
         alloc,
         inquiry.command,
+        opened.rest,
         inquiry.files,
         opened.log,
         opened.prev_log,

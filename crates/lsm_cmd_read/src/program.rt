@@ -69,10 +69,11 @@ fn begin<S: Shelf, R: Threads + Wait + Sync, O: Write, E: Write + Send>(
 }
 
 /// Opens the directory of a shelf to read, does what is asked of it, and answers the exit status: 0
-/// where it is done, and 1 where it is refused. `list`, `get` and `scan` note on `err` each log
-/// that is not read. A fault is one line on `err`; `check` and `scan` name in it the file of which
-/// a table is refused, and `list` and `get` in a second one. Where it is `9 Device` or
-/// `10 Missing`, what the system answered stands behind it. A `get` that prints no line of its
+/// where it is done, and 1 where it is refused. Each notes on `err` bytes at the manifest's end that
+/// are no whole record, and `list`, `get` and `scan` each log that is not read. A fault is one line
+/// on `err`; `check` and `scan` name in it the file of which a table is refused, and `list` and
+/// `get` in a second one. What it means, and where it is `9 Device` or `10 Missing` what the system
+/// answered, stand behind it. A `get` that prints no line of its
 /// answer is `absent` where the key has none. Nothing is written in the directory. The shelf is
 /// given back. A thread for each of the other shelves, forks of it, reads and judges tables.
 pub fn look<S: Shelf, R: Threads + Wait + Sync, O: Write, E: Write + Send>(
