@@ -43,6 +43,21 @@ class Making:
         self.limits = []
         self.out = subprocess.PIPE
         self.held = []
+        self.names = {}
+
+    def do(self, name, *words):
+        """A step, and what the words TABLE and MANIFEST stand for behind it."""
+        getattr(self, name)(*(self.named(word) for word in words))
+        tables = sorted(it for it in os.listdir("db") if it.endswith(".ldb"))
+        if tables:
+            self.names["TABLE"] = tables[0]
+        if os.path.isfile("db/CURRENT") and "MANIFEST" not in self.names:
+            with open("db/CURRENT") as file:
+                self.names["MANIFEST"] = file.read().strip()
+
+    def named(self, text):
+        """A text with the names of the first table and of the manifest in place of these words."""
+        return re.sub(r"\b(TABLE|MANIFEST)\b(?!-)", lambda word: self.names.get(word[0], word[0]), text)
 
     def path(self, name):
         return os.path.join("db", name)
@@ -55,6 +70,16 @@ class Making:
         """So many tables at level 0, each of the key `k` and a value of so many bytes."""
         for _ in range(int(count)):
             self.need("put", "db", "k", "v" * int(size), TEXT)
+
+    def fill(self):
+        """Puts until level 0 is full."""
+        while run(["put", "db", "k", "v", TEXT])[0] == 0:
+            pass
+
+    def take(self, first, last):
+        """Files with the names of the tables of these numbers."""
+        for number in range(int(first), int(last) + 1):
+            self.write(f"{number:06}.ldb")
 
     def write(self, name, text=""):
         with open(name if name.startswith("./") else self.path(name), "wb") as file:
@@ -150,6 +175,10 @@ class Making:
         """No file may have more bytes, and the signal of that is ignored."""
         self.limits.append((resource.RLIMIT_FSIZE, int(most), True))
 
+    def manifest_limit(self):
+        """No file may grow by more than 10 bytes beyond what the manifest has."""
+        self.file_limit(os.path.getsize(self.path(self.names["MANIFEST"])) + 10)
+
     def file_limit_and_signal(self, most):
         self.limits.append((resource.RLIMIT_FSIZE, int(most), False))
 
@@ -186,7 +215,7 @@ def talk(making, words):
     last, before = "", listing()
     for line in making.said:
         if isinstance(line, tuple):
-            getattr(making, line[0])(*line[1:])
+            making.do(*line)
             continue
         before = listing()
         child.stdin.write(line.encode() + b"\n")
@@ -223,8 +252,9 @@ class Row:
         shutil.rmtree("db", ignore_errors=True)
         os.mkdir("db")
         making = Making()
-        for name, *words in self.steps:
-            getattr(making, name)(*words)
+        for step in self.steps:
+            making.do(*step)
+        self.first, self.second = making.named(self.first), making.named(self.second)
         before = listing()
         if self.words[0] == "shell":
             status, out, err, before = talk(making, self.words)
@@ -249,7 +279,7 @@ class Row:
             yield f"the status is {self.status}"
         if out:
             yield f"standard output has {out[:60]!r}"
-        if lines[:1] != [self.first]:
+        if not re.fullmatch(re.escape(self.first).replace(r"\#", r"\d+"), "".join(lines[:1])):
             yield f"the first line is {lines[:1]}"
         second = "\n".join(lines[1:])
         if self.second == "-":
