@@ -3,7 +3,8 @@
 
 Each block of a page says what it is: `console` (a session, see sessions.py), `rust` (Rattle),
 `antt` (a definition or a proof), `edit` (one that must fail), `output` (what a program of `crates`
-prints: its file `stdout`), `text` (anything else, which nothing compares). The lines of a block have
+prints: its file `stdout`), `c`, `cpp` and `python` (a program of clients/examples), `text` (anything
+else, which nothing compares). The lines of a block have
 to be lines of one file of its kind, to the letter and one after another. The whole may be indented
 otherwise. A line `..` parts the block in two: both are in the file, in this order.
 """
@@ -18,6 +19,9 @@ KINDS = {
     "antt": ["crates/*/specs/**/*.antt", "crates/*/proofs/**/*.antt"],
     "output": ["crates/*/stdout"],
     "edit": ["crates/*/must-fail/*.edit", "checks/more_edits/*/*.edit"],
+    "c": ["clients/examples/*.c"],
+    "cpp": ["clients/examples/*.cc", "clients/examples/*.cpp"],
+    "python": ["clients/examples/*.py"],
 }
 
 

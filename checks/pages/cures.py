@@ -1,19 +1,37 @@
 #!/usr/bin/env python3
-"""Whether what docs/COMMANDS.md tells a user to do cures: cures.py PROGRAM
+"""Whether what pages tell a user to do helps: cures.py PROGRAM
 
-- Compressed tables: the block of shell lines of that part is run, over a folder that LevelDB
-  compressed; `lsm` refuses that one and reads the new one.
+Without LevelDB:
+
+- A lost `CURRENT`: the command that the second line of the refusal prints names it again, and the
+  old content is there; `--begin` begins a new database.
+- Tables of old names (`N.sst`): what COMPATIBILITY says, to rename them to `N.ldb`.
+- A batch of `shell` that has no room: `commit`, `begin`, and the write once more.
+- Locks: a folder that another program holds, by `flock` as goleveldb or by `fcntl` as LevelDB, is
+  `refused 52 Locked`, and done once that has ended.
+- A manifest that was cut short: `check` tells the rest.
+- A log: what reads tells of it, what writes is refused, `--beside-log` writes all the same, and
+  `compact` and `clean` leave it.
+- The commands of examples/README.md, and the picture of `levels`; what README says of `rt version`,
+  where there is a kit.
+
+With LevelDB, which is its library, by its C interface; the module plyvel of the lines is the one
+below:
+
+- Compressed tables: the block of shell lines of that part of COMMANDS is run, over a folder that
+  LevelDB compressed; `lsm` refuses that one and reads the new one.
 - A log that is not flushed: `lsm put` is refused; once LevelDB has opened the folder without
   compression, all is read, and the put comes in.
+- A lost manifest: after LevelDB's `RepairDB` all is read.
 
-LevelDB is its library, by its C interface; the module plyvel of the lines is the one below. Where
-the library or the program is not there, nothing is judged.
+Where the library or the program is not there, what needs it is not judged.
 """
 
 import ctypes
 import ctypes.util
 import os
 import re
+import shutil
 import subprocess
 import sys
 import tempfile
@@ -29,6 +47,11 @@ for name in ("options_create", "readoptions_create", "writeoptions_create", "ope
     getattr(lib, "leveldb_" + name).restype = ctypes.c_void_p
 lib.leveldb_iter_valid.restype = ctypes.c_ubyte
 lib.leveldb_iter_key.restype = lib.leveldb_iter_value.restype = ctypes.POINTER(ctypes.c_char)
+
+def repair_db(path):
+    error = ctypes.c_char_p()
+    lib.leveldb_repair_db(ctypes.c_void_p(lib.leveldb_options_create()), path.encode(), ctypes.byref(error))
+    assert error.value is None, error.value
 
 class DB:
     def __init__(self, path, compression="snappy"):
@@ -59,6 +82,13 @@ class DB:
     def close(self):
         lib.leveldb_close(self.db)
 '''
+HOLDER = """
+import fcntl, sys
+file = open(sys.argv[1], "r+b")
+(fcntl.flock if sys.argv[2] == "flock" else fcntl.lockf)(file, fcntl.LOCK_EX)
+print(flush=True)
+sys.stdin.read()
+"""
 passed = failed = 0
 
 
@@ -67,7 +97,7 @@ def judge(is_right, text):
     global passed, failed
     passed, failed = passed + is_right, failed + (not is_right)
     if not is_right:
-        print(f"docs/COMMANDS.md: {text}")
+        print(f"cures: {text}")
 
 
 def printed(command, folder):
@@ -88,23 +118,125 @@ def fill(folder, name, count, more=""):
     return printed(f"python3 -c \"{lines}\"", folder)
 
 
-if ctypes.util.find_library("leveldb") is None or not works(sys.argv[1]):
-    print("cures: not run, for want of LevelDB's library or of a program\n0 passed, 0 failed")
-    sys.exit(0)
-with tempfile.TemporaryDirectory() as scratch:
-    folder = Path(scratch)
-    (folder / "plyvel.py").write_text(PLYVEL)
-    (folder / "lsm").symlink_to(Path(sys.argv[1]).resolve())
+def begin(folder, name):
+    """A database of two keys."""
+    printed(f"mkdir {name}; printf '61=31\\n62=32\\n' | ./lsm ingest {name} -", folder)
+
+
+def lost_current(folder):
+    begin(folder, "lost")
+    printed("rm lost/CURRENT", folder)
+    said = printed("./lsm put lost 63 33", folder)
+    judge(said.startswith("refused 10 Missing"), f"a put without CURRENT: {said}")
+    cure = re.search(r"printf .* > DIR/CURRENT", said)
+    printed(cure[0].replace("DIR", "lost") if cure else "false", folder)
+    judge(printed("./lsm scan lost", folder) == "61=31\n62=32", f"CURRENT is not named again by what this says: {said}")
+    printed("rm lost/CURRENT; ./lsm put lost 63 33 --begin", folder)
+    judge(printed("./lsm scan lost", folder) == "63=33", "--begin does not begin a new database")
+
+
+def old_names(folder):
+    begin(folder, "older")
+    printed("mv older/000002.ldb older/000002.sst", folder)
+    judge(printed("./lsm scan older", folder).startswith("refused 10 Missing"), "a table N.sst is not refused")
+    printed("for file in older/*.sst; do mv $file ${file%.sst}.ldb; done", folder)
+    judge(printed("./lsm scan older --count", folder) == "2", "renamed tables are not read")
+
+
+def full_batch(folder):
+    lines = ["begin", *(f"put {number:06x} 00" for number in range(65536)), "put ffffff 00", "commit", "begin", "put ffffff 00", "commit"]
+    (folder / "lines").write_text("\n".join(lines) + "\n")
+    replies = printed("mkdir queued; ./lsm shell queued < lines", folder).split("\n")
+    judge(replies[65537] == "refused 39 TooLarge", f"the write that a batch has no room for: {replies[65537]}")
+    judge(printed("./lsm scan queued --count", folder) == "65537", "a write that was sent once more is not there")
+
+
+def locks(folder):
+    begin(folder, "held")
+    for kind in ("flock", "fcntl"):
+        words = [sys.executable, "-c", HOLDER, str(folder / "held" / "LOCK"), kind]
+        with subprocess.Popen(words, stdin=subprocess.PIPE, stdout=subprocess.PIPE, text=True) as holder:
+            holder.stdout.readline()
+            for command in ("put held 63 33", "get held 61"):
+                judge("refused 52 Locked" in printed(f"./lsm {command}", folder), f"{command} beside a lock by {kind} is not refused")
+            holder.stdin.close()
+        judge(printed("./lsm put held 63 33", folder).startswith("file "), f"a put behind a lock by {kind} is refused")
+
+
+def cut_manifest(folder):
+    begin(folder, "cut")
+    printed("truncate -s -1 cut/MANIFEST-000001", folder)
+    rest = re.search(r"^rest (\d+)$", printed("./lsm check cut", folder), re.M)
+    judge(rest is not None and int(rest[1]) > 0, "check does not tell a rest")
+
+
+def beside_log(folder):
+    begin(folder, "beside")
+    printed("echo write > beside/000009.log", folder)
+    judge(re.search(r"^log 000009\.log ", printed("./lsm check beside", folder), re.M) is not None, "check does not print a log")
+    for command in ("list beside", "get beside 61", "scan beside"):
+        judge("000009.log" in printed(f"./lsm {command} 2>&1 > /dev/null", folder), f"{command} does not name a log")
+    judge("refused 51 UnflushedLog 9" in printed("./lsm put beside 63 33", folder), "a put beside a log is not refused")
+    judge(printed("./lsm put beside 63 33 --beside-log", folder).startswith("file "), "--beside-log does not write")
+    said = printed("./lsm compact beside && ./lsm clean beside && cat beside/000009.log", folder)
+    judge(said.endswith("write"), f"compact or clean beside a log: {said}")
+
+
+def examples(folder):
+    (folder / "examples").symlink_to(TOP / "examples")
+    commands = re.findall(r"`(\./lsm [^`]*)`", (TOP / "examples" / "README.md").read_text())
+    judge(len(commands) == 3, "examples/README.md: a row without its command")
+    printed("mkdir DIR tmp", folder)
+    for command in commands:
+        said = printed(f"{command.replace('/tmp/', 'tmp/')} || echo refused", folder)
+        judge("refused" not in said, f"examples/README.md: {command}: {said}")
+    if shutil.which("rt"):
+        kit = re.search(r"`rt version` prints\s+`([\w-]+)`, a letter, and `(logic \w+)`", (TOP / "README.md").read_text())
+        said = printed("rt version", folder)
+        judge(re.fullmatch(rf"{kit[1]}[a-z] {kit[2]}", said) is not None, f"README.md: rt version prints {said}")
+    picture = re.search(r"`(lsm levels [^`]* > [\w.]+)`", (TOP / "docs" / "COMMANDS.md").read_text())[1]
+    printed("./" + picture.replace(" db ", " DIR "), folder)
+    judge((folder / picture.split()[-1]).read_text().startswith("<svg"), f"{picture}: no picture")
+
+
+def compressed(folder):
     part = (TOP / "docs" / "COMMANDS.md").read_text().split("## Compressed tables", 1)[1]
     cure = re.search(r"^```text\n(.*?)^```", part, re.S | re.M)[1]
     fill(folder, "old", PAIRS, "db.compact_range()\n")
     judge("refused 16 Compressed" in printed("./lsm check old", folder), "a compressed folder is not refused")
     said = printed(cure, folder)
     judge(printed("./lsm scan new --count", folder) == str(PAIRS), f"the lines of `Compressed tables` do not cure: {said}")
+
+
+def logged(folder):
     fill(folder, "logged", 100)
     judge("refused 51 UnflushedLog" in printed("./lsm put logged 61 62", folder), "a log that is not flushed is not refused")
     printed("python3 -c \"import plyvel; plyvel.DB('logged', compression=None).close()\"", folder)
     judge(printed("./lsm put logged 61 62", folder).startswith("file "), "an opening without compression does not cure a log")
     judge(printed("./lsm scan logged --count", folder) == "101", "an opening without compression does not flush the log")
+
+
+def repaired(folder):
+    begin(folder, "broken")
+    printed("rm broken/CURRENT broken/MANIFEST-*", folder)
+    judge(printed("./lsm scan broken", folder).startswith("refused 10 Missing"), "a lost manifest is not refused")
+    printed("python3 -c \"import plyvel; plyvel.repair_db('broken')\"", folder)
+    judge(printed("./lsm scan broken", folder) == "61=31\n62=32", f"RepairDB does not cure: {printed('./lsm scan broken', folder)}")
+
+
+if not works(sys.argv[1]):
+    print("cures: not run, for want of a program\n0 passed, 0 failed")
+    sys.exit(0)
+parts = [lost_current, old_names, full_batch, locks, cut_manifest, beside_log, examples]
+if ctypes.util.find_library("leveldb") is None:
+    print("cures: compressed tables and logs not tried, for want of LevelDB's library")
+else:
+    parts += [compressed, logged, repaired]
+with tempfile.TemporaryDirectory() as scratch:
+    folder = Path(scratch)
+    (folder / "lsm").symlink_to(Path(sys.argv[1]).resolve())
+    (folder / "plyvel.py").write_text(PLYVEL)
+    for part in parts:
+        part(folder)
 print(f"{passed} passed, {failed} failed")
 sys.exit(failed != 0)

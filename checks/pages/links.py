@@ -3,14 +3,7 @@
 
 import sys
 
-from markdown import TOP, anchors, links
-
-NO_PAGES = {".git", "out", "target"}
-
-
-def pages():
-    """The pages of the repository."""
-    return [page for page in sorted(TOP.rglob("*.md")) if not NO_PAGES & set(page.relative_to(TOP).parts)]
+from markdown import TOP, anchors, links, pages
 
 
 def fault(page, link):

@@ -6,6 +6,7 @@ from pathlib import Path
 
 TOP = Path(__file__).resolve().parents[2]
 FENCE = re.compile(r"^```(\S*)\s*$")
+NO_PAGES = {".git", "out", "target"}
 
 
 @dataclass
@@ -21,6 +22,11 @@ class Block:
         return f"{self.page.relative_to(TOP)}:{self.line}"
 
 
+def pages():
+    """The pages of the repository."""
+    return [page for page in sorted(TOP.rglob("*.md")) if not NO_PAGES & set(page.relative_to(TOP).parts)]
+
+
 def blocks(page):
     """The fenced blocks of a page, in order."""
     found, opened = [], None
@@ -33,6 +39,8 @@ def blocks(page):
             opened = None
         elif opened is not None:
             opened.lines.append(line)
+        elif line.lstrip().startswith("```"):
+            raise SystemExit(f"{page.relative_to(TOP)}:{number}: a fence that is not at the line's front")
     if opened is not None:
         raise SystemExit(f"{opened.place()}: a block without an end")
     return found

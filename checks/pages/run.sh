@@ -4,9 +4,13 @@
 #   sessions.py   each command of their shell sessions is run in a scratch folder and prints what the
 #                 page says
 #   code.py       each line of Rattle that they show is a line of a source file in crates or of a
-#                 test; so in docs/CALLING.md, docs/PROVED.md and the CALLING.md of each crate
-#   cures.py      what COMMANDS tells a user to do against compressed tables and logs cures, where
-#                 LevelDB's library is there
+#                 test; so in docs/CALLING.md, docs/PROVED.md and the CALLING.md of each crate; what
+#                 clients/README.md shows is of clients/examples
+#   commands.py   each command of the program that a page names is one, and so is each option of it;
+#                 the table of COMMANDS has all of them
+#   cures.py      what pages and refusals tell a user to do helps: against a lost CURRENT, old names,
+#                 a full batch, locks, logs; with LevelDB's library also compressed tables and a lost
+#                 manifest
 #   mending.py    each file that CONTRIBUTING's table "What to mend" names is there
 #   names.py      each clause, call or test that the page of a crate names is in the sources
 #   form.py       the pages of the book and of crates are short, drawings are well-formed, as scripts
@@ -19,8 +23,8 @@
 #
 # Names of pages as words choose which pages' sessions and code are looked at. Runs the proved
 # program, or else the unproved build, which is made first where it is not there (some minutes);
-# LSM=/path/to/lsm names another one. Where there is none the sessions count as failed, and the rest
-# is looked at. Needs python3, and rt where a program has to be built. Prints each fault with its
+# LSM=/path/to/lsm names another one. Where there is none the sessions count as failed, and what
+# needs no program is looked at. Needs python3, and rt where a program has to be built. Prints each fault with its
 # file and line. The last line is `N passed, M failed`; the status is 1 where M is not 0.
 set -uo pipefail
 here=$(cd "$(dirname "$0")" && pwd)
@@ -32,7 +36,7 @@ export PYTHONDONTWRITEBYTECODE=1 LC_ALL=C.UTF-8
 pages=("$@") code=("$@")
 if [[ $# -eq 0 ]]; then
   pages=("$top/README.md" "$top/docs/COMMANDS.md" "$top"/docs/book/*.md)
-  code=("${pages[@]}" "$top/docs/CALLING.md" "$top/docs/PROVED.md" "$top"/crates/*/CALLING.md)
+  code=("${pages[@]}" "$top/docs/CALLING.md" "$top/docs/PROVED.md" "$top"/crates/*/CALLING.md "$top/clients/README.md")
 fi
 count() { # NAME COMMAND..: runs it, and adds its last line `N passed, M failed`
   local name=$1 said line
@@ -52,6 +56,7 @@ count() { # NAME COMMAND..: runs it, and adds its last line `N passed, M failed`
 
 if "$program" --version > /dev/null; then
   count sessions python3 "$here/sessions.py" "$program" "${pages[@]}"
+  count commands python3 "$here/commands.py" "$program"
 else
   failed=1
   echo "sessions: not run, for want of a program: 0 passed, 1 failed"

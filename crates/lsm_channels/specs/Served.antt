@@ -20,3 +20,9 @@ pub record Served : Type 0 where
 pub record IsToldBy (h : Held) (knew knows : List Entry) : Type 0 where
   pub later : IsLater h.history knew
   pub known : knows ≡ h.history
+
+-- The lock gave this state, where its fact held. It has all that was known before, and all that had
+-- come in in it is known then.
+pub record IsLent (keeps : Held → Type 0) (h : Held) (knew knows : List Entry) : Type 0 where
+  pub kept : ∥ keeps h ∥₁
+  pub told : IsToldBy h knew knows

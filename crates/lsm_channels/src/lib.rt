@@ -1,7 +1,7 @@
 //! A database that is served over channels (`docs/PROTOCOL.md`).
 //!
 //! Stands on `lsm_store` for the database, on `lsm_frames` for requests and answers, and on
-//! `lsm_cmd_write` for a folder that is locked and looked at. What comes over a channel goes through
+//! `lsm_opening` for a folder and its database. What comes over a channel goes through
 //! `channel` to `session`, which does what is asked by one module for each kind of request. Its
 //! contract: an answer is the store's own, by one relation for each kind (`answered` of
 //! `Session::perform`).
@@ -18,10 +18,9 @@ mod statistics;
 mod turn;
 mod writing;
 
-// What these share: what is known, forks of a shelf, answers, a view of what has come in.
+// What these share: what is known, answers, a view of what has come in.
 mod channel_reader;
 mod channel_view;
-mod forks;
 mod knowing;
 mod locked_pin;
 mod locked_version;
@@ -30,19 +29,20 @@ mod refusing;
 mod saying;
 mod viewing;
 
-// Frames over descriptors, a thread for each channel.
+// Frames over wires, a thread for each channel.
 mod channel;
-mod descriptors;
+mod channel_thread;
 mod opened;
 mod serving;
+mod wires;
 
 // A database is opened.
+mod ended;
 mod opening_fault;
 mod parts;
 mod plan;
 mod program;
-mod starting;
 
-pub use descriptors::Descriptors;
+pub use ended::Ended;
 pub use program::serve_opening;
 pub use session::Session;

@@ -1,7 +1,7 @@
 //! Why no database is served.
 
-use lsm_cmd_write::WriterFault;
 use lsm_directory::DirectoryFault;
+use lsm_opening::WriterFault;
 
 /// Why no database is served.
 #[derive(Debug, Drop)]

@@ -11,10 +11,10 @@ use Rattle.lsm_directory.specs.Folders.{IsShelfAt, told_by}
 use Rattle.lsm_directory.specs.Logs.{NoneUnread}
 use Rattle.lsm_directory.specs.declared.folder.folder_file.FolderFile.{FolderFile}
 use Rattle.lsm_bulk_load.specs.Marks.{Marked, marked_in}
-use Rattle.lsm_cmd_write.specs.Preparing.{IsPrepared}
-use Rattle.lsm_cmd_write.specs.declared.ingesting.start.Start.{Start}
-use Rattle.lsm_cmd_write.specs.declared.ingesting.start.Start.TheVariants.{Begin}
-use Rattle.lsm_cmd_bench.specs.Benched.{BenchesAt, IsBenchedOn, plainly}
+use Rattle.lsm_opening.specs.Preparing.{IsPrepared, plainly}
+use Rattle.lsm_opening.specs.declared.prepared.Start.{Start}
+use Rattle.lsm_opening.specs.declared.prepared.Start.TheVariants.{Begin}
+use Rattle.lsm_cmd_bench.specs.Benched.{BenchesAt, IsBenchedOn}
 use Rattle.lsm_cmd_bench.specs.Filled.{RunsAll}
 
 -- the state that is just as far as the mark behind the benchmarks is what they left

@@ -1,6 +1,6 @@
 -- What a run of `bench` leaves of a folder (this project's rule). What it measures, and what it
 -- prints, is in no clause.
-use Rattle.std.specs.Prelude.{◌≡◌, ℕ, List, false}
+use Rattle.std.specs.Prelude.{ℕ, List}
 use Rattle.atomic_table.specs.Seated.{TableId}
 use Rattle.lsm_folder.specs.Calls.{AreHonest}
 use Rattle.lsm_folder.specs.declared.folder_calls.FolderCalls.{Ghosts}
@@ -8,15 +8,13 @@ use Rattle.lsm_shelf.specs.Told.{Forked, Told}
 use Rattle.lsm_state.specs.Held.{Held, IsLawfulState}
 use Rattle.lsm_storage.specs.declared.file.file_shelf.FileShelf.{FileShelf}
 use Rattle.lsm_requests.specs.declared.bench_options.BenchOptions.{BenchOptions}
-use Rattle.lsm_text.specs.declared.form.Form.TheVariants.{Hex}
-use Rattle.lsm_requests.specs.declared.ingest_options.IngestOptions.{IngestOptions}
 use Rattle.lsm_directory.specs.Folders.{IsShelfAt, told_by}
 use Rattle.lsm_directory.specs.Logs.{NoneUnread}
 use Rattle.lsm_directory.specs.declared.folder.folder_file.FolderFile.{FolderFile}
 use Rattle.lsm_bulk_load.specs.Marks.{marked_in}
-use Rattle.lsm_cmd_write.specs.Preparing.{IsPrepared}
-use Rattle.lsm_cmd_write.specs.Starting.{IsNew}
-use Rattle.lsm_cmd_write.specs.declared.ingesting.start.Start.TheVariants.{Begin}
+use Rattle.lsm_opening.specs.Preparing.{IsPrepared, plainly}
+use Rattle.lsm_opening.specs.Starting.{IsNew}
+use Rattle.lsm_opening.specs.declared.prepared.Start.TheVariants.{Begin}
 use Rattle.lsm_cmd_bench.specs.Filled.{RunsAll}
 
 -- A database was begun on the shelf, whose manifest has this number; into it came what the
@@ -33,10 +31,6 @@ pub record IsBenchedOn (Honest : Type 0) (number : ℕ) (options : BenchOptions)
   pub came : RunsAll options.num options.value_size options.benchmarks.items (marked_in found)
       (marked_in left)
   pub forked : Forked mid is
-
--- neither is a database begun where CURRENT was lost, nor beside a log that LevelDB would read
-abbrev pub plainly : IngestOptions
-plainly = record { form = Hex; begins = false; beside_log = false }
 
 module _ {C M : Type 0} (folders : Ghosts C M) where
   -- The lock of the folder at the path was held, and no database was there, nor a log but empty

@@ -2,15 +2,14 @@
 
 ghost use Rattle.std.specs.Prelude.{◌≡◌, None};
 ghost use Rattle.lsm_cmd_bench.specs.declared.bench_fault.BenchFault.TheVariants.{Before, State as StateStopped};
-ghost use Rattle.lsm_cmd_write.specs.declared.faults.writer_fault.WriterFault.TheVariants.{Directory};
-ghost use Rattle.lsm_cmd_write.specs.declared.faults.writer_fault.WriterFault.TheVariants.{OutOfMemory};
+ghost use Rattle.lsm_opening.specs.declared.faults.writer_fault.WriterFault.TheVariants.{Directory};
+ghost use Rattle.lsm_opening.specs.declared.faults.writer_fault.WriterFault.TheVariants.{OutOfMemory};
 ghost use Rattle.lsm_state.specs.declared.state_fault.StateFault.TheVariants.{OutOfMemory as StateMemory};
 
 use lsm_batch::Write as KeyWrite;
 use lsm_bulk_load::LoadFault;
-use lsm_cmd_compact::CompactFault;
-use lsm_cmd_write::WriterFault;
 use lsm_directory::{DirectoryFault, Exit};
+use lsm_opening::{CompactFault, WriterFault};
 use lsm_state::StateFault;
 use lsm_store::WorkerFault;
 use lsm_table::{ReadFault, ShelfFault};

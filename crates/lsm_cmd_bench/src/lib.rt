@@ -2,7 +2,7 @@
 //! the form that users know from LevelDB's `db_bench`.
 //!
 //! Stands on `lsm_store` for the store, its readers and its workers, on `lsm_lines` for batches,
-//! and on `lsm_cmd_write` for the beginning of the database. Its contract: status 0 only where a
+//! and on `lsm_opening` for the beginning of the database. Its contract: status 0 only where a
 //! database was begun in a folder that had none. What is printed are times, of which no clause
 //! speaks.
 #![tactic(auto)]
@@ -22,7 +22,6 @@ mod bench_fault;
 mod report;
 
 // One run.
-mod beginning;
 mod program;
 mod running;
 

@@ -4,16 +4,15 @@ ghost use Rattle.std.specs.Prelude.{◌≡◌, ◌≢◌, IfOk, OnOk};
 ghost use Rattle.std.specs.Io.KnownBytes.{Keeps};
 ghost use Rattle.lsm_cmd_bench.specs.Benched.{BenchesAt};
 ghost use Rattle.lsm_directory.specs.Logs.{NoneUnread};
-ghost use Rattle.lsm_cmd_write.specs.declared.ingesting.start.Start.TheVariants.{Begin};
+ghost use Rattle.lsm_opening.specs.declared.prepared.Start.TheVariants.{Begin};
 
 use crate::bench_fault::BenchFault;
 use crate::running::run_on;
-use lsm_cmd_write::{Prepared, Start, WriterFault, prepare};
 use lsm_directory::{Known, Paths, first_unread, open_at, refuse, status_of};
 use lsm_folder::{FolderCalls, Reasons};
-use lsm_requests::{BenchOptions, IngestOptions};
+use lsm_opening::{Prepared, Start, WriterFault, plainly, prepare};
+use lsm_requests::BenchOptions;
 use lsm_storage::FileShelf;
-use lsm_text::Form;
 use std::io::Write;
 use std::rt::Clock;
 use std::sync::Wait;
@@ -51,13 +50,8 @@ where
     O: Write,
     ensures done { OnOk result (BenchesAt C.FolderCalls path.now options.now) }
 {
-    let plainly = IngestOptions {
-        form: Form::Hex,
-        begins: false,
-        beside_log: false,
-    };
     let mut folder = open_at(paths, path, reasons)?;
-    let prepared = prepare(rt, paths.alloc(), &mut folder, plainly)?;
+    let prepared = prepare(rt, paths.alloc(), &mut folder, plainly())?;
     let number = number_in(&prepared)?;
     let shelf = FileShelf::over(folder);
     let (done, _shelf) = run_on(rt, paths.alloc(), shelf, number, options, out);

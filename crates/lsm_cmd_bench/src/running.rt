@@ -6,17 +6,15 @@ ghost use Rattle.lsm_cmd_bench.specs.Filled.{RunsAll};
 ghost use Rattle.lsm_bulk_load.specs.Marks.{IsEven, marked_in};
 ghost use Rattle.lsm_shelf.specs.Told.{Forked};
 ghost use Rattle.lsm_state.specs.Held.{Held, IsLawfulState};
-ghost use Rattle.lsm_state.specs.Making.{IsNewBoard, IsNewHistory};
 ghost use Rattle.lsm_store.specs.Readers.{SeatsPinners};
-ghost use Rattle.lsm_cmd_write.specs.Starting.{usual};
+ghost use Rattle.lsm_opening.specs.Parts.{AreOf, usual};
 
-use crate::beginning::begin;
 use crate::bench::{Tools, mark_after, measure_all};
 use crate::bench_fault::BenchFault;
 use crate::draws::Draws;
 use crate::report::write_head;
-use lsm_bulk_load::{Grown, Mark, Origin, forks};
-use lsm_cmd_write::NewParts;
+use lsm_bulk_load::{Grown, Mark, Origin};
+use lsm_opening::{NewParts, begin, forks};
 use lsm_requests::BenchOptions;
 use lsm_slots::Boarded;
 use lsm_state::State;
@@ -297,13 +295,9 @@ fn run_named<N: Boarded, S: Shelf, R: Threads + Wait + Clock + Sync, W: Write>(
     options: &BenchOptions,
     out: &mut W,
 ) -> Result<(), BenchFault>
-    requires records { parts.records ≡ N.registry }
-    requires board { IsNewBoard N.board usual parts.publisher parts.pinners.items }
-    requires seats { vec_len parts.pinners ≡ usual.readers }
-    requires history { IsNewHistory N.history parts.history }
+    requires parts { AreOf usual N.registry N.board N.history parts }
     ensures { OnOk result (IsBenchedOn S.honest number options.now shelf.old shelf.new) }
 {
-    let parts = parts.named(alloc)?;
     let state: State<N, S> = begin(rt, alloc, shelf, number, parts)?;
     match run_state::<N, S, Brand, R, W>(rt, alloc, state, shelf, options, out) {
         Ok(()) => Ok(()),
@@ -321,11 +315,8 @@ fn run_as<N: Boarded, S: Shelf, R: Threads + Wait + Clock + Sync, W: Write>(
     options: &BenchOptions,
     out: &mut W,
 ) -> (Result<(), BenchFault>, S)
-    requires records { parts.records ≡ N.registry }
+    requires parts { AreOf usual N.registry N.board N.history parts }
     requires shelf { (S.told shelf).place ≡ N.place }
-    requires board { IsNewBoard N.board usual parts.publisher parts.pinners.items }
-    requires seats { vec_len parts.pinners ≡ usual.readers }
-    requires history { IsNewHistory N.history parts.history }
     ensures { OnOk result.0
         (IsBenchedOn S.honest number options.now (S.told shelf) (S.told result.1)) }
 {

@@ -1,6 +1,6 @@
 -- What a compaction answers, by what is done.
 use Rattle.std.proofs.Common.{◌≡◌, ◌≢◌, ℕ, inl, inr, List, Option, IfErr, OnErr, OnOk, refl, sym, subst, ap, ◌∙◌}
-use Rattle.std.specs.Prelude.{◌⊎◌, Result, Ok, Err}
+use Rattle.std.specs.Prelude.{◌⊎◌, Some, None, Result, Ok, Err}
 use Rattle.std.specs.Io.KnownBytes.{Keeps}
 use Rattle.atomic_table.specs.Seated.{TableId}
 use Rattle.lsm_shelf.specs.Asked.{Asked}
@@ -9,28 +9,29 @@ use Rattle.lsm_shelf.specs.Told.{Becomes, Forked, Told, finding}
 use Rattle.lsm_codec.specs.Entries.{answer}
 use Rattle.lsm_model.specs.Files.{all_entries}
 use Rattle.lsm_version.specs.Versions.{files}
-use Rattle.lsm_slots.specs.Slots.{Looked, Slotted}
 use Rattle.lsm_journal.specs.HeldManifest.{HeldManifest}
 use Rattle.lsm_state.specs.Held.{Held}
 use Rattle.lsm_store.specs.Compacting.{IsLeftByWorkers}
 use Rattle.lsm_store.specs.declared.worker_end.WorkerEnd.{WorkerEnd}
-use Rattle.lsm_cmd_write.specs.Starting.{IsReopened}
-use Rattle.lsm_cmd_write.specs.declared.faults.writer_fault.WriterFault.TheVariants.{Write as WriteFault}
-use Rattle.lsm_cmd_compact.specs.Compacting.{AreEnds, AreFaultless, Compacts, IsCompactFault, IsNamed, IsOfManning, IsOpened, IsNotCompacted, IsSwept, IsWorkersFault, LeavesAll, StopsSweeping, installed_between}
-use Rattle.lsm_cmd_compact.specs.declared.compact_fault.CompactFault.{CompactFault}
-use Rattle.lsm_cmd_compact.specs.declared.compact_fault.CompactFault.TheVariants.{Writer}
+use Rattle.lsm_opening.specs.Compactions.{IsSwept}
+use Rattle.lsm_opening.specs.Starting.{Opens}
+use Rattle.lsm_opening.specs.declared.faults.writer_fault.WriterFault.TheVariants.{Write as WriteFault}
+use Rattle.lsm_requests.specs.declared.compact_options.CompactOptions.{CompactOptions}
+use Rattle.lsm_requests.specs.declared.compact_range.CompactRange.{CompactRange}
+use Rattle.lsm_store.specs.declared.picks.Picks.{Picks}
+use Rattle.lsm_store.specs.declared.picks.Picks.TheVariants.{Choice, Joining, Manual}
+use Rattle.lsm_cmd_compact.specs.Compacting.{IsAimed, IsClearedBy, AreEnds, AreFaultless, Clears, Compacts, IsCompactFault, IsNamed, IsOfManning, IsOpened, IsNotCompacted, IsWorkersFault, LeavesAll, StopsSweeping, installed_between}
+use Rattle.lsm_opening.specs.declared.faults.compact_fault.CompactFault.{CompactFault}
+use Rattle.lsm_opening.specs.declared.faults.compact_fault.CompactFault.TheVariants.{Writer}
 
-pub is_refused : {T : Type 0} (r : Result T CompactFault) (status : ℕ) (Stored : ℕ → List ℕ → Type 0) (Refused : Asked → ShelfFault → Type 0) (Honest : Type 0) (workers : ℕ)
+pub is_refused : {T : Type 0} (r : Result T CompactFault) (status : ℕ) (Stored : ℕ → List ℕ → Type 0) (Refused : Asked → ShelfFault → Type 0) (Honest : Type 0) (options : CompactOptions)
     (was is : Told) (old new : Option (List ℕ)) → OnOk r (status ≡ 0) → OnErr r (status ≡ 1)
-    → IfErr r (λ e. IsCompactFault Stored Refused Honest workers e was is) → IfErr r (λ e. e ≢ Writer WriteFault → Keeps old new) → status ≢ 0
-    → (status ≡ 1) × ((fault : CompactFault) × IsNotCompacted Stored Refused Honest workers fault was is old new)
-is_refused (Ok x) status Stored Refused Honest workers was is old new ok err says left other = absurd (other ok)
-is_refused (Err e) status Stored Refused Honest workers was is old new ok err says left other = (err, (e, record { says = says; left = left }))
+    → IfErr r (λ e. IsCompactFault Stored Refused Honest options e was is) → IfErr r (λ e. e ≢ Writer WriteFault → Keeps old new) → status ≢ 0
+    → (status ≡ 1) × ((fault : CompactFault) × IsNotCompacted Stored Refused Honest options fault was is old new)
+is_refused (Ok x) status Stored Refused Honest options was is old new ok err says left other = absurd (other ok)
+is_refused (Err e) status Stored Refused Honest options was is old new ok err says left other = (err, (e, record { says = says; left = left }))
 
 -- ---- after the opening
-
-pub looked_same : (s : Slotted) → Looked s s
-looked_same s = record { board = refl; id = refl; slot = refl; version = refl; length = refl; each = λ i. inl refl }
 
 -- what workers left is all of it, and each user key shows what it showed
 pub leaves : (Honest : Type 0) (found left : Held) → IsLeftByWorkers Honest found left → LeavesAll Honest found left
@@ -39,23 +40,23 @@ leaves Honest found left l = record {
   shows = λ h k. ap (λ (q : ℕ). answer (all_entries (files left.slots.version)) k q) l.as_found.last ∙ l.as_found.answers h k found.slots.version.last (inl refl);
 }
 
-pub opens : (Honest : Type 0) (board : TableId) (found : Held) (was mid is : Told) → IsReopened Honest found was mid → found.slots.board.board ≡ board → Forked mid is → IsOpened Honest board found was is
+pub opens : (Honest : Type 0) (board : TableId) (found : Held) (was mid is : Told) → Opens Honest found was mid → found.slots.board.board ≡ board → Forked mid is → IsOpened Honest board found was is
 opens Honest board found was mid is opened on forked = record { mid = mid; opened = opened; on = on; forked = forked }
 
 -- no worker began, or one of them has a fault
-pub unfinished : (Stored : ℕ → List ℕ → Type 0) (Refused : Asked → ShelfFault → Type 0) (Honest : Type 0) (board : TableId) (found : Held) (workers : ℕ) (e : CompactFault) (was is : Told)
-    → IsOpened Honest board found was is → IsOfManning e ⊎ IsWorkersFault Refused Honest (IsLeftByWorkers Honest found) was.place workers e
-    → IsCompactFault Stored Refused Honest workers e was is
-unfinished Stored Refused Honest board found workers e was is opened stops = elim stops [
+pub unfinished : (Stored : ℕ → List ℕ → Type 0) (Refused : Asked → ShelfFault → Type 0) (Honest : Type 0) (board : TableId) (found : Held) (options : CompactOptions) (e : CompactFault) (was is : Told)
+    → IsOpened Honest board found was is → IsOfManning e ⊎ IsWorkersFault Refused Honest (IsLeftByWorkers Honest found) was.place options.workers e
+    → IsCompactFault Stored Refused Honest options e was is
+unfinished Stored Refused Honest board found options e was is opened stops = elim stops [
   | inl manning ↦ inr (inl (inr (manning, (board, (found, opened)))))
   | inr fault ↦ inr (inr (inl record { board = board; found = found; opened = opened; stopped = fault }))
 ]
 
 -- nothing, or not all, was removed
-pub unswept : (Stored : ℕ → List ℕ → Type 0) (Refused : Asked → ShelfFault → Type 0) (Honest : Type 0) (board : TableId) (found left : Held) (workers : ℕ) (returned : List (WorkerEnd × Option Told))
-    (e : CompactFault) (was mid is : Told) → IsOpened Honest board found was mid → AreEnds Refused Honest (IsLeftByWorkers Honest found) was.place workers returned → AreFaultless returned
-    → IsLeftByWorkers Honest found left → StopsSweeping Refused Honest board left e mid is → IsCompactFault Stored Refused Honest workers e was is
-unswept Stored Refused Honest board found left workers returned e was mid is opened each faultless by stops = inr (inr (inr (inl record {
+pub unswept : (Stored : ℕ → List ℕ → Type 0) (Refused : Asked → ShelfFault → Type 0) (Honest : Type 0) (board : TableId) (found left : Held) (options : CompactOptions) (returned : List (WorkerEnd × Option Told))
+    (e : CompactFault) (was mid is : Told) → IsOpened Honest board found was mid → AreEnds Refused Honest (IsLeftByWorkers Honest found) was.place options.workers returned → AreFaultless returned
+    → IsLeftByWorkers Honest found left → StopsSweeping Refused Honest board left e mid is → IsCompactFault Stored Refused Honest options e was is
+unswept Stored Refused Honest board found left options returned e was mid is opened each faultless by stops = inr (inr (inr (inl record {
   board = board;
   found = found;
   left = left;
@@ -69,11 +70,11 @@ unswept Stored Refused Honest board found left workers returned e was mid is ope
 })))
 
 -- all was done
-pub compacts : (Refused : Asked → ShelfFault → Type 0) (Honest : Type 0) (board : TableId) (found left : Held) (workers installed : ℕ) (returned : List (WorkerEnd × Option Told)) (was mid read is : Told)
-    → IsOpened Honest board found was mid → AreEnds Refused Honest (IsLeftByWorkers Honest found) was.place workers returned → AreFaultless returned
-    → IsLeftByWorkers Honest found left → installed ≡ installed_between found left → IsNamed left mid read → IsSwept Honest board left read is
-    → Compacts Refused Honest workers installed was is
-compacts Refused Honest board found left workers installed returned was mid read is opened each faultless by count named swept = record {
+pub compacts : (Refused : Asked → ShelfFault → Type 0) (Honest : Type 0) (board : TableId) (found left : Held) (options : CompactOptions) (installed : ℕ) (returned : List (WorkerEnd × Option Told)) (was mid read is : Told)
+    → IsOpened Honest board found was mid → AreEnds Refused Honest (IsLeftByWorkers Honest found) was.place options.workers returned → AreFaultless returned
+    → Clears (IsLeftByWorkers Honest found) found options.range → IsLeftByWorkers Honest found left → installed ≡ installed_between found left → IsNamed left mid read → IsSwept Honest board left read is
+    → Compacts Refused Honest options installed was is
+compacts Refused Honest board found left options installed returned was mid read is opened each faultless cleared by count named swept = record {
   board = board;
   found = found;
   left = left;
@@ -82,6 +83,7 @@ compacts Refused Honest board found left workers installed returned was mid read
   returned = returned;
   ends_are = each;
   faultless = faultless;
+  cleared = cleared;
   leaves = leaves Honest found left by;
   count = count;
   read = read;
@@ -96,3 +98,12 @@ named_still was is t u same named =
       told = subst (λ (j : HeldManifest). Becomes (finding j.number j.bytes t) u) (sym (ap (λ (h : Held). h.journal) same)) named.told;
       counts = named.counts;
     }
+
+-- what was picked for a range is cleared of it
+pub clears_by : (keeps : Held → Type 0) (found : Held) (range : Option CompactRange) (picks : Picks) → IsAimed found.slots.version range picks → IsClearedBy keeps picks → Clears keeps found range
+clears_by keeps found None Choice aimed cleared = tt
+clears_by keeps found None Joining aimed cleared = tt
+clears_by keeps found None (Manual s) aimed cleared = tt
+clears_by keeps found (Some r) Choice aimed cleared = absurd aimed
+clears_by keeps found (Some r) Joining aimed cleared = absurd aimed
+clears_by keeps found (Some r) (Manual s) aimed cleared = (s, aimed, cleared)

@@ -1,5 +1,4 @@
 mod Quiet
-mod Forks
 mod Ends
 mod CompactOutcomes
 mod RunLaws

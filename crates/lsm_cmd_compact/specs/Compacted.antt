@@ -13,7 +13,7 @@ use Rattle.lsm_requests.specs.declared.compact_line.CompactLine.{CompactLine}
 use Rattle.lsm_cmd_compact.specs.Compacting.{IsCompacted, IsNotCompacted}
 use Rattle.lsm_directory.specs.Folders.{IsShelfAt, stored_at, told_by}
 use Rattle.lsm_directory.specs.Holding.{IsHeld}
-use Rattle.lsm_cmd_compact.specs.declared.compact_fault.CompactFault.{CompactFault}
+use Rattle.lsm_opening.specs.declared.faults.compact_fault.CompactFault.{CompactFault}
 
 module _ {C M : Type 0} (folders : Ghosts C M) where
   -- The lock of the folder at the path was held. A shelf of it was compacted by so many workers.
@@ -21,7 +21,7 @@ module _ {C M : Type 0} (folders : Ghosts C M) where
     pub begun : FileShelf C M
     pub on : IsShelfAt folders line.path.now (IsHeld Exclusive) begun
     pub ended : FileShelf C M
-    pub done : IsCompacted MayRefuse (AreHonest folders.calls) line.options.workers
+    pub done : IsCompacted MayRefuse (AreHonest folders.calls) line.options
         (told_by folders begun) (told_by folders ended) old new
 
 module _ {C M : Type 0} (folders : Ghosts C M) (marks : mark.Ghosts M) where
@@ -33,7 +33,7 @@ module _ {C M : Type 0} (folders : Ghosts C M) (marks : mark.Ghosts M) where
     pub ended : FileShelf C M
     pub refused :
         IsNotCompacted (stored_at folders marks (told_by folders begun).place) MayRefuse
-        (AreHonest folders.calls) line.options.workers fault
+        (AreHonest folders.calls) line.options fault
         (told_by folders begun) (told_by folders ended) old new
 
   -- nothing was written; or that

@@ -1,42 +1,41 @@
 -- What a `compact` leaves, and why it is refused (this project's rule).
-use Rattle.std.specs.Prelude.{◌≡◌, ◌≢◌, ℕ, ◌-◌, ◌⊎◌, false, List, [], ◌∷◌, ◌++◌, length, codes}
-use Rattle.std.specs.Prelude.{decimal, replicate, All, Option, None, Some, Err}
+use Rattle.std.specs.Prelude.{◌≡◌, ◌≢◌, ℕ, ◌-◌, ◌⊎◌, List, ◌∷◌, ◌++◌, length}
+use Rattle.std.specs.Prelude.{replicate, All, Option, None, Some, Err}
 use Rattle.std.specs.Io.KnownBytes.{Appends, Keeps}
 use Rattle.atomic_table.specs.Seated.{TableId}
 use Rattle.lsm_codec.specs.Entries.{answer}
 use Rattle.lsm_codec.specs.Keys.{UserKey}
-use Rattle.lsm_folder.specs.Calls.{Call}
-use Rattle.lsm_folder.specs.declared.lock_kind.LockKind.TheVariants.{Exclusive}
 use Rattle.lsm_shelf.specs.Asked.{Asked, ReadManifest}
 use Rattle.lsm_shelf.specs.declared.shelf_fault.ShelfFault.{ShelfFault}
 use Rattle.lsm_shelf.specs.Told.{Place, Told, Becomes, CountedBy, Forked, NotNamed, NotTaken}
 use Rattle.lsm_shelf.specs.Told.{finding, fresh}
 use Rattle.lsm_model.specs.Files.{all_entries}
-use Rattle.lsm_version.specs.Versions.{files}
+use Rattle.lsm_version.specs.Versions.{Levels, files}
+use Rattle.lsm_picker.specs.Joining.{Span}
+use Rattle.lsm_picker.specs.Manual.{IsCleared, IsToClear}
 use Rattle.lsm_slots.specs.Slots.{current_id}
-use Rattle.lsm_state.specs.Asked.{CollectRefused, OnShelf}
-use Rattle.lsm_state.specs.Collecting.{AreCollected, IsCollectRefusal, IsCountedOnce, SameCounts}
-use Rattle.lsm_state.specs.Held.{Held, IsLawfulState}
-use Rattle.lsm_state.specs.Opening.{IsOpenRefusal, IsReadOnce}
-use Rattle.lsm_journal.specs.declared.open_fault.OpenFault.{OpenFault}
+use Rattle.lsm_state.specs.Collecting.{SameCounts}
+use Rattle.lsm_state.specs.Held.{Held}
 use Rattle.lsm_state.specs.declared.state_fault.StateFault.{StateFault}
 use Rattle.lsm_store.specs.Compacting.{IsLeftByWorkers}
 use Rattle.lsm_store.specs.Workers.{IsWorkersEnd}
 use Rattle.lsm_store.specs.Working.{AreReturned}
+use Rattle.lsm_requests.specs.declared.compact_options.CompactOptions.{CompactOptions}
+use Rattle.lsm_requests.specs.declared.compact_range.CompactRange.{CompactRange}
+use Rattle.lsm_store.specs.declared.picks.Picks.{Picks}
+use Rattle.lsm_store.specs.declared.picks.Picks.TheVariants.{Choice, Joining, Manual}
 use Rattle.lsm_store.specs.declared.worker_end.WorkerEnd.{WorkerEnd}
 use Rattle.lsm_store.specs.declared.worker_fault.WorkerFault.{WorkerFault}
-use Rattle.lsm_directory.specs.Holding.{IsUnheld}
-use Rattle.lsm_directory.specs.declared.faults.directory_fault.DirectoryFault.{DirectoryFault}
-use Rattle.lsm_cmd_write.specs.Starting.{IsReopened, usual}
-use Rattle.lsm_cmd_write.specs.WriterFault.{of_open, of_shelf}
-use Rattle.lsm_cmd_write.specs.declared.faults.writer_fault.WriterFault.TheVariants.{OutOfMemory, Write as WriteFault, Directory, State}
-use Rattle.lsm_cmd_compact.specs.declared.compact_fault.CompactFault.{CompactFault}
-use Rattle.lsm_cmd_compact.specs.declared.compact_fault.CompactFault.TheVariants.{Writer, Worker}
-use Rattle.lsm_cmd_compact.specs.declared.compact_fault.CompactFault.TheVariants.{OtherManifest}
-
--- `installed M`
-abbrev pub installed_text : ℕ → List ℕ
-installed_text installed = codes "installed " ++ (decimal installed ++ (10 ∷ []))
+use Rattle.lsm_opening.specs.Compactions.{IsSwept, Refuses, installed_text}
+use Rattle.lsm_opening.specs.Starting.{IsOpeningRefusal, Opens}
+use Rattle.lsm_opening.specs.WriterFault.{of_shelf}
+use Rattle.lsm_opening.specs.declared.faults.writer_fault.WriterFault.{WriterFault}
+use Rattle.lsm_opening.specs.declared.faults.writer_fault.WriterFault.TheVariants.{OutOfMemory}
+use Rattle.lsm_opening.specs.declared.faults.writer_fault.WriterFault.TheVariants.{State}
+use Rattle.lsm_opening.specs.declared.faults.writer_fault.WriterFault.TheVariants.{Write as WriteFault}
+use Rattle.lsm_opening.specs.declared.faults.compact_fault.CompactFault.{CompactFault}
+use Rattle.lsm_opening.specs.declared.faults.compact_fault.CompactFault.TheVariants.{Writer, Worker}
+use Rattle.lsm_opening.specs.declared.faults.compact_fault.CompactFault.TheVariants.{OtherManifest}
 
 -- ---- workers
 
@@ -85,6 +84,33 @@ pub record LeavesAll (Honest : Type 0) (found left : Held) : Type 0 where
   pub by_workers : IsLeftByWorkers Honest found left
   pub shows : Honest → (k : UserKey) → newest left k ≡ newest found k
 
+-- ---- a range
+
+-- at one moment, in a state of which the fact held, no file was left of the range at its levels
+abbrev pub IsClearedUnder : (Held → Type 0) → Span → Type 0
+IsClearedUnder keeps s = (h : Held) × ∥ keeps h ∥₁ × IsCleared h.slots.version s
+
+-- So it was of the range that was asked for, if one was, over the files of the state found.
+abbrev pub Clears : (Held → Type 0) → Held → Option CompactRange → Type 0
+Clears keeps found None = Unit {0}
+Clears keeps found (Some r) =
+    (s : Span) × IsToClear found.slots.version r.from r.to s × IsClearedUnder keeps s
+
+-- what workers pick, where a range is asked for or is not
+abbrev pub IsAimed : Levels → Option CompactRange → Picks → Type 0
+IsAimed v None Choice = Unit {0}
+IsAimed v None Joining = ⊥
+IsAimed v None (Manual s) = ⊥
+IsAimed v (Some r) Choice = ⊥
+IsAimed v (Some r) Joining = ⊥
+IsAimed v (Some r) (Manual s) = IsToClear v r.from r.to s
+
+-- no file was left of a range that is picked
+abbrev pub IsClearedBy : (Held → Type 0) → Picks → Type 0
+IsClearedBy keeps Choice = Unit {0}
+IsClearedBy keeps Joining = Unit {0}
+IsClearedBy keeps (Manual s) = IsClearedUnder keeps s
+
 -- ---- what the shelf was told
 
 -- The directory was opened as this state, which has this board; after that the shelf was asked for
@@ -92,7 +118,7 @@ pub record LeavesAll (Honest : Type 0) (found left : Held) : Type 0 where
 pub record IsOpened (Honest : Type 0) (board : TableId) (found : Held) (was is : Told)
     : Type 0 where
   pub mid : Told
-  pub opened : IsReopened Honest found was mid
+  pub opened : Opens Honest found was mid
   pub on : found.slots.board.board ≡ board
   pub forked : Forked mid is
 
@@ -102,29 +128,23 @@ pub record IsNamed (left : Held) (was is : Told) : Type 0 where
   pub told : Becomes (finding left.journal.number left.journal.bytes was) is
   pub counts : SameCounts was is
 
--- The tables that are listed and that this state does not keep were removed. It is a lawful one,
--- which has this board, and may write.
-pub record IsSwept (Honest : Type 0) (board : TableId) (left : Held) (was is : Told) : Type 0 where
-  pub lawful : IsLawfulState Honest board left
-  pub on : left.slots.board.board ≡ board
-  pub running : left.halted ≡ false
-  pub removed : List ℕ
-  pub collected : AreCollected left removed was is
-  pub counts : SameCounts was is
-
--- The directory was opened, and no worker ended with a fault. The state left has the board of the
+-- The directory was opened, and no worker ended with a fault. Of a range that was asked for no file
+-- was left at its levels. The state left has the board of the
 -- one opened, of which all is left, and so many results were installed between both. The manifest
 -- that was read then is the one that it holds, and what nothing names was removed.
 pub record Compacts (Refused : Asked → ShelfFault
-    → Type 0) (Honest : Type 0) (workers installed : ℕ) (was is : Told) : Type 0 where
+    → Type 0) (Honest : Type 0) (options : CompactOptions) (installed : ℕ) (was is : Told)
+    : Type 0 where
   pub board : TableId
   pub found : Held
   pub left : Held
   pub mid : Told
   pub opened : IsOpened Honest board found was mid
   pub returned : List (WorkerEnd × Option Told)
-  pub ends_are : AreEnds Refused Honest (IsLeftByWorkers Honest found) was.place workers returned
+  pub ends_are : AreEnds Refused Honest (IsLeftByWorkers Honest found) was.place options.workers
+      returned
   pub faultless : AreFaultless returned
+  pub cleared : Clears (IsLeftByWorkers Honest found) found options.range
   pub leaves : LeavesAll Honest found left
   pub count : installed ≡ installed_between found left
   pub read : Told
@@ -132,18 +152,13 @@ pub record Compacts (Refused : Asked → ShelfFault
   pub swept : IsSwept Honest board left read is
 
 -- That was done, and how many results were installed was written.
-abbrev pub IsCompacted : (Asked → ShelfFault → Type 0) → Type 0 → ℕ → Told → Told → Option (List ℕ)
-    → Option (List ℕ) → Type 0
-IsCompacted Refused Honest workers was is old new =
-    (installed : ℕ) × Compacts Refused Honest workers installed was is
+abbrev pub IsCompacted : (Asked → ShelfFault → Type 0) → Type 0 → CompactOptions → Told → Told
+    → Option (List ℕ) → Option (List ℕ) → Type 0
+IsCompacted Refused Honest options was is old new =
+    (installed : ℕ) × Compacts Refused Honest options installed was is
     × Appends old new (installed_text installed)
 
 -- ---- refusals
-
--- The lock was asked for, and not held: another has it, or the folder refused.
-abbrev pub NoLock : List Call → CompactFault → Type 0
-NoLock calls e = (fault : DirectoryFault) × (after : List Call) × (e ≡ Writer (Directory fault))
-    × IsUnheld Exclusive fault calls after
 
 -- Memory ran out before the shelf was asked for anything.
 abbrev pub IsOutOfMemory : CompactFault → Told → Told → Type 0
@@ -152,9 +167,8 @@ IsOutOfMemory e was is = (e ≡ Writer OutOfMemory) × (is ≡ was)
 -- The directory was not opened.
 abbrev pub IsUnopened : (ℕ → List ℕ → Type 0) → (Asked → ShelfFault → Type 0) → Type 0
     → CompactFault → Told → Told → Type 0
-IsUnopened Stored Refused Honest e was is = (fault : OpenFault) × (e ≡ Writer (of_open fault))
-    × IsOpenRefusal Stored Refused Honest usual.manifest_limit fault was is
-    × IsReadOnce fault was is
+IsUnopened Stored Refused Honest e was is = (fault : WriterFault) × (e ≡ Writer fault)
+    × IsOpeningRefusal Stored Refused Honest fault was is
 
 -- Memory ran out before a worker began, or a shelf failed to fork.
 abbrev pub IsOfManning : CompactFault → Type 0
@@ -208,20 +222,6 @@ IsUnnamed Refused left e was is =
     ((fault : ShelfFault) × (e ≡ Writer (of_shelf fault)) × IsUnread Refused fault was is)
     ⊎ ((e ≡ OtherManifest) × IsOther left was is)
 
--- This lawful state with this board refused to collect; its refusal says what was removed until
--- then. Where it was the shelf, other than for want of memory, it refused to list its tables, or to
--- remove one that is not kept.
-pub record Refuses (Refused : Asked → ShelfFault
-    → Type 0) (Honest : Type 0) (board : TableId) (left : Held) (fault : StateFault) (was is
-    : Told) : Type 0 where
-  pub before : Held
-  pub lawful : IsLawfulState Honest board left
-  pub on : left.slots.board.board ≡ board
-  pub removed : List ℕ
-  pub refused : IsCollectRefusal before left fault removed was is
-  pub counts : IsCountedOnce fault was is
-  pub asked : OnShelf (CollectRefused Refused left) fault
-
 -- Why this state does not sweep: its manifest was not found; or it was, and the collect was
 -- refused.
 abbrev pub StopsSweeping : (Asked → ShelfFault → Type 0) → Type 0 → TableId → Held → CompactFault
@@ -247,25 +247,25 @@ pub record IsUnswept (Refused : Asked → ShelfFault
   pub stops : StopsSweeping Refused Honest board left e mid is
 
 -- All was done, and the reply was not written.
-abbrev pub IsUntold : (Asked → ShelfFault → Type 0) → Type 0 → ℕ → CompactFault → Told → Told
-    → Type 0
-IsUntold Refused Honest workers e was is =
-    (e ≡ Writer WriteFault) × ((installed : ℕ) × Compacts Refused Honest workers installed was is)
+abbrev pub IsUntold : (Asked → ShelfFault → Type 0) → Type 0 → CompactOptions → CompactFault → Told
+    → Told → Type 0
+IsUntold Refused Honest options e was is =
+    (e ≡ Writer WriteFault) × ((installed : ℕ) × Compacts Refused Honest options installed was is)
 
 -- What a fault says.
-abbrev pub IsCompactFault : (ℕ → List ℕ → Type 0) → (Asked → ShelfFault → Type 0) → Type 0 → ℕ
-    → CompactFault → Told → Told → Type 0
-IsCompactFault Stored Refused Honest workers e was is =
+abbrev pub IsCompactFault : (ℕ → List ℕ → Type 0) → (Asked → ShelfFault → Type 0) → Type 0
+    → CompactOptions → CompactFault → Told → Told → Type 0
+IsCompactFault Stored Refused Honest options e was is =
     IsOutOfMemory e was is
     ⊎ (NoneBegan Stored Refused Honest e was is
-    ⊎ (IsUnfinished Refused Honest workers e was is
-    ⊎ (IsUnswept Refused Honest workers e was is
-    ⊎ IsUntold Refused Honest workers e was is)))
+    ⊎ (IsUnfinished Refused Honest options.workers e was is
+    ⊎ (IsUnswept Refused Honest options.workers e was is
+    ⊎ IsUntold Refused Honest options e was is)))
 
 -- What a refusal is: what the fault says; and, unless a write failed, nothing was written on
 -- standard output.
 pub record IsNotCompacted (Stored : ℕ → List ℕ → Type 0) (Refused : Asked → ShelfFault
-    → Type 0) (Honest : Type 0) (workers : ℕ) (fault : CompactFault) (was is : Told) (old new
-    : Option (List ℕ)) : Type 0 where
-  pub says : IsCompactFault Stored Refused Honest workers fault was is
+    → Type 0) (Honest : Type 0) (options : CompactOptions) (fault : CompactFault) (was is : Told)
+    (old new : Option (List ℕ)) : Type 0 where
+  pub says : IsCompactFault Stored Refused Honest options fault was is
   pub left : fault ≢ Writer WriteFault → Keeps old new

@@ -1,4 +1,3 @@
 -- What public clauses cite, and so what a caller reads
-pub mod CompactFault
 pub mod Compacting
 pub mod Compacted

@@ -1,62 +1,58 @@
 //! A directory is compacted.
 
-pub(crate) mod compaction;
+pub(crate) mod finding;
 pub(crate) mod job_teller;
-pub(crate) mod opening;
 pub(crate) mod program;
 pub(crate) mod progress;
-pub(crate) mod sweeping;
 pub(crate) mod tally;
 
-ghost use Rattle.std.specs.Prelude.{◌≡◌, ◌≢◌, ◌⊎◌, All, IfErr, IfOk, IsFalse, OnOk, replicate};
-ghost use Rattle.std.specs.Prelude.{vec_len};
+ghost use Rattle.std.specs.Prelude.{◌≡◌, ◌≢◌, ◌⊎◌, All, IfErr, IfOk, IsFalse, IsTrue, OnOk};
+ghost use Rattle.std.specs.Prelude.{replicate, vec_len};
 ghost use Rattle.std.specs.Io.KnownBytes.{Appends, Keeps};
 ghost use Rattle.lsm_shelf.specs.Stored.{Stored};
 ghost use Rattle.lsm_shelf.specs.Told.{Forked, fresh};
 ghost use Rattle.lsm_shelf.specs.declared.shelf_fault.ShelfFault.TheVariants.{OutOfMemory};
 ghost use Rattle.lsm_slots.specs.Slots.{Looked};
 ghost use Rattle.lsm_state.specs.Held.{Held};
-ghost use Rattle.lsm_state.specs.Making.{IsNewBoard, IsNewHistory};
 ghost use Rattle.lsm_store.specs.Compacting.{IsKeptByCompaction, IsSeated};
 ghost use Rattle.lsm_store.specs.Readers.{SeatsPinners};
 ghost use Rattle.lsm_store.specs.Workers.{IsWorkersEnd};
 ghost use Rattle.lsm_store.specs.Working.{AreReturned};
-ghost use Rattle.lsm_cmd_write.specs.WriterFault.{of_shelf};
-ghost use Rattle.lsm_cmd_write.specs.Starting.{usual};
-ghost use Rattle.lsm_cmd_write.specs.declared.faults.writer_fault.WriterFault.TheVariants.{Write as WriteFault};
+ghost use Rattle.lsm_opening.specs.WriterFault.{of_shelf};
+ghost use Rattle.lsm_opening.specs.Parts.{AreOf, usual};
+ghost use Rattle.lsm_opening.specs.declared.faults.writer_fault.WriterFault.TheVariants.{Write as WriteFault};
 ghost use Rattle.lsm_cmd_compact.specs.Compacting.{AreEnds, AreFaultless, IsCompactFault, IsCompacted};
-ghost use Rattle.lsm_cmd_compact.specs.Compacting.{IsOfManning, IsSwept, IsWorkersFault, Refuses};
-ghost use Rattle.lsm_cmd_compact.specs.Compacting.{installed_text};
-ghost use Rattle.lsm_cmd_compact.specs.declared.compact_fault.CompactFault.TheVariants.{Writer as WriterVariant};
+ghost use Rattle.lsm_cmd_compact.specs.Compacting.{Clears, IsAimed, IsClearedBy, IsOfManning};
+ghost use Rattle.lsm_cmd_compact.specs.Compacting.{IsWorkersFault};
+ghost use Rattle.lsm_opening.specs.Compactions.{IsSwept, Refuses, installed_text};
+ghost use Rattle.lsm_opening.specs.declared.faults.compact_fault.CompactFault.TheVariants.{Writer as WriterVariant};
 
-use crate::compact_fault::CompactFault;
-use crate::compacting::compaction::Compaction;
+use crate::compacting::finding::find_manifest;
 use crate::compacting::job_teller::JobTeller;
-use crate::compacting::opening::open;
 use crate::compacting::progress::{tell_installed, tell_opened, tell_removed};
-use crate::compacting::sweeping::{find_manifest, sweep};
 use crate::compacting::tally::judge;
-use lsm_cmd_write::{NewParts, WriterFault};
+use lsm_opening::{CompactFault, Crew, NewParts, WriterFault, forks, open, sweep};
 use lsm_requests::CompactOptions;
 use lsm_slots::Boarded;
 use lsm_state::{State, StateFault};
 use lsm_store::laws::what_was_found_is_kept;
-use lsm_store::{Invariant, NoGate, Returned, Store, run_workers_returning};
+use lsm_store::{Invariant, ManualCompaction, NoGate, Picks, Returned, Store, run_workers_by};
 use lsm_table::{NamedShelf, Shelf, ShelfFault};
-use std::alloc::{AllocFailed, Global};
+use std::alloc::{AllocError, AllocFailed, Global};
 use std::io::{self, Write};
 use std::marker::Brand;
 use std::sync::Wait;
 use std::thread::Threads;
 
-/// Lets workers compact a store, one for each shelf; each job that they begin is said where that is
-/// asked for.
+/// Lets workers compact a store, one for each shelf, which take what is picked; each job that they
+/// begin is said where that is asked for.
 #[tactic(auto, using(lsm_directory::proofs::CallerLemmas::keeps_same))]
 fn run_all<N: Boarded, S: Shelf, K: Invariant, R: Threads + Wait + Sync, E: Write + Send>(
     rt: &R,
     alloc: Global,
     store: &Store<N, S, K>,
     shelves: Vec<NamedShelf<N, S>>,
+    picks: &Picks,
     progress: bool,
     err: &mut E,
 ) -> Result<Vec<Returned<N, S>>, AllocFailed<Vec<NamedShelf<N, S>>>>
@@ -69,9 +65,9 @@ fn run_all<N: Boarded, S: Shelf, K: Invariant, R: Threads + Wait + Sync, E: Writ
 {
     if progress {
         let teller = JobTeller::new(rt, err);
-        return run_workers_returning(rt, alloc, store, shelves, &teller);
+        return run_workers_by(rt, alloc, store, shelves, &teller, picks);
     }
-    run_workers_returning(rt, alloc, store, shelves, &NoGate)
+    run_workers_by(rt, alloc, store, shelves, &NoGate, picks)
 }
 
 /// What the workers of a store have done, one for each of so many new forks, when none of them ends
@@ -81,34 +77,108 @@ fn work<N: Boarded, S: Shelf, K: Invariant, R: Threads + Wait + Sync, E: Write +
     alloc: Global,
     store: &Store<N, S, K>,
     shelves: Vec<NamedShelf<N, S>>,
-    options: CompactOptions,
+    options: &CompactOptions,
+    picks: &Picks,
     err: &mut E,
 ) -> Result<Vec<Returned<N, S>>, CompactFault>
     requires kept { IsKeptByCompaction S.honest K.keeps }
-    requires count { vec_len shelves ≡ options.workers }
-    requires new { shelves.items ≡ replicate options.workers (fresh N.place) }
+    requires count { vec_len shelves ≡ options.now.workers }
+    requires new { shelves.items ≡ replicate options.now.workers (fresh N.place) }
     ensures ends { IfOk result (λ v.
-        AreEnds (S.refuses N.place) S.honest K.keeps N.place options.workers v.items) }
+        AreEnds (S.refuses N.place) S.honest K.keeps N.place options.now.workers v.items) }
     ensures faultless { IfOk result (λ v. AreFaultless v.items) }
     ensures refused { IfErr result (λ e. (e ≡ WriterVariant (of_shelf OutOfMemory))
-        ⊎ IsWorkersFault (S.refuses N.place) S.honest K.keeps N.place options.workers e) }
-    ensures quiet { IsFalse options.progress → Keeps (E.contents err.old) (E.contents err.new) }
+        ⊎ IsWorkersFault (S.refuses N.place) S.honest K.keeps N.place options.now.workers e) }
+    ensures quiet { IsFalse options.now.progress → Keeps (E.contents err.old) (E.contents err.new) }
 {
-    let Ok(returned) = run_all(rt, alloc, store, shelves, options.progress, err) else {
+    let Ok(returned) = run_all(rt, alloc, store, shelves, picks, options.progress, err) else {
         return Err(CompactFault::of_shelf(ShelfFault::OutOfMemory));
     };
     judge(&returned)?;
     Ok(returned)
 }
 
-/// Lets so many workers compact a state, beside which a lock keeps a fact: the state, of which the
-/// fact holds, and what each worker has done, when none of them ends with a fault.
+/// Whether no file of a range that is picked is left at its levels, as the state under the lock says.
+fn is_cleared<N: Boarded, S: Shelf, K: Invariant, R: Wait>(
+    rt: &R,
+    store: &Store<N, S, K>,
+    picks: &Picks,
+) -> bool
+    ensures { IsTrue result → IsClearedBy K.keeps picks.now }
+{
+    match picks {
+        Picks::Manual(manual) => manual.is_done(&store.lock(rt).state),
+        Picks::Choice | Picks::Joining => true,
+    }
+}
+
+/// What the workers of a store have done, when none of them ends with a fault: again, each with a
+/// new fork of the shelf, until no file of a range that is picked is left at its levels.
+fn clear<N: Boarded, S: Shelf, K: Invariant, R: Threads + Wait + Sync, E: Write + Send>(
+    rt: &R,
+    alloc: Global,
+    store: &Store<N, S, K>,
+    shelf: &mut NamedShelf<N, S>,
+    shelves: Vec<NamedShelf<N, S>>,
+    options: &CompactOptions,
+    picks: &Picks,
+    err: &mut E,
+) -> Result<Vec<Returned<N, S>>, CompactFault>
+    requires kept { IsKeptByCompaction S.honest K.keeps }
+    requires count { vec_len shelves ≡ options.now.workers }
+    requires new { shelves.items ≡ replicate options.now.workers (fresh N.place) }
+    ensures ends { IfOk result (λ v.
+        AreEnds (S.refuses N.place) S.honest K.keeps N.place options.now.workers v.items) }
+    ensures faultless { IfOk result (λ v. AreFaultless v.items) }
+    ensures cleared { OnOk result (IsClearedBy K.keeps picks.now) }
+    ensures refused { IfErr result (λ e. IsOfManning e
+        ⊎ IsWorkersFault (S.refuses N.place) S.honest K.keeps N.place options.now.workers e) }
+    ensures quiet { IsFalse options.now.progress
+        → Keeps (E.contents err.old) (E.contents err.new) }
+{
+    let mut shelves = shelves;
+    'tries: for _ in rt.forever() {
+        let returned = work(rt, alloc, store, shelves, options, picks, err)?;
+        if is_cleared(rt, store, picks) {
+            return Ok(returned);
+        }
+        shelves = match forks(alloc, shelf, options.workers) {
+            Ok(shelves) => shelves,
+            Err(fault) => return Err(CompactFault::of_shelf(fault)),
+        };
+    }
+    unreachable!()
+}
+
+/// What workers are to pick over the files of a state: the range that options ask for, or else what
+/// is chosen.
+fn aim_of<N: Boarded, S: Shelf>(
+    alloc: Global,
+    state: &State<N, S>,
+    options: &CompactOptions,
+) -> Result<Picks, AllocError>
+    ensures { IfOk result (IsAimed state.now.slots.version options.now.range) }
+{
+    match &options.range {
+        Some(range) => Ok(Picks::Manual(ManualCompaction::of(
+            alloc,
+            state,
+            &range.from,
+            &range.to,
+        )?)),
+        None => Ok(Picks::Choice),
+    }
+}
+
+/// Lets so many workers compact a state, beside which a lock keeps a fact, until nothing of the range
+/// that is asked for is left, or nothing is due: the state, of which the fact holds, and what each
+/// worker has done, when none of them ends with a fault.
 fn compact_state<N: Boarded, S: Shelf, K: Invariant, R: Threads + Wait + Sync, E: Write + Send>(
     rt: &R,
     alloc: Global,
     state: State<N, S>,
     shelf: &mut NamedShelf<N, S>,
-    options: CompactOptions,
+    options: &CompactOptions,
     err: &mut E,
 ) -> Result<(State<N, S>, Vec<Returned<N, S>>), CompactFault>
     requires seats { SeatsPinners state }
@@ -116,19 +186,28 @@ fn compact_state<N: Boarded, S: Shelf, K: Invariant, R: Threads + Wait + Sync, E
     requires steps { IsKeptByCompaction S.honest K.keeps }
     ensures kept { IfOk result (λ r. ∥ K.keeps r.0 ∥₁) }
     ensures ends { IfOk result (λ r.
-        AreEnds (S.refuses N.place) S.honest K.keeps N.place options.workers r.1.items) }
+        AreEnds (S.refuses N.place) S.honest K.keeps N.place options.now.workers r.1.items) }
     ensures faultless { IfOk result (λ r. AreFaultless r.1.items) }
+    ensures cleared { OnOk result (Clears K.keeps state options.now.range) }
     ensures refused { IfErr result (λ e. IsOfManning e
-        ⊎ IsWorkersFault (S.refuses N.place) S.honest K.keeps N.place options.workers e) }
+        ⊎ IsWorkersFault (S.refuses N.place) S.honest K.keeps N.place options.now.workers e) }
     ensures told { Forked shelf.old shelf.new }
-    ensures quiet { IsFalse options.progress → Keeps (E.contents err.old) (E.contents err.new) }
+    ensures quiet { IsFalse options.now.progress → Keeps (E.contents err.old) (E.contents err.new) }
 {
-    let made: Compaction<N, S, K> = match Compaction::new(alloc, state, shelf, options.workers) {
-        Ok(compaction) => compaction,
-        Err(fault) => return Err(CompactFault::of_shelf(fault)),
+    let Ok(picks) = aim_of(alloc, &state, options) else {
+        return Err(CompactFault::of_shelf(ShelfFault::OutOfMemory));
     };
-    let Compaction { store, shelves } = made;
-    let returned = work(rt, alloc, &store, shelves, options, err)?;
+    let made: Crew<N, S, K> = match Crew::new(alloc, state, shelf, options.workers) {
+        Ok(crew) => crew,
+        Err((_state, fault)) => return Err(CompactFault::of_shelf(fault)),
+    };
+    let Crew {
+        store,
+        shelves,
+        own,
+    } = made;
+    let mut own = own;
+    let returned = clear(rt, alloc, &store, &mut own, shelves, options, &picks, err)?;
     Ok((store.into_state(), returned))
 }
 
@@ -171,26 +250,22 @@ fn compact_named<N: Boarded, S: Shelf, R: Threads + Wait + Sync, O: Write, E: Wr
     rt: &R,
     alloc: Global,
     shelf: &mut NamedShelf<N, S>,
-    options: CompactOptions,
+    options: &CompactOptions,
     parts: NewParts<S>,
     out: &mut O,
     err: &mut E,
 ) -> Result<(), CompactFault>
-    requires records { parts.records ≡ N.registry }
+    requires parts { AreOf usual N.registry N.board N.history parts }
     requires shelf { shelf.old.place ≡ N.place }
-    requires board { IsNewBoard N.board usual parts.publisher parts.pinners.items }
-    requires seats { vec_len parts.pinners ≡ usual.readers }
-    requires history { IsNewHistory N.history parts.history }
-    ensures done { OnOk result (IsCompacted (S.refuses N.place) S.honest options.workers shelf.old
+    ensures done { OnOk result (IsCompacted (S.refuses N.place) S.honest options.now shelf.old
         shelf.new (O.contents out.old) (O.contents out.new)) }
     ensures fault { IfErr result (λ e.
         IsCompactFault (Stored S.Receipt (S.is_of N.place) S.Receipt.number S.Receipt.image)
-        (S.refuses N.place) S.honest options.workers e shelf.old shelf.new) }
+        (S.refuses N.place) S.honest options.now e shelf.old shelf.new) }
     ensures left { IfErr result (λ e. e ≢ WriterVariant WriteFault
         → Keeps (O.contents out.old) (O.contents out.new)) }
-    ensures quiet { IsFalse options.progress → Keeps (E.contents err.old) (E.contents err.new) }
+    ensures quiet { IsFalse options.now.progress → Keeps (E.contents err.old) (E.contents err.new) }
 {
-    let parts = parts.named(alloc)?;
     let state = open(rt, alloc, shelf, parts)?;
     tell_opened(&state, options.progress, err);
     what_was_found_is_kept::<State<N, S>>();
@@ -213,24 +288,21 @@ fn compact_as<N: Boarded, S: Shelf, R: Threads + Wait + Sync, O: Write, E: Write
     rt: &R,
     alloc: Global,
     shelf: S,
-    options: CompactOptions,
+    options: &CompactOptions,
     parts: NewParts<S>,
     out: &mut O,
     err: &mut E,
 ) -> (Result<(), CompactFault>, S)
-    requires records { parts.records ≡ N.registry }
+    requires parts { AreOf usual N.registry N.board N.history parts }
     requires shelf { (S.told shelf).place ≡ N.place }
-    requires board { IsNewBoard N.board usual parts.publisher parts.pinners.items }
-    requires seats { vec_len parts.pinners ≡ usual.readers }
-    requires history { IsNewHistory N.history parts.history }
-    ensures done { OnOk result.0 (IsCompacted (S.refuses N.place) S.honest options.workers
+    ensures done { OnOk result.0 (IsCompacted (S.refuses N.place) S.honest options.now
         (S.told shelf) (S.told result.1) (O.contents out.old) (O.contents out.new)) }
     ensures fault { IfErr result.0 (λ e.
         IsCompactFault (Stored S.Receipt (S.is_of N.place) S.Receipt.number S.Receipt.image)
-        (S.refuses N.place) S.honest options.workers e (S.told shelf) (S.told result.1)) }
+        (S.refuses N.place) S.honest options.now e (S.told shelf) (S.told result.1)) }
     ensures left { IfErr result.0 (λ e. e ≢ WriterVariant WriteFault
         → Keeps (O.contents out.old) (O.contents out.new)) }
-    ensures quiet { IsFalse options.progress → Keeps (E.contents err.old) (E.contents err.new) }
+    ensures quiet { IsFalse options.now.progress → Keeps (E.contents err.old) (E.contents err.new) }
 {
     let mut shelf: NamedShelf<N, S> = NamedShelf::of(shelf);
     let done = compact_named(rt, alloc, &mut shelf, options, parts, out, err);
@@ -244,20 +316,20 @@ pub(crate) fn compact_to<S: Shelf, R: Threads + Wait + Sync, O: Write, E: Write 
     rt: &R,
     alloc: Global,
     shelf: S,
-    options: CompactOptions,
+    options: &CompactOptions,
     out: &mut O,
     err: &mut E,
 ) -> (Result<(), CompactFault>, S)
     ensures done { OnOk result.0 (IsCompacted (S.refuses (S.told shelf).place) S.honest
-        options.workers (S.told shelf) (S.told result.1) (O.contents out.old)
+        options.now (S.told shelf) (S.told result.1) (O.contents out.old)
         (O.contents out.new)) }
     ensures fault { IfErr result.0 (λ e. IsCompactFault (Stored S.Receipt
         (S.is_of (S.told shelf).place) S.Receipt.number S.Receipt.image)
-        (S.refuses (S.told shelf).place) S.honest options.workers e
+        (S.refuses (S.told shelf).place) S.honest options.now e
         (S.told shelf) (S.told result.1)) }
     ensures left { IfErr result.0 (λ e. e ≢ WriterVariant WriteFault
         → Keeps (O.contents out.old) (O.contents out.new)) }
-    ensures quiet { IsFalse options.progress → Keeps (E.contents err.old) (E.contents err.new) }
+    ensures quiet { IsFalse options.now.progress → Keeps (E.contents err.old) (E.contents err.new) }
 {
     match NewParts::make(alloc) {
         Ok(parts) => compact_as::<Brand, S, R, O, E>(rt, alloc, shelf, options, parts, out, err),

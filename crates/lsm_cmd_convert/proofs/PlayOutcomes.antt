@@ -8,6 +8,7 @@ use Rattle.lsm_codec.proofs.CallerLemmas.{contains_says}
 use Rattle.lsm_journal.specs.Sending.{IsCreateRefusal}
 use Rattle.lsm_merge.specs.Work.{Done, Work}
 use Rattle.lsm_pins.specs.Known.{Known}
+use Rattle.lsm_shelf.specs.Asked.{Asked}
 use Rattle.lsm_shelf.specs.Told.{Told, fresh}
 use Rattle.lsm_shelf.specs.declared.shelf_fault.ShelfFault.{ShelfFault}
 use Rattle.lsm_state.specs.Held.{Held}
@@ -17,10 +18,11 @@ use Rattle.lsm_script.specs.Scripts.{AreReplies, ends_list}
 use Rattle.lsm_script.specs.Steps.{IsStep, stage_of}
 use Rattle.lsm_script.specs.declared.command.Command.{Command}
 use Rattle.lsm_script.specs.declared.reply.Reply.{Reply}
-use Rattle.lsm_cmd_write.specs.Starting.{IsNew, usual}
-use Rattle.lsm_cmd_write.specs.WriterFault.{of_shelf}
-use Rattle.lsm_cmd_write.specs.declared.faults.writer_fault.WriterFault.{WriterFault}
-use Rattle.lsm_cmd_write.specs.declared.faults.writer_fault.WriterFault.TheVariants.{OutOfMemory, Write}
+use Rattle.lsm_opening.specs.Parts.{usual}
+use Rattle.lsm_opening.specs.Starting.{IsBeginRefusal, IsNew}
+use Rattle.lsm_opening.specs.WriterFault.{of_shelf}
+use Rattle.lsm_opening.specs.declared.faults.writer_fault.WriterFault.{WriterFault}
+use Rattle.lsm_opening.specs.declared.faults.writer_fault.WriterFault.TheVariants.{OutOfMemory, Write}
 use Rattle.lsm_script.specs.CommandLine.{IsScript}
 use Rattle.lsm_cmd_convert.specs.Played.{ArePlayed, ArePlayedInMemory, IsCutShort, IsScriptDone, IsEnded, IsScriptFault, IsInputFault, IsPlayFault, IsScriptRefused, IsScriptTextFault, IsUncreatedInMemory, nothing}
 use Rattle.lsm_script.specs.ReplyText.{replies_text}
@@ -43,6 +45,12 @@ pub none_left : (rs : List Reply) (i : ℕ) → length rs ≤ i → IsCutShort (
 none_left rs i h cut = subst (λ (ys : List Reply). Has ys cut.0) (drop_all i rs h) cut.1
 
 -- ---- a new database
+
+pub not_begun : (Refused : Asked → ShelfFault → Type 0) (e : WriterFault) (was is : Told) → IsBeginRefusal 1 Refused e was is
+    → (e ≡ OutOfMemory) ⊎ ((fault : ShelfFault) × (e ≡ of_shelf fault) × IsCreateRefusal fault was is)
+not_begun Refused e was is (inl memory) = inl memory.0
+not_begun Refused e was is (inr (inl (spent, last, same))) = absurd (omega (arith, last))
+not_begun Refused e was is (inr (inr (fault, same, refused, asked, counted))) = inr (fault, same, refused)
 
 created_history : (publisher : Known) (pinners : List Known) → history_of (created_state usual publisher pinners) ≡ nothing
 created_history publisher pinners = refl

@@ -3,10 +3,9 @@
 //! database in memory.
 //!
 //! Stands on `lsm_text` for lists and texts, on `lsm_directory` for inputs and refusals, on
-//! `lsm_script` for lists of commands, and on `lsm_cmd_write` for what a new database is made with
-//! and for faults. Its contracts: `convert` and `script` say what is written for an input, and
-//! what a refusal says of it; `run_convert` and `run_script` the same of the input that words
-//! name.
+//! `lsm_script` for lists of commands, and on `lsm_opening` for a new database and for faults. Its
+//! contracts: `convert` and `script` say what is written for an input, and what a refusal says of
+//! it; `run_convert` and `run_script` the same of the input that words name.
 #![tactic(auto)]
 
 // mktable, dump and manifest: an input is printed in another form.

@@ -4,21 +4,20 @@ pub(crate) mod program;
 pub(crate) mod script_input;
 pub(crate) mod watched;
 
-ghost use Rattle.std.specs.Prelude.{◌≡◌, ◌⊎◌, IfErr, IfOk, vec_len};
+ghost use Rattle.std.specs.Prelude.{◌≡◌, ◌⊎◌, IfErr, IfOk};
 ghost use Rattle.lsm_journal.specs.Sending.{IsCreateRefusal};
 ghost use Rattle.lsm_shelf.specs.Told.{Told};
 ghost use Rattle.lsm_shelf.specs.declared.shelf_fault.ShelfFault.{ShelfFault};
-ghost use Rattle.lsm_state.specs.Making.{IsNewBoard, IsNewHistory};
 ghost use Rattle.lsm_cmd_convert.specs.Played.{ArePlayed, ArePlayedInMemory, IsUncreatedInMemory};
-ghost use Rattle.lsm_cmd_write.specs.Starting.{usual};
-ghost use Rattle.lsm_cmd_write.specs.WriterFault.{of_shelf};
-ghost use Rattle.lsm_cmd_write.specs.declared.faults.writer_fault.WriterFault.TheVariants.{OutOfMemory};
+ghost use Rattle.lsm_opening.specs.Parts.{AreOf, usual};
+ghost use Rattle.lsm_opening.specs.WriterFault.{of_shelf};
+ghost use Rattle.lsm_opening.specs.declared.faults.writer_fault.WriterFault.TheVariants.{OutOfMemory};
 
-use lsm_cmd_write::{NewParts, Parts, WriterFault};
 use lsm_codec::List;
+use lsm_opening::{NewParts, WriterFault, begin};
 use lsm_script::{Command, Reply, run};
 use lsm_slots::Boarded;
-use lsm_state::{Options, State};
+use lsm_state::State;
 use lsm_storage::MemoryShelf;
 use lsm_table::{NamedShelf, Shelf};
 use std::alloc::Global;
@@ -33,25 +32,14 @@ fn play_named<N: Boarded, S: Shelf, R: Wait>(
     parts: NewParts<S>,
     commands: &[Command],
 ) -> Result<List<Reply>, WriterFault>
-    requires records { parts.records ≡ N.registry }
-    requires board { IsNewBoard N.board usual parts.publisher parts.pinners.items }
-    requires seats { vec_len parts.pinners ≡ usual.readers }
-    requires history { IsNewHistory N.history parts.history }
+    requires parts { AreOf usual N.registry N.board N.history parts }
     ensures played { IfOk result (λ replies. ArePlayed S.honest commands.now replies shelf.old) }
     ensures fault { IfErr result (λ e. (e ≡ OutOfMemory) ⊎ ((fault : ShelfFault)
         × (e ≡ of_shelf fault) × IsCreateRefusal fault shelf.old shelf.new)) }
 {
-    let Parts {
-        registry,
-        publisher,
-        pinners,
-        history,
-    } = parts.named(alloc)?;
-    let board = (publisher, pinners);
-    let options = Options::usual();
-    let state = match State::<N, S>::create(rt, alloc, shelf, options, registry, board, history) {
+    let state: State<N, S> = match begin(rt, alloc, shelf, 1, parts) {
         Ok(state) => state,
-        Err(fault) => return Err(WriterFault::of_shelf(fault)),
+        Err(fault) => return Err(fault),
     };
     match run(rt, alloc, state, shelf, commands) {
         Ok((_state, replies)) => Ok(replies),
@@ -67,11 +55,8 @@ fn play_as<N: Boarded, S: Shelf, R: Wait>(
     parts: NewParts<S>,
     commands: &[Command],
 ) -> Result<List<Reply>, WriterFault>
-    requires records { parts.records ≡ N.registry }
+    requires parts { AreOf usual N.registry N.board N.history parts }
     requires shelf { (S.told shelf).place ≡ N.place }
-    requires board { IsNewBoard N.board usual parts.publisher parts.pinners.items }
-    requires seats { vec_len parts.pinners ≡ usual.readers }
-    requires history { IsNewHistory N.history parts.history }
     ensures played { IfOk result (λ replies.
         ArePlayed S.honest commands.now replies (S.told shelf)) }
     ensures fault { IfErr result (λ e. (e ≡ OutOfMemory) ⊎ ((fault : ShelfFault) × (is : Told)

@@ -15,9 +15,9 @@ use Rattle.lsm_bulk_load.specs.Ending.{IsIdle}
 use Rattle.lsm_bulk_load.specs.Loading.{IsLoaded}
 use Rattle.lsm_bulk_load.specs.Marks.{Marked, marked_in}
 use Rattle.lsm_bulk_load.specs.declared.progress.Progress.{Progress}
-use Rattle.lsm_cmd_compact.specs.Compacting.{IsSwept, Refuses}
-use Rattle.lsm_cmd_write.specs.Starting.{IsStarted}
-use Rattle.lsm_cmd_write.specs.declared.ingesting.start.Start.{Start}
+use Rattle.lsm_opening.specs.Compactions.{IsSwept, Refuses}
+use Rattle.lsm_opening.specs.Starting.{IsStarted}
+use Rattle.lsm_opening.specs.declared.prepared.Start.{Start}
 use Rattle.lsm_cmd_load.specs.Loaded.{IsToCome, IsUnswept, LoadsAll, LoadsWhole}
 
 -- the lines that are still to come, behind those that were passed over

@@ -10,8 +10,8 @@ use Rattle.lsm_storage.specs.declared.file.file_shelf.FileShelf.{FileShelf}
 use Rattle.lsm_requests.specs.declared.load_options.LoadOptions.{LoadOptions}
 use Rattle.lsm_directory.specs.Folders.{IsShelfAt, stored_at, told_by}
 use Rattle.lsm_directory.specs.declared.folder.folder_file.FolderFile.{FolderFile}
-use Rattle.lsm_cmd_write.specs.Preparing.{IsPrepared}
-use Rattle.lsm_cmd_write.specs.declared.ingesting.start.Start.{Start}
+use Rattle.lsm_opening.specs.Preparing.{IsPrepared}
+use Rattle.lsm_opening.specs.declared.prepared.Start.{Start}
 use Rattle.lsm_cmd_load.specs.Loaded.{IsInputFault, IsInputLoaded}
 use Rattle.lsm_cmd_load.specs.LoadedAt.{FailsToLoad, LoadsAt}
 use Rattle.lsm_cmd_load.specs.declared.stopped.Stopped.{Stopped}

@@ -13,11 +13,11 @@ use Rattle.lsm_requests.specs.declared.load_options.LoadOptions.{LoadOptions}
 use Rattle.lsm_directory.specs.declared.folder.folder_file.FolderFile.{FolderFile}
 use Rattle.lsm_lines.specs.Gathering.{Pending}
 use Rattle.lsm_lines.specs.Passing.{PassesLines}
-use Rattle.lsm_cmd_compact.specs.Compacting.{IsSwept, Refuses}
-use Rattle.lsm_cmd_write.specs.Starting.{IsStartRefusal, IsStarted}
-use Rattle.lsm_cmd_write.specs.declared.faults.writer_fault.WriterFault.TheVariants.{OutOfMemory}
-use Rattle.lsm_cmd_write.specs.declared.faults.writer_fault.WriterFault.TheVariants.{Read}
-use Rattle.lsm_cmd_write.specs.declared.ingesting.start.Start.{Start}
+use Rattle.lsm_opening.specs.Compactions.{IsSwept, Refuses}
+use Rattle.lsm_opening.specs.Starting.{IsStartRefusal, IsStarted}
+use Rattle.lsm_opening.specs.declared.faults.writer_fault.WriterFault.TheVariants.{OutOfMemory}
+use Rattle.lsm_opening.specs.declared.faults.writer_fault.WriterFault.TheVariants.{Read}
+use Rattle.lsm_opening.specs.declared.prepared.Start.{Start}
 use Rattle.lsm_bulk_load.specs.Ending.{IsIdle}
 use Rattle.lsm_bulk_load.specs.Loading.{IsLoaded, IsUnloaded}
 use Rattle.lsm_bulk_load.specs.Marks.{marked_in}
@@ -94,7 +94,7 @@ IsFirstOut from p line = from + p.lines < 2 ^ 128 → line ≡ from + p.lines
 abbrev pub IsLoadFault : (ℕ → List ℕ → Type 0) → (Asked → ShelfFault → Type 0) → Type 0 → Start
     → List FolderFile → ℕ → Pending → Stopped → Told → Told → Type 0
 IsLoadFault Stored Refused Honest start logs from pending (Before e) was is =
-    ((e ≡ OutOfMemory) × (is ≡ was)) ⊎ IsStartRefusal Stored Refused Honest start logs e was is
+    IsStartRefusal Stored Refused Honest start logs e was is
 IsLoadFault Stored Refused Honest start logs from pending (Lines fault line) was is =
     (p : Progress) × IsFirstOut from p line
     × StopsLoading Refused Honest start logs pending p fault was is

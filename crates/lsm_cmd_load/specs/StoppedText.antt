@@ -4,10 +4,10 @@ use Rattle.std.specs.Prelude.{ℕ, ◌-◌, ◌==◌, cond, List, [], ◌∷◌,
 use Rattle.std.specs.Prelude.{Some}
 use Rattle.lsm_lines.specs.declared.write_line_fault.WriteLineFault.{WriteLineFault}
 use Rattle.lsm_lines.specs.declared.write_line_fault.WriteLineFault.TheVariants as lines
-use Rattle.lsm_cmd_write.specs.WriterFault as writer
-use Rattle.lsm_cmd_compact.specs.CompactFault as compact
-use Rattle.lsm_cmd_write.specs.declared.faults.writer_fault.WriterFault.TheVariants as writer_faults
-use Rattle.lsm_cmd_compact.specs.declared.compact_fault.CompactFault.TheVariants as compact_faults
+use Rattle.lsm_opening.specs.WriterFault as writer
+use Rattle.lsm_opening.specs.CompactFault as compact
+use Rattle.lsm_opening.specs.declared.faults.writer_fault.WriterFault.TheVariants as writer_faults
+use Rattle.lsm_opening.specs.declared.faults.compact_fault.CompactFault.TheVariants as compact_faults
 use Rattle.lsm_bulk_load.specs.declared.load_fault.LoadFault.{LoadFault}
 use Rattle.lsm_bulk_load.specs.declared.load_fault.LoadFault.TheVariants as loads
 use Rattle.lsm_cmd_load.specs.declared.stopped.Stopped.{Stopped}

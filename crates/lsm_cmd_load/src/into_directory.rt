@@ -1,20 +1,19 @@
 //! Lines come into the database on a shelf.
 
-ghost use Rattle.std.specs.Prelude.{◌≡◌, ◌≢◌, ◌⊎◌, ◌+◌, ◌<◌, ◌^◌, [], IfErr, IfOk, OnOk, vec_len};
+ghost use Rattle.std.specs.Prelude.{◌≡◌, ◌≢◌, ◌⊎◌, ◌+◌, ◌<◌, ◌^◌, [], IfErr, IfOk, OnOk};
 ghost use Rattle.std.specs.Io.KnownBytes.{Appends, Keeps};
 ghost use Rattle.lsm_shelf.specs.Stored.{Stored};
-ghost use Rattle.lsm_state.specs.Making.{IsNewBoard, IsNewHistory};
-ghost use Rattle.lsm_cmd_write.specs.Starting.{usual};
+ghost use Rattle.lsm_opening.specs.Parts.{AreOf, usual};
 ghost use Rattle.lsm_cmd_load.specs.Loaded.{IsInputFault, IsInputLoaded, IsLoadDone, IsLoadFault};
 ghost use Rattle.lsm_cmd_load.specs.Loaded.{IsToCome, loaded_text};
-ghost use Rattle.lsm_cmd_write.specs.declared.faults.writer_fault.WriterFault.TheVariants.{OutOfMemory, Read};
+ghost use Rattle.lsm_opening.specs.declared.faults.writer_fault.WriterFault.TheVariants.{OutOfMemory, Read};
 ghost use Rattle.lsm_cmd_load.specs.declared.stopped.Stopped.TheVariants.{Write as WriteStopped};
 
 use crate::stopped::Stopped;
 use crate::sweeping::sweep;
 use lsm_bulk_load::{Loaded, Progress, Teller, load_beside};
-use lsm_cmd_write::{NewParts, Prepared, WriterFault, start};
 use lsm_lines::BatchReader;
+use lsm_opening::{NewParts, Prepared, WriterFault, start};
 use lsm_requests::LoadOptions;
 use lsm_slots::Boarded;
 use lsm_state::State;
@@ -65,10 +64,7 @@ where
     I: Read + Drop,
     T: Teller,
     O: Write,
-    requires records { parts.records ≡ N.registry }
-    requires board { IsNewBoard N.board usual parts.publisher parts.pinners.items }
-    requires seats { vec_len parts.pinners ≡ usual.readers }
-    requires history { IsNewHistory N.history parts.history }
+    requires parts { AreOf usual N.registry N.board N.history parts }
     requires held { lines.held ≡ [] }
     ensures done { OnOk result (IsLoadDone S.honest prepared.now.start prepared.now.logs.items
         lines shelf.old shelf.new (O.contents out.old) (O.contents out.new)) }
@@ -78,7 +74,6 @@ where
     ensures left { IfErr result (λ e. e ≢ WriteStopped
         → Keeps (O.contents out.old) (O.contents out.new)) }
 {
-    let parts = parts.named(alloc)?;
     let state: State<N, S> = start(rt, alloc, shelf, prepared, parts)?;
     let Loaded {
         done,
@@ -130,11 +125,8 @@ where
     I: Read + Drop,
     T: Teller,
     O: Write,
-    requires records { parts.records ≡ N.registry }
+    requires parts { AreOf usual N.registry N.board N.history parts }
     requires shelf { (S.told shelf).place ≡ N.place }
-    requires board { IsNewBoard N.board usual parts.publisher parts.pinners.items }
-    requires seats { vec_len parts.pinners ≡ usual.readers }
-    requires history { IsNewHistory N.history parts.history }
     requires held { lines.held ≡ [] }
     ensures done { OnOk result.0 (IsLoadDone S.honest prepared.now.start prepared.now.logs.items
         lines (S.told shelf) (S.told result.1) (O.contents out.old) (O.contents out.new)) }

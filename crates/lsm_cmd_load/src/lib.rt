@@ -1,8 +1,8 @@
 //! The command `load`: lines of writes come into the database of a LevelDB folder, as batches,
 //! while workers compact beside, and what nothing names any more is removed behind them.
 //!
-//! Stands on `lsm_bulk_load` for lines that come into a store, on `lsm_cmd_write` for the opening, and on
-//! `lsm_text` for words. Its contract: `run_load` does what the words of a command line ask, and
+//! Stands on `lsm_bulk_load` for lines that come into a store, on `lsm_opening` for the opening, and
+//! on `lsm_text` for words. Its contract: `run_load` does what the words of a command line ask, and
 //! answers the exit status, by one clause for each.
 #![tactic(auto)]
 

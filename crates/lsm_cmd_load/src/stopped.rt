@@ -5,15 +5,14 @@ ghost use Rattle.std.specs.Io.KnownBytes.{Appends};
 ghost use Rattle.lsm_cmd_load.specs.StoppedText.{came_text, last_in, line_text, load_text};
 ghost use Rattle.lsm_cmd_load.specs.StoppedText.{stopped_text};
 ghost use Rattle.lsm_cmd_load.specs.declared.stopped.Stopped.TheVariants.{Before, Sweep};
-ghost use Rattle.lsm_cmd_write.specs.declared.faults.writer_fault.WriterFault.TheVariants.{Directory};
-ghost use Rattle.lsm_cmd_write.specs.declared.faults.writer_fault.WriterFault.TheVariants.{OutOfMemory};
+ghost use Rattle.lsm_opening.specs.declared.faults.writer_fault.WriterFault.TheVariants.{Directory};
+ghost use Rattle.lsm_opening.specs.declared.faults.writer_fault.WriterFault.TheVariants.{OutOfMemory};
 
 use lsm_batch::Write as KeyWrite;
 use lsm_bulk_load::LoadFault;
-use lsm_cmd_compact::CompactFault;
-use lsm_cmd_write::WriterFault;
 use lsm_directory::{DirectoryFault, Exit};
 use lsm_lines::WriteLineFault;
+use lsm_opening::{CompactFault, WriterFault};
 use lsm_state::StateFault;
 use lsm_store::WorkerFault;
 use std::alloc::AllocError;

@@ -1,7 +1,7 @@
 //! What nothing names any more is removed.
 
 ghost use Rattle.std.specs.Prelude.{◌≡◌, IfErr, OnOk};
-ghost use Rattle.lsm_cmd_compact.specs.Compacting.{IsSwept, Refuses};
+ghost use Rattle.lsm_opening.specs.Compactions.{IsSwept, Refuses};
 ghost use Rattle.lsm_bulk_load.specs.Ending.{IsIdle};
 ghost use Rattle.lsm_bulk_load.specs.Marks.{marked_in};
 
@@ -12,7 +12,6 @@ use std::alloc::Global;
 use std::sync::Wait;
 
 /// Removes the tables that the state does not keep.
-#[tactic(auto, using(crate::proofs::SweepLaws::looked_same))]
 pub(crate) fn sweep<N: Boarded, S: Shelf, R: Wait>(
     rt: &R,
     alloc: Global,
@@ -25,11 +24,8 @@ pub(crate) fn sweep<N: Boarded, S: Shelf, R: Wait>(
     ensures same { marked_in state.new ≡ marked_in state.old }
     ensures idle { IsIdle state.old → IsIdle state.new }
 {
-    let collected = state.collect(rt, alloc, shelf);
-    // The law of the state is told by this call.
-    let _options = state.options();
-    match collected {
+    match lsm_opening::sweep(rt, alloc, state, shelf) {
         Ok(_) => Ok(()),
-        Err((fault, _)) => Err(fault),
+        Err(fault) => Err(fault),
     }
 }

@@ -15,9 +15,9 @@ use Rattle.lsm_script.specs.Steps.{OnDesk, clear}
 use Rattle.lsm_store.specs.Workers.{IsWorkersEnd}
 use Rattle.lsm_store.specs.declared.worker_end.WorkerEnd.{WorkerEnd}
 use Rattle.lsm_bulk_load.specs.Ending.{IsFaultless}
-use Rattle.lsm_cmd_write.specs.Starting.{IsStarted}
-use Rattle.lsm_cmd_compact.specs.declared.compact_fault.CompactFault.{CompactFault}
-use Rattle.lsm_cmd_write.specs.declared.ingesting.start.Start.{Start}
+use Rattle.lsm_opening.specs.Starting.{IsStarted}
+use Rattle.lsm_opening.specs.declared.faults.compact_fault.CompactFault.{CompactFault}
+use Rattle.lsm_opening.specs.declared.prepared.Start.{Start}
 use Rattle.lsm_cmd_shell.specs.Beside.{IsLent, IsTalkedBeside, waiting}
 use Rattle.lsm_cmd_shell.specs.Conversing.{ConversesBeside, IsBesideFault, IsConversedBeside, IsOfEnds}
 use Rattle.lsm_cmd_shell.specs.declared.talk_fault.TalkFault.{TalkFault}

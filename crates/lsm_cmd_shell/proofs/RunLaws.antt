@@ -9,9 +9,9 @@ use Rattle.lsm_storage.specs.declared.file.file_shelf.FileShelf.{FileShelf}
 use Rattle.lsm_requests.specs.declared.ingest_options.IngestOptions.{IngestOptions}
 use Rattle.lsm_directory.specs.Folders.{IsShelfAt, stored_at, told_by}
 use Rattle.lsm_directory.specs.declared.folder.folder_file.FolderFile.{FolderFile}
-use Rattle.lsm_cmd_write.specs.Preparing.{IsPrepared}
-use Rattle.lsm_cmd_compact.specs.declared.compact_fault.CompactFault.{CompactFault}
-use Rattle.lsm_cmd_write.specs.declared.ingesting.start.Start.{Start}
+use Rattle.lsm_opening.specs.Preparing.{IsPrepared}
+use Rattle.lsm_opening.specs.declared.faults.compact_fault.CompactFault.{CompactFault}
+use Rattle.lsm_opening.specs.declared.prepared.Start.{Start}
 use Rattle.lsm_cmd_shell.specs.Conversing.{IsConversed, IsUnconversed}
 use Rattle.lsm_cmd_shell.specs.Talked.{FailsToTalk, TalksAt}
 

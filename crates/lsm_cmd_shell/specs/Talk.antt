@@ -22,7 +22,7 @@ use Rattle.lsm_script.specs.declared.command_fault.CommandFault.{CommandFault}
 use Rattle.lsm_script.specs.declared.command_fault.CommandFault.TheVariants.{State}
 use Rattle.lsm_script.specs.declared.reply.Reply.{Reply}
 use Rattle.lsm_script.specs.declared.reply.Reply.TheVariants.{Refused}
-use Rattle.lsm_cmd_compact.specs.Compacting.{installed_text}
+use Rattle.lsm_opening.specs.Compactions.{installed_text}
 use Rattle.lsm_cmd_shell.specs.Asks.{IsAsk}
 use Rattle.lsm_cmd_shell.specs.Batching.{IsAbort, IsBegin, IsCommitReply, IsPutReply, Says}
 use Rattle.lsm_cmd_shell.specs.Batching.{Standing, no_memory, standing}

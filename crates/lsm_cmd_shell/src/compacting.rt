@@ -3,7 +3,7 @@
 ghost use Rattle.std.specs.Prelude.{◌≡◌, ◌++◌, List, ℕ, OnOk};
 ghost use Rattle.std.specs.Io.KnownBytes.{Appends};
 ghost use Rattle.lsm_script.specs.Steps.{stage};
-ghost use Rattle.lsm_cmd_compact.specs.Compacting.{installed_text};
+ghost use Rattle.lsm_opening.specs.Compactions.{installed_text};
 ghost use Rattle.lsm_cmd_shell.specs.Batching.{Says};
 ghost use Rattle.lsm_cmd_shell.specs.Talk.{IsCompactReply};
 

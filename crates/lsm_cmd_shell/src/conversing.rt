@@ -1,15 +1,14 @@
 //! A conversation with the database on a shelf.
 
-ghost use Rattle.std.specs.Prelude.{◌≡◌, Ok, IfErr, OnOk, vec_len};
+ghost use Rattle.std.specs.Prelude.{◌≡◌, Ok, IfErr, OnOk};
 ghost use Rattle.lsm_shelf.specs.Stored.{Stored};
-ghost use Rattle.lsm_state.specs.Making.{IsNewBoard, IsNewHistory};
 ghost use Rattle.lsm_cmd_shell.specs.Conversing.{Converses, IsConverseFault};
-ghost use Rattle.lsm_cmd_write.specs.Starting.{usual};
+ghost use Rattle.lsm_opening.specs.Parts.{AreOf, usual};
 
 use crate::talk_fault::TalkFault;
 use crate::talking::talk;
-use lsm_cmd_write::{NewParts, Prepared, WriterFault, start};
 use lsm_lines::LineReader;
+use lsm_opening::{NewParts, Prepared, WriterFault, start};
 use lsm_script::Desk;
 use lsm_slots::Boarded;
 use lsm_state::State;
@@ -31,10 +30,7 @@ fn converse_named<N: Boarded, S: Shelf, R: Wait, I: Read + Drop, O: Write>(
     lines: &mut LineReader<I>,
     out: &mut O,
 ) -> Result<(), WriterFault>
-    requires records { parts.records ≡ N.registry }
-    requires board { IsNewBoard N.board usual parts.publisher parts.pinners.items }
-    requires seats { vec_len parts.pinners ≡ usual.readers }
-    requires history { IsNewHistory N.history parts.history }
+    requires parts { AreOf usual N.registry N.board N.history parts }
     ensures done { OnOk result (Converses S.honest prepared.now.start prepared.now.logs.items
         form lines.old.left (Ok tt) shelf.old shelf.new (O.contents out.old) (O.contents out.new)) }
     ensures fault { IfErr result (λ e. IsConverseFault (Stored S.Receipt (S.is_of N.place)
@@ -42,10 +38,6 @@ fn converse_named<N: Boarded, S: Shelf, R: Wait, I: Read + Drop, O: Write>(
         prepared.now.logs.items form lines.old.left e shelf.old shelf.new
         (O.contents out.old) (O.contents out.new)) }
 {
-    let parts = match parts.named(alloc) {
-        Ok(parts) => parts,
-        Err(_) => return Err(WriterFault::OutOfMemory),
-    };
     let mut state: State<N, S> = match start(rt, alloc, shelf, prepared, parts) {
         Ok(state) => state,
         Err(fault) => return Err(fault),
@@ -72,11 +64,8 @@ fn converse_as<N: Boarded, S: Shelf, R: Wait, I: Read + Drop, O: Write>(
     lines: &mut LineReader<I>,
     out: &mut O,
 ) -> (Result<(), WriterFault>, S)
-    requires records { parts.records ≡ N.registry }
+    requires parts { AreOf usual N.registry N.board N.history parts }
     requires shelf { (S.told shelf).place ≡ N.place }
-    requires board { IsNewBoard N.board usual parts.publisher parts.pinners.items }
-    requires seats { vec_len parts.pinners ≡ usual.readers }
-    requires history { IsNewHistory N.history parts.history }
     ensures done { OnOk result.0 (Converses S.honest prepared.now.start prepared.now.logs.items
         form lines.old.left (Ok tt) (S.told shelf) (S.told result.1)
         (O.contents out.old) (O.contents out.new)) }

@@ -3,20 +3,17 @@
 ghost use Rattle.std.specs.Prelude.{◌≡◌, All, IfErr, IfNone, IfSome, None, Ok, OnOk};
 ghost use Rattle.std.specs.Prelude.{vec_len};
 ghost use Rattle.lsm_shelf.specs.Stored.{Stored};
-ghost use Rattle.lsm_state.specs.Making.{IsNewBoard, IsNewHistory};
 ghost use Rattle.lsm_store.specs.Workers.{IsWorkersEnd};
-ghost use Rattle.lsm_cmd_write.specs.Starting.{usual};
+ghost use Rattle.lsm_opening.specs.Parts.{AreOf, usual};
 ghost use Rattle.lsm_cmd_shell.specs.Beside.{IsTalkedBeside, waiting};
 ghost use Rattle.lsm_bulk_load.specs.Ending.{IsFaultless, IsFirstFault};
 ghost use Rattle.lsm_cmd_shell.specs.Conversing.{IsBesideFault, IsConversedBeside, IsOfEnds};
 
 use crate::beside::talk_beside;
-use crate::crew::Crew;
 use crate::talk_fault::TalkFault;
-use lsm_cmd_compact::CompactFault;
-use lsm_cmd_write::{NewParts, Prepared, WriterFault, start};
 use lsm_history::Memory;
 use lsm_lines::LineReader;
+use lsm_opening::{CompactFault, Crew, NewParts, Prepared, WriterFault, start};
 use lsm_script::Desk;
 use lsm_slots::Boarded;
 use lsm_state::State;
@@ -151,10 +148,7 @@ where
     R: Threads + Wait + Sync,
     I: Read + Drop,
     O: Write,
-    requires records { parts.records ≡ N.registry }
-    requires board { IsNewBoard N.board usual parts.publisher parts.pinners.items }
-    requires seats { vec_len parts.pinners ≡ usual.readers }
-    requires history { IsNewHistory N.history parts.history }
+    requires parts { AreOf usual N.registry N.board N.history parts }
     ensures done { OnOk result (IsConversedBeside S.honest prepared.now.start
         prepared.now.logs.items form workers lines.left shelf.old shelf.new
         (O.contents out.old)) }
@@ -163,10 +157,6 @@ where
         prepared.now.logs.items form workers lines.left e shelf.old shelf.new
         (O.contents out.old) (O.contents out.new)) }
 {
-    let parts = match parts.named(alloc) {
-        Ok(parts) => parts,
-        Err(_) => return Err(CompactFault::Writer(WriterFault::OutOfMemory)),
-    };
     let mut state: State<N, S> = match start(rt, alloc, shelf, prepared, parts) {
         Ok(state) => state,
         Err(fault) => return Err(CompactFault::Writer(fault)),
@@ -182,7 +172,7 @@ where
         own,
     } = match Crew::new(alloc, state, shelf, workers) {
         Ok(crew) => crew,
-        Err(fault) => return Err(CompactFault::Writer(WriterFault::of_shelf(fault))),
+        Err((_state, fault)) => return Err(CompactFault::of_shelf(fault)),
     };
     let Some((talked, ends)) = talk_in_store(
         rt, alloc, &store, shelves, memory, desk, own, form, lines, out,
@@ -210,11 +200,8 @@ where
     R: Threads + Wait + Sync,
     I: Read + Drop,
     O: Write,
-    requires records { parts.records ≡ N.registry }
+    requires parts { AreOf usual N.registry N.board N.history parts }
     requires shelf { (S.told shelf).place ≡ N.place }
-    requires board { IsNewBoard N.board usual parts.publisher parts.pinners.items }
-    requires seats { vec_len parts.pinners ≡ usual.readers }
-    requires history { IsNewHistory N.history parts.history }
     ensures done { OnOk result.0 (IsConversedBeside S.honest prepared.now.start
         prepared.now.logs.items form workers lines.left (S.told shelf) (S.told result.1)
         (O.contents out.old)) }

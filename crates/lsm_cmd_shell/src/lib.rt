@@ -1,9 +1,10 @@
 //! A conversation with a database: commands on an input, one a line, and a reply to each.
 //!
 //! Stands on `lsm_lines` for lines and for the writes of a batch, on `lsm_script` for commands and
-//! their replies, on `lsm_query` for scans, and on `lsm_text` for words. Data flows from a line to
-//! what it asks for, and from there to its reply. Its contract: what is written is the replies to
-//! just the lines that were read, in their order, each of them a step of the state's.
+//! their replies, on `lsm_query` for scans, on `lsm_opening` for the database of a folder, and on
+//! `lsm_text` for words. Data flows from a line to what it asks for, and from there to its reply.
+//! Its contract: what is written is the replies to just the lines that were read, in their order,
+//! each of them a step of the state's.
 #![tactic(auto)]
 
 // What a line asks for.
@@ -34,7 +35,6 @@ mod laws;
 // The conversation with the database of a folder.
 mod conversing;
 mod conversing_beside;
-mod crew;
 mod program;
 
 pub use ask::Ask;

@@ -5,15 +5,14 @@ ghost use Rattle.std.specs.Io.KnownBytes.{Keeps};
 ghost use Rattle.lsm_shelf.specs.Stored.{Stored};
 ghost use Rattle.lsm_cmd_shell.specs.Conversing.{IsConversed, IsUnconversed};
 ghost use Rattle.lsm_cmd_shell.specs.Talked.{FailsToTalk, TalksAt};
-ghost use Rattle.lsm_cmd_compact.specs.CompactFault.{fault_text, table_file_of};
+ghost use Rattle.lsm_opening.specs.CompactFault.{fault_text, table_file_of};
 
 use crate::conversing::converse;
 use crate::conversing_beside::converse_beside;
 use lsm_batch::Write as KeyWrite;
-use lsm_cmd_compact::CompactFault;
-use lsm_cmd_write::{Prepared, WriterFault, prepare};
 use lsm_directory::{Exit, Known, Paths, open_at, refuse, status_of};
 use lsm_folder::{FolderCalls, Reasons};
+use lsm_opening::{CompactFault, Prepared, WriterFault, prepare};
 use lsm_requests::IngestOptions;
 use lsm_storage::FileShelf;
 use lsm_table::Shelf;

@@ -1,6 +1,3 @@
-mod NameKindLaws
-mod NameLaws
-mod Looked
 mod WritingOutcomes
 mod Numbers
 mod SpareFiles

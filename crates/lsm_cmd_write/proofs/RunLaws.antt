@@ -14,14 +14,14 @@ use Rattle.lsm_requests.specs.declared.ingest_options.IngestOptions.{IngestOptio
 use Rattle.lsm_cmd_write.specs.Cleaning.{HasNone, IsCleaned, IsKept, IsUncleaned, IsUnkept, Needs}
 use Rattle.lsm_directory.specs.Folders.{IsShelfAt, stored_at, told_by}
 use Rattle.lsm_cmd_write.specs.Ingesting.{IsBroughtIn, IsIngestFault}
-use Rattle.lsm_cmd_write.specs.Preparing.{IsPrepared}
+use Rattle.lsm_opening.specs.Preparing.{IsPrepared}
 use Rattle.lsm_cmd_write.specs.Ingested.{ComesInAt, FailsToBringIn}
 use Rattle.lsm_cmd_write.specs.Cleaned.{FailsToClean, IsCleanedAt}
 use Rattle.lsm_cmd_write.specs.declared.cleaning.kept.Kept.{Kept}
-use Rattle.lsm_cmd_write.specs.declared.faults.writer_fault.WriterFault.{WriterFault}
-use Rattle.lsm_cmd_write.specs.declared.faults.writer_fault.WriterFault.TheVariants.{Write as WriteFault}
+use Rattle.lsm_opening.specs.declared.faults.writer_fault.WriterFault.{WriterFault}
+use Rattle.lsm_opening.specs.declared.faults.writer_fault.WriterFault.TheVariants.{Write as WriteFault}
 use Rattle.lsm_directory.specs.declared.folder.folder_file.FolderFile.{FolderFile}
-use Rattle.lsm_cmd_write.specs.declared.ingesting.start.Start.{Start}
+use Rattle.lsm_opening.specs.declared.prepared.Start.{Start}
 
 module _ {C M : Type 0} (folders : Ghosts C M) where
   -- ---- what was done on it

@@ -8,7 +8,7 @@ use Rattle.lsm_directory.specs.FileNames.{IsFileName}
 use Rattle.lsm_directory.specs.declared.folder.file_kind.FileKind.{FileKind}
 use Rattle.lsm_directory.specs.declared.folder.file_kind.FileKind.TheVariants.{Table, Manifest, Temporary}
 use Rattle.lsm_cmd_write.specs.Cleaning.{IsSpare}
-use Rattle.lsm_cmd_write.proofs.NameKindLaws.{kind_is}
+use Rattle.lsm_opening.proofs.CallerLemmas.{kind_is}
 
 one_kind : (name : List ℕ) (a b : FileKind) → IsFileName name a → IsFileName name b → a ≡ b
 one_kind name a b h k = sym (kind_is name a h) ∙ kind_is name b k

@@ -2,8 +2,15 @@
 use Rattle.std.specs.Prelude.{ℕ, ⊤, List}
 use Rattle.lsm_text.specs.BatchText.{IsFirstBadLine}
 use Rattle.lsm_text.specs.declared.form.Form.{Form}
-use Rattle.lsm_cmd_write.specs.declared.faults.writer_fault.WriterFault.{WriterFault}
-use Rattle.lsm_cmd_write.specs.declared.faults.writer_fault.WriterFault.TheVariants.{OutOfMemory, Read, Write as WriteFault, BadLine, Directory, LostCurrent, UnflushedLog, State}
+use Rattle.lsm_opening.specs.declared.faults.writer_fault.WriterFault.{WriterFault}
+use Rattle.lsm_opening.specs.declared.faults.writer_fault.WriterFault.TheVariants.{OutOfMemory}
+use Rattle.lsm_opening.specs.declared.faults.writer_fault.WriterFault.TheVariants.{Read}
+use Rattle.lsm_opening.specs.declared.faults.writer_fault.WriterFault.TheVariants.{Write as WriteFault}
+use Rattle.lsm_opening.specs.declared.faults.writer_fault.WriterFault.TheVariants.{BadLine}
+use Rattle.lsm_opening.specs.declared.faults.writer_fault.WriterFault.TheVariants.{Directory}
+use Rattle.lsm_opening.specs.declared.faults.writer_fault.WriterFault.TheVariants.{LostCurrent}
+use Rattle.lsm_opening.specs.declared.faults.writer_fault.WriterFault.TheVariants.{UnflushedLog}
+use Rattle.lsm_opening.specs.declared.faults.writer_fault.WriterFault.TheVariants.{State}
 
 -- What a fault says of the text. A failed read, and want of memory, say nothing of it.
 abbrev pub IsTextFault : Form → List ℕ → WriterFault → Type 0

@@ -8,8 +8,9 @@ use Rattle.lsm_cmd_write.specs.Cleaning.{IsCleaned, IsUncleaned}
 use Rattle.lsm_directory.specs.Folders.{IsFolderAt}
 use Rattle.lsm_directory.specs.Holding.{IsFolderFault}
 use Rattle.lsm_directory.specs.declared.faults.directory_fault.DirectoryFault.{DirectoryFault}
-use Rattle.lsm_cmd_write.specs.declared.faults.writer_fault.WriterFault.{WriterFault}
-use Rattle.lsm_cmd_write.specs.declared.faults.writer_fault.WriterFault.TheVariants.{OutOfMemory as NoMemory, Directory}
+use Rattle.lsm_opening.specs.declared.faults.writer_fault.WriterFault.{WriterFault}
+use Rattle.lsm_opening.specs.declared.faults.writer_fault.WriterFault.TheVariants.{OutOfMemory as NoMemory}
+use Rattle.lsm_opening.specs.declared.faults.writer_fault.WriterFault.TheVariants.{Directory}
 
 module _ {C M : Type 0} (folders : Ghosts C M) where
   -- The folder at the path was cleaned, between the moment when it was opened and this one.

@@ -32,9 +32,11 @@ use Rattle.lsm_directory.specs.Looking.{LooksStopped}
 use Rattle.lsm_directory.specs.declared.faults.directory_fault.DirectoryFault.{DirectoryFault}
 use Rattle.lsm_directory.specs.declared.folder.file_kind.FileKind.TheVariants.{Table, Manifest}
 use Rattle.lsm_directory.specs.declared.folder.file_kind.FileKind.TheVariants.{Temporary}
-use Rattle.lsm_cmd_write.specs.WriterFault.{of_open, of_shelf}
-use Rattle.lsm_cmd_write.specs.declared.faults.writer_fault.WriterFault.{WriterFault}
-use Rattle.lsm_cmd_write.specs.declared.faults.writer_fault.WriterFault.TheVariants.{OutOfMemory, Write as WriteFault, Directory}
+use Rattle.lsm_opening.specs.WriterFault.{of_open, of_shelf}
+use Rattle.lsm_opening.specs.declared.faults.writer_fault.WriterFault.{WriterFault}
+use Rattle.lsm_opening.specs.declared.faults.writer_fault.WriterFault.TheVariants.{OutOfMemory}
+use Rattle.lsm_opening.specs.declared.faults.writer_fault.WriterFault.TheVariants.{Write as WriteFault}
+use Rattle.lsm_opening.specs.declared.faults.writer_fault.WriterFault.TheVariants.{Directory}
 
 -- ---- what a database needs
 

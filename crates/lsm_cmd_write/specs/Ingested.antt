@@ -13,10 +13,10 @@ use Rattle.lsm_text.specs.BatchText.{IsBatchText}
 use Rattle.lsm_requests.specs.declared.ingest_options.IngestOptions.{IngestOptions}
 use Rattle.lsm_directory.specs.Folders.{IsShelfAt, stored_at, told_by}
 use Rattle.lsm_cmd_write.specs.Ingesting.{IsBroughtIn, IsNotBroughtIn}
-use Rattle.lsm_cmd_write.specs.Preparing.{IsPrepared}
-use Rattle.lsm_cmd_write.specs.declared.faults.writer_fault.WriterFault.{WriterFault}
+use Rattle.lsm_opening.specs.Preparing.{IsPrepared}
+use Rattle.lsm_opening.specs.declared.faults.writer_fault.WriterFault.{WriterFault}
 use Rattle.lsm_directory.specs.declared.folder.folder_file.FolderFile.{FolderFile}
-use Rattle.lsm_cmd_write.specs.declared.ingesting.start.Start.{Start}
+use Rattle.lsm_opening.specs.declared.prepared.Start.{Start}
 
 module _ {C M : Type 0} (folders : Ghosts C M) where
   -- The lock of the folder at the path was held, and it was looked at. On a shelf of it the batch

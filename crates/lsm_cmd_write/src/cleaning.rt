@@ -13,13 +13,13 @@ ghost use Rattle.lsm_cmd_write.specs.Cleaning.{AreRemoved, AreSparesGone, IsClea
 ghost use Rattle.lsm_cmd_write.specs.Cleaning.{IsTidied, IsUncleared};
 ghost use Rattle.lsm_cmd_write.specs.Cleaning.{IsSpare, IsUncleaned, IsUnremoved, IsUntidied};
 ghost use Rattle.lsm_cmd_write.specs.Cleaning.{Removes, StopsCleaning, StopsRemoving};
-ghost use Rattle.lsm_cmd_write.specs.WriterFault.{of_shelf};
+ghost use Rattle.lsm_opening.specs.WriterFault.{of_shelf};
 
 use crate::cleaning::durable::make_durable;
 use crate::cleaning::kept::{Kept, kept_in};
-use crate::faults::writer_fault::WriterFault;
 use lsm_directory::{folder_names, hold};
 use lsm_folder::{FolderCalls, FolderFault, LockKind};
+use lsm_opening::WriterFault;
 use lsm_table::ShelfFault;
 use std::alloc::Global;
 use std::io::{self, Write};

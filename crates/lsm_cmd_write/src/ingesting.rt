@@ -2,24 +2,17 @@
 
 pub(crate) mod batch_input;
 pub(crate) mod one_write;
-pub(crate) mod preparing;
 pub(crate) mod program;
-pub(crate) mod start;
-pub(crate) mod starting;
 
-ghost use Rattle.std.specs.Prelude.{◌≡◌, ◌≢◌, IfErr, OnOk, vec_len};
+ghost use Rattle.std.specs.Prelude.{◌≡◌, ◌≢◌, IfErr, OnOk};
 ghost use Rattle.std.specs.Io.KnownBytes.{Appends, Keeps};
 ghost use Rattle.lsm_shelf.specs.Stored.{Stored};
-ghost use Rattle.lsm_state.specs.Making.{IsNewBoard, IsNewHistory};
 ghost use Rattle.lsm_cmd_write.specs.Ingesting.{IsBroughtIn, IsIngestFault, ingest_text};
-ghost use Rattle.lsm_cmd_write.specs.Starting.{usual};
-ghost use Rattle.lsm_cmd_write.specs.declared.faults.writer_fault.WriterFault.TheVariants.{Write as WriteFault};
+ghost use Rattle.lsm_opening.specs.Parts.{AreOf, usual};
+ghost use Rattle.lsm_opening.specs.declared.faults.writer_fault.WriterFault.TheVariants.{Write as WriteFault};
 
-use crate::faults::writer_fault::WriterFault;
-use crate::ingesting::start::Prepared;
-use crate::ingesting::starting::start;
-use crate::parts::NewParts;
 use lsm_batch::Batch;
+use lsm_opening::{NewParts, Prepared, WriterFault, start};
 use lsm_slots::Boarded;
 use lsm_state::{Ingested, State};
 use lsm_table::{NamedShelf, Shelf};
@@ -48,10 +41,7 @@ fn bring_in_named<N: Boarded, S: Shelf, R: Wait, O: Write>(
     batch: &Batch,
     out: &mut O,
 ) -> Result<(), WriterFault>
-    requires records { parts.records ≡ N.registry }
-    requires board { IsNewBoard N.board usual parts.publisher parts.pinners.items }
-    requires seats { vec_len parts.pinners ≡ usual.readers }
-    requires history { IsNewHistory N.history parts.history }
+    requires parts { AreOf usual N.registry N.board N.history parts }
     ensures done { OnOk result (IsBroughtIn S.honest prepared.now.start prepared.now.logs.items
         batch.now shelf.old shelf.new (O.contents out.old) (O.contents out.new)) }
     ensures fault { IfErr result (λ e. IsIngestFault (Stored S.Receipt (S.is_of N.place)
@@ -60,7 +50,6 @@ fn bring_in_named<N: Boarded, S: Shelf, R: Wait, O: Write>(
     ensures left { IfErr result (λ e. e ≢ WriteFault
         → Keeps (O.contents out.old) (O.contents out.new)) }
 {
-    let parts = parts.named(alloc)?;
     let mut state: State<N, S> = start(rt, alloc, shelf, prepared, parts)?;
     let ingested = state.ingest(rt, alloc, shelf, batch)?;
     match reply(out, ingested) {
@@ -79,11 +68,8 @@ fn bring_in_as<N: Boarded, S: Shelf, R: Wait, O: Write>(
     batch: &Batch,
     out: &mut O,
 ) -> (Result<(), WriterFault>, S)
-    requires records { parts.records ≡ N.registry }
+    requires parts { AreOf usual N.registry N.board N.history parts }
     requires shelf { (S.told shelf).place ≡ N.place }
-    requires board { IsNewBoard N.board usual parts.publisher parts.pinners.items }
-    requires seats { vec_len parts.pinners ≡ usual.readers }
-    requires history { IsNewHistory N.history parts.history }
     ensures done { OnOk result.0 (IsBroughtIn S.honest prepared.now.start prepared.now.logs.items
         batch.now (S.told shelf) (S.told result.1) (O.contents out.old) (O.contents out.new)) }
     ensures fault { IfErr result.0 (λ e. IsIngestFault (Stored S.Receipt (S.is_of N.place)

@@ -22,7 +22,7 @@ use Rattle.lsm_cmd_bench.specs.Benched.{BenchesAt}
 use Rattle.lsm_cmd_convert.specs.Converted.{IsConverted, IsUnconverted}
 use Rattle.lsm_cmd_convert.specs.Played.{IsPlayed, IsUnplayed}
 use Rattle.lsm_directory.specs.declared.faults.directory_fault.DirectoryFault.{DirectoryFault}
-use Rattle.lsm_cmd_write.specs.declared.faults.writer_fault.WriterFault.{WriterFault}
+use Rattle.lsm_opening.specs.declared.faults.writer_fault.WriterFault.{WriterFault}
 use Rattle.lsm_cmd_levels.specs.Layout.{FailsToLayOut, LaysOutAt}
 use Rattle.lsm_cmd_load.specs.LoadedAt.{FailsToLoad, LoadsAt}
 use Rattle.lsm_cmd_read.specs.Looked.{FailsToLook, LooksAtGiven}

@@ -1,10 +1,11 @@
 //! The calls on a folder of the system. Each makes one, and notes it with its answer.
 
-ghost use Rattle.std.specs.Prelude.{◌≡◌, ◌+◌, ◌≤◌, ◌^◌, ◌∷◌, [], Ok, length, IfOk, IfErr};
-ghost use Rattle.std.specs.Prelude.{string_bytes};
+ghost use Rattle.std.specs.Prelude.{◌≡◌, ◌+◌, ◌≤◌, ◌^◌, ◌∷◌, [], Ok, Err, length, take, drop};
+ghost use Rattle.std.specs.Prelude.{IfOk, IfErr, string_bytes};
 ghost use Rattle.boxcar.specs.Table.{Shows};
 ghost use Rattle.lsm_folder.specs.Calls.{opened};
 ghost use Rattle.lsm_folder.specs.FolderFault.{NotMissing, NotExists, NotNamed};
+ghost use Rattle.lsm_folder.specs.SystemFault.{fault_kind};
 ghost use Rattle.lsm_shelf.specs.Place.{IsAtPath};
 ghost use Rattle.lsm_folder.specs.SystemFolder.{system_calls, system_place, system_mark_name};
 ghost use Rattle.lsm_folder.specs.SystemFolder.{system_mark_image};
@@ -24,7 +25,7 @@ use crate::witness::Witness;
 use boxcar::tag::{Names, Tag};
 use std::alloc::{AllocError, Global};
 use std::fs::{File, Files};
-use std::io;
+use std::io::{self, ErrorKind};
 use std::sync::{Arc, Wait};
 
 /// The image of a mark, for contracts alone.
@@ -42,7 +43,8 @@ fn image_of<W: Witness>(mark: &SystemMark<W>) -> Tag
     Tag::of::<SystemMark<W>, OfMark>(mark)
 }
 
-/// What the witness did not see is refused, and not passed on.
+/// What the witness did not see is refused, as a file that can't be read. What the system refused,
+/// and what is that part of the file's bytes, is passed on as it is.
 fn let_through<W: Witness>(
     facts: &Facts<W>,
     offset: u64,
@@ -52,6 +54,10 @@ fn let_through<W: Witness>(
     requires inside { offset + len ≤ length (W.image facts.now.kept) }
     ensures seen { IfOk result (λ v. W.happened (W.image facts.now.kept) offset len v.items) }
     ensures same { IfOk result (λ v. outcome ≡ Ok v) }
+    ensures passed { IfOk outcome (λ v. v.items
+        ≡ take len (drop offset (W.image facts.now.kept)) → result ≡ Ok v) }
+    ensures unseen { IfOk outcome (λ _. IfErr result (λ e. fault_kind e ≡ ErrorKind.Other)) }
+    ensures refused { IfErr outcome (λ e. result ≡ Err e) }
 {
     let bytes = outcome?;
     if W::saw(&facts.kept, offset as usize, len, bytes.as_slice()) {

@@ -2,8 +2,9 @@
 //! at and opened to be read whole, written or synced; one of which a part is read stays open. No
 //! contract says what the system's calls do; they are to be read.
 
-ghost use Rattle.std.specs.Prelude.{◌≡◌, ◌≤◌, ◌^◌, length, Ok, IfOk, IfErr};
+ghost use Rattle.std.specs.Prelude.{◌≡◌, ◌↔◌, ◌≤◌, ◌^◌, length, Ok, Err, IfOk, IfErr};
 ghost use Rattle.lsm_folder.specs.FolderFault.{NotMissing, NotExists, NotNamed};
+ghost use Rattle.lsm_folder.specs.SystemFault.{fault_kind};
 
 use crate::folder_fault::FolderFault;
 use crate::open_files::OpenFiles;
@@ -11,7 +12,7 @@ use crate::reasons::Reasons;
 use crate::system_fault::SystemFault;
 use std::alloc::{AllocError, Global};
 use std::fs::{self, File, Files, OpenFile, OpenOptions};
-use std::io::{self, Read, Write};
+use std::io::{self, ErrorKind, Read, Write};
 use std::os::unix::fs::FileExt;
 
 /// The most bytes that a file may have to be read whole: 1 GiB.
@@ -185,6 +186,9 @@ impl<R: Files<File = File> + AllocGlobal + Clone + Drop> SystemFiles<R> {
         answer: Result<T, SystemFault>,
     ) -> Result<T, FolderFault>
         ensures same { IfOk result (λ v. answer ≡ Ok v) }
+        ensures passed { IfOk answer (λ v. result ≡ Ok v) }
+        ensures missing { IfErr answer (λ f. (result ≡ Err FolderFault.Missing)
+            ↔ (fault_kind f ≡ ErrorKind.NotFound)) }
         ensures err { IfErr result NotExists }
     {
         match answer {

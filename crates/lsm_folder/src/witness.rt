@@ -1,6 +1,6 @@
 //! Who sees the reads of a run.
 
-ghost use Rattle.std.specs.Prelude.{◌≡◌, ◌+◌, ◌≤◌, ℕ, List, length, IfOk, IsTrue};
+ghost use Rattle.std.specs.Prelude.{◌≡◌, ◌+◌, ◌≤◌, ℕ, List, length, take, drop, IfOk, IsTrue};
 
 use std::alloc::{AllocError, Global};
 
@@ -21,8 +21,10 @@ pub trait Witness {
     fn keep(alloc: Global, bytes: &[u8]) -> Result<Self::Kept, AllocError>
         ensures { IfOk result (λ k. image k ≡ bytes.now) };
 
-    /// Whether the answer to a read is passed on.
+    /// Whether the answer to a read is passed on. What is passed on happened, and what is that part
+    /// of the file's bytes is passed on.
     fn saw(kept: &Self::Kept, offset: usize, len: usize, bytes: &[u8]) -> bool
         requires inside { offset + len ≤ length (image kept.now) }
-        ensures { IsTrue result → happened (image kept.now) offset len bytes.now };
+        ensures seen { IsTrue result → happened (image kept.now) offset len bytes.now }
+        ensures passed { bytes.now ≡ take len (drop offset (image kept.now)) → IsTrue result };
 }

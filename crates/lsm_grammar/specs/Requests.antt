@@ -1,7 +1,7 @@
 -- What the words of a command line ask for, by what clap's grammar finds in them: this project's
 -- rule.
 use Rattle.std.specs.Prelude.{◌≡◌, ◌≢◌, ℕ, ◌+◌, ◌≤◌, ◌⊎◌, ⊤, Bool, true, false, if◌then◌else◌, List}
-use Rattle.std.specs.Prelude.{[], ◌∷◌, codes, Option, Some, None, is_some, option_map}
+use Rattle.std.specs.Prelude.{[], ◌∷◌, ◌||◌, codes, Option, Some, None, is_some, option_map}
 use Rattle.std.specs.Option.{option_map_or, option_or}
 use Rattle.std.specs.Str.{bytes_eq}
 use Rattle.clap.specs.Words.{IsAmong, Kinds, Row, Text, fault_of, first_of, found_of, rows_of}
@@ -31,6 +31,7 @@ use Rattle.lsm_requests.specs.declared.get_output.GetOutput.TheVariants.{Line, R
 use Rattle.lsm_requests.specs.declared.ingest_options.IngestOptions.{IngestOptions}
 use Rattle.lsm_requests.specs.declared.input.Input.{Input}
 use Rattle.lsm_requests.specs.declared.input.Input.TheVariants.{Standard, File}
+use Rattle.lsm_requests.specs.declared.compact_range.CompactRange.{CompactRange}
 use Rattle.lsm_requests.specs.declared.key_bounds.KeyBounds.{KeyBounds}
 use Rattle.lsm_requests.specs.declared.levels_output.LevelsOutput.{LevelsOutput}
 use Rattle.lsm_requests.specs.declared.levels_output.LevelsOutput.TheVariants as levels_output
@@ -194,6 +195,20 @@ AreBounds rows bounds =
     × IsBound (form_in rows) (word_in (codes "to") rows) bounds.to
     × IsBound (form_in rows) (word_in (codes "prefix") rows) bounds.prefix
 
+abbrev pub IsWithin : Form → Option Text → Option Text → CompactRange → Type 0
+IsWithin form from to range = IsBound form from range.from × IsBound form to range.to
+
+-- `--all` or a bound asks for a range of keys
+abbrev pub asks_range : List Row → Bool
+asks_range rows = is_set (codes "all") rows || is_some (word_in (codes "from") rows)
+    || is_some (word_in (codes "to") rows)
+
+-- the range that is asked for
+abbrev pub IsRange : List Row → Option CompactRange → Type 0
+IsRange rows None = asks_range rows ≡ false
+IsRange rows (Some range) = (asks_range rows ≡ true)
+    × IsWithin (form_in rows) (word_in (codes "from") rows) (word_in (codes "to") rows) range
+
 -- the word of an option writes a number below 2^64, and there is a number only where there is the
 -- option
 abbrev pub IsLimit : Option Text → Option ℕ → Type 0
@@ -319,7 +334,7 @@ Says rows (Load line) =
 Says rows (Compact line) =
     (word_in (codes "DIR") rows ≡ Some line.path.now)
     × AreWorkers (word_in (codes "workers") rows) line.options.workers
-    × (line.options.progress ≡ is_set (codes "progress") rows)
+    × (line.options.progress ≡ is_set (codes "progress") rows) × IsRange rows line.options.range
 Says rows (Script input) = IsInput (word_in (codes "FILE") rows) input
 Says rows (Shell line) =
     (word_in (codes "DIR") rows ≡ Some line.path.now) × AreIngestOptions rows line.options

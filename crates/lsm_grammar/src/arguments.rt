@@ -109,6 +109,27 @@ pub(crate) const TO: Argument = Argument::Valued(Valued {
     help: "The last key that is printed",
 });
 
+/// Whether all keys are compacted.
+pub(crate) const ALL: Argument = Argument::Flag("all", "Compact all keys, and not what is due");
+
+/// The first key that is compacted.
+pub(crate) const FIRST: Argument = Argument::Valued(Valued {
+    name: "from",
+    value: "KEY",
+    default: None,
+    range: None,
+    help: "The first key that is compacted",
+});
+
+/// The last key that is compacted.
+pub(crate) const LAST: Argument = Argument::Valued(Valued {
+    name: "to",
+    value: "KEY",
+    default: None,
+    range: None,
+    help: "The last key that is compacted",
+});
+
 /// How the keys of a scan begin.
 pub(crate) const PREFIX: Argument = Argument::Valued(Valued {
     name: "prefix",

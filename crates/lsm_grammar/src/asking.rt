@@ -8,7 +8,8 @@ ghost use Rattle.lsm_grammar.specs.Requests.{AreLoadOptions, AreNamed};
 ghost use Rattle.lsm_grammar.specs.Requests.{AreScanOptions, AreThreads, AreWorkers};
 ghost use Rattle.lsm_grammar.specs.Requests.{IsAsked, IsBound, IsInput};
 ghost use Rattle.lsm_grammar.specs.Requests.{IsKeyWrite, IsLimit, IsLineNumber, IsLook, IsNumberIn};
-ghost use Rattle.lsm_grammar.specs.Requests.{IsSpelled, IsWorkersWord, IsWrite, Reads, form_in};
+ghost use Rattle.lsm_grammar.specs.Requests.{IsRange, IsSpelled, IsWithin, IsWorkersWord, IsWrite};
+ghost use Rattle.lsm_grammar.specs.Requests.{Reads, form_in};
 ghost use Rattle.lsm_grammar.specs.Requests.{get_output_in, is_set, levels_output_in};
 ghost use Rattle.lsm_grammar.specs.Requests.{name_of_conversion, name_of_look, name_of_value};
 ghost use Rattle.lsm_grammar.specs.Requests.{name_of_write, rows_in};
@@ -25,9 +26,9 @@ use clap::ArgMatches;
 use lsm_batch::Write;
 use lsm_codec::Bytes;
 use lsm_requests::{
-    BenchOptions, Benchmark, CompactLine, CompactOptions, Conversion, DirectoryCommand,
-    DirectoryLine, GetOutput, IngestOptions, Input, KeyBounds, LevelsLine, LevelsOutput, LoadLine,
-    LoadOptions, ScanOptions, ScanOutput,
+    BenchOptions, Benchmark, CompactLine, CompactOptions, CompactRange, Conversion,
+    DirectoryCommand, DirectoryLine, GetOutput, IngestOptions, Input, KeyBounds, LevelsLine,
+    LevelsOutput, LoadLine, LoadOptions, ScanOptions, ScanOutput,
 };
 use lsm_text::{Form, number_in};
 use std::alloc::{AllocError, Global};
@@ -440,16 +441,68 @@ fn load_in<'a>(found: &ArgMatches<'a>) -> Option<Request<'a>>
     }))
 }
 
-/// A compaction.
-fn compact_in<'a>(found: &ArgMatches<'a>) -> Option<Request<'a>>
-    ensures { Reads CommandName.Compact (rows_in found.now) result }
+/// The bounds of a range that is compacted. `None` where a word spells no key.
+fn range_of(
+    alloc: Global,
+    form: Form,
+    from: Option<&str>,
+    to: Option<&str>,
+) -> Result<Option<CompactRange>, AllocError>
+    ensures only { IfOk result (λ o. IfSome o
+        (IsWithin form (option_map (λ w. w.now) from.entry) (option_map (λ w. w.now) to.entry))) }
+    ensures found { (range : CompactRange)
+        → IsWithin form (option_map (λ w. w.now) from.entry) (option_map (λ w. w.now) to.entry) range
+        → IfOk result (λ o. o ≡ Some range) }
 {
-    let path = word_in(found, "DIR")?;
-    let options = CompactOptions {
-        workers: workers_of(found)?,
-        progress: is_set(found, "progress"),
+    let Some(from) = bound_in(alloc, form, from)? else {
+        return Ok(None);
     };
-    Some(Request::Compact(CompactLine { path, options }))
+    let Some(to) = bound_in(alloc, form, to)? else {
+        return Ok(None);
+    };
+    Ok(Some(CompactRange { from, to }))
+}
+
+/// The range that is compacted, if `--all` or a bound asks for one. `None` where a word spells no
+/// key.
+fn range_in(
+    alloc: Global,
+    found: &ArgMatches<'_>,
+) -> Result<Option<Option<CompactRange>>, AllocError>
+    ensures only { IfOk result (λ o. IfSome o (IsRange (rows_in found.now))) }
+    ensures found { (range : Option CompactRange) → IsRange (rows_in found.now) range
+        → IfOk result (λ o. o ≡ Some range) }
+{
+    let from = word_in(found, "from");
+    let to = word_in(found, "to");
+    if !is_set(found, "all") && from.is_none() && to.is_none() {
+        return Ok(Some(None));
+    }
+    match range_of(alloc, form_in(found), from, to)? {
+        Some(range) => Ok(Some(Some(range))),
+        None => Ok(None),
+    }
+}
+
+/// A compaction.
+fn compact_in<'a>(alloc: Global, found: &ArgMatches<'a>) -> Result<Option<Request<'a>>, AllocError>
+    ensures { IfOk result (Reads CommandName.Compact (rows_in found.now)) }
+{
+    let Some(path) = word_in(found, "DIR") else {
+        return Ok(None);
+    };
+    let Some(workers) = workers_of(found) else {
+        return Ok(None);
+    };
+    let Some(range) = range_in(alloc, found)? else {
+        return Ok(None);
+    };
+    let options = CompactOptions {
+        workers,
+        progress: is_set(found, "progress"),
+        range,
+    };
+    Ok(Some(Request::Compact(CompactLine { path, options })))
 }
 
 /// Commands on a folder, from standard input.
@@ -504,7 +557,7 @@ fn request_in<'a>(
         CommandName::Put => put_in(alloc, found),
         CommandName::Delete => delete_in(alloc, found),
         CommandName::Load => Ok(load_in(found)),
-        CommandName::Compact => Ok(compact_in(found)),
+        CommandName::Compact => compact_in(alloc, found),
         CommandName::Clean => Ok(clean_in(found)),
         CommandName::Shell => Ok(shell_in(found)),
         CommandName::Bench => bench_in(alloc, found),

@@ -1,9 +1,9 @@
 //! The texts of the commands' help.
 
 use crate::arguments::{
-    Argument, BATCH, BEGIN, BENCHMARKS, BESIDE_LOG, COMPACTORS, COUNT, EXISTS, FILES, FOLDER, FROM,
-    FROM_LINE, JSON, KEY, KEYS, LIMIT, NUM, PREFIX, PROGRESS, RAW, SOME_WORKERS, SVG, TEXT, TO,
-    VALUE, VALUE_SIZE, VERIFIERS, WORKERS,
+    ALL, Argument, BATCH, BEGIN, BENCHMARKS, BESIDE_LOG, COMPACTORS, COUNT, EXISTS, FILES, FIRST,
+    FOLDER, FROM, FROM_LINE, JSON, KEY, KEYS, LAST, LIMIT, NUM, PREFIX, PROGRESS, RAW,
+    SOME_WORKERS, SVG, TEXT, TO, VALUE, VALUE_SIZE, VERIFIERS, WORKERS,
 };
 use crate::command_name::{CommandName, named};
 
@@ -447,7 +447,7 @@ Device` one batch more than is said may be in.",
 
 const COMPACT: Page = Page {
     name: "compact",
-    arguments: &[FOLDER, WORKERS, PROGRESS],
+    arguments: &[FOLDER, ALL, FIRST, LAST, TEXT, WORKERS, PROGRESS],
     about: "Compacts a folder until no level is too large",
     text: "Compacts the LevelDB folder DIR until no level is too large: tables of such a
 level, and those of the next one that they meet, are written anew one level
@@ -455,6 +455,13 @@ down. Level 0 is too large from 4 tables on, level 1 from 10 MiB, and each
 deeper one from ten times as much as the one above it. No answer of a read
 changes. Then the tables that are not needed any more are removed. Prints
 `installed M`, the number of compactions.
+
+--all compacts every key instead, and --from and --to those from one key to
+another, both included: all tables with such keys are written anew one level
+down, level by level, until they stand together below the deepest level that has
+one. Level 6 is left as it is; above it a deleted key takes no room then. --all
+with a bound is that bound's range. KEY is hex, or text with --text, `.` for no
+bytes.
 
 --workers is how many threads compact at a time, 1 to 8; 2 if it is not said.
 
@@ -466,7 +473,9 @@ that is `refused 40 LevelZeroFull`.
 Exit status: 0 done, 1 refused, 2 bad command line. After a refusal what was
 installed before it stands, and no table was removed, but by a removal that then
 failed.",
-    example: "Example: lsm compact db --workers 4 --progress",
+    example: "Examples: lsm compact db --workers 4 --progress
+          lsm compact db --all
+          lsm compact db --from a --to b --text",
 };
 
 const CLEAN: Page = Page {
@@ -611,7 +620,8 @@ fn usage(name: CommandName) -> &'static str {
         CommandName::Delete => "lsm delete <DIR> <KEY> [--text] [--begin] [--beside-log]",
         CommandName::Load =>
             "lsm load <DIR> [FILE] [--text] [--begin] [--beside-log] [--workers <N>] [--from-line <I>] [--progress]",
-        CommandName::Compact => "lsm compact <DIR> [--workers <N>] [--progress]",
+        CommandName::Compact =>
+            "lsm compact <DIR> [--all] [--from <KEY>] [--to <KEY>] [--text] [--workers <N>] [--progress]",
         CommandName::Clean => "lsm clean <DIR>",
         CommandName::Shell => "lsm shell <DIR> [--text] [--begin] [--beside-log] [--workers <N>]",
         CommandName::Bench =>

@@ -69,19 +69,18 @@ pub record IsOverFirstRun (target_size : ℕ) (ts : List Table) (from to : UserK
 
 -- ---- where a joining begins
 
--- the hull of a crowded level 0, or else the first run of the first level that has one
+-- the first run of the first level that has one, or else the hull of a crowded level 0
 abbrev pub IsWanted : Levels → ℕ → Span → Type 0
 IsWanted v target_size s =
-    ((s.level ≡ 0) × IsCrowded target_size (level_in v.tables 0)
-    × IsHull (level_in v.tables 0) s.from s.to)
-    ⊎ ((IsCrowded target_size (level_in v.tables 0) → ⊥) × (1 ≤ s.level) × (s.level ≤ 5)
-    × NoRunAbove target_size v s.level
+    ((1 ≤ s.level) × (s.level ≤ 5) × NoRunAbove target_size v s.level
     × IsOverFirstRun target_size (level_in v.tables s.level) s.from s.to)
+    ⊎ (NoRunAbove target_size v 6 × (s.level ≡ 0) × IsCrowded target_size (level_in v.tables 0)
+    × IsHull (level_in v.tables 0) s.from s.to)
 
 -- nothing wants to be joined
 pub record IsSettled (v : Levels) (target_size : ℕ) : Type 0 where
-  pub calm : IsCrowded target_size (level_in v.tables 0) → ⊥
   pub none : NoRunAbove target_size v 6
+  pub calm : IsCrowded target_size (level_in v.tables 0) → ⊥
 
 -- ---- where it is done
 

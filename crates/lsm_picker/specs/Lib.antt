@@ -7,5 +7,6 @@ pub mod Moves
 pub mod RangesBelow
 pub mod PlanFault
 pub mod Joining
+pub mod Manual
 -- What private functions and proofs cite alone
 pub mod TableRanges

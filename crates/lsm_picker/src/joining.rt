@@ -120,8 +120,8 @@ fn hull_of<'a, N: Naming, S: Shelf>(
     (from, to)
 }
 
-/// The range that wants to be joined, with the level where it does: the hull of a crowded level 0,
-/// or else the first run of the first level that has one.
+/// The range that wants to be joined, with the level where it does: the first run of the first
+/// level that has one, or else the hull of a crowded level 0.
 fn wanted<'a, N: Naming, S: Shelf>(
     registry: &'a Registry<N, S>,
     version: &Version<N, S>,
@@ -130,18 +130,18 @@ fn wanted<'a, N: Naming, S: Shelf>(
     ensures { MatchOption result (IsSettled version.now target_size) (λ s.
         IsWanted version.now target_size s) }
 {
-    let newest = version.level(0);
-    if is_crowded(registry, newest, target_size) {
-        let (from, to) = hull_of(registry, newest);
-        return Some(Span { level: 0, from, to });
-    }
     for level in 1..6u8 {
         let run = over_first_run(registry, version.level(usize::from(level)), target_size);
         if let Some((from, to)) = run {
             return Some(Span { level, from, to });
         }
     }
-    None
+    let newest = version.level(0);
+    if !is_crowded(registry, newest, target_size) {
+        return None;
+    }
+    let (from, to) = hull_of(registry, newest);
+    Some(Span { level: 0, from, to })
 }
 
 /// The bytes that a range meets at a level.
@@ -229,14 +229,14 @@ fn next_beyond<'a, N: Naming, S: Shelf>(
 }
 
 /// The first file of a level that meets a range.
-fn first_over<'a, N: Naming, S: Shelf>(
+pub(crate) fn first_over<'a, N: Naming, S: Shelf>(
     registry: &Registry<N, S>,
     version: &'a Version<N, S>,
     level: u8,
     from: &[u8],
     to: &[u8],
 ) -> Option<&'a TableRef<N, S>>
-    requires level { level ≤ 5 }
+    requires level { level ≤ 6 }
     ensures { MatchOption result (first_over version.now level from.now to.now ≡ None) (λ t.
         first_over version.now level from.now to.now ≡ Some t.now) }
 {
@@ -311,10 +311,10 @@ fn part_of<'a, N: Naming, S: Shelf>(
 /// The files that are joined next, so that small files become larger ones; none where no file wants
 /// to be joined.
 ///
-/// The range is the hull of level 0, where that is crowded: it has four files at least, and at
-/// least half of them are small, below a quarter of the target size. Else it is that of the first
-/// run, twelve neighbours with at most three target sizes of bytes together, of the first level
-/// from 1 to 5 that has one. The files are those of the first level from there on below which the
+/// The range is that of the first run, twelve neighbours with at most three target sizes of bytes
+/// together, of the first level from 1 to 5 that has one. Else it is the hull of level 0, where
+/// that is crowded: it has four files at least, and at least half of them are small, below a
+/// quarter of the target size. The files are those of the first level from there on below which the
 /// range meets at most six times the bytes that it meets at the level itself (of level 5 where
 /// there is none before). Where these are more than four target sizes of bytes below level 0, it is
 /// the next one of them: the first beyond the level's compaction pointer, or else the first.

@@ -26,6 +26,7 @@ mod candidates;
 mod choice;
 mod joining;
 mod level_scores;
+mod manual;
 mod plan_fault;
 mod range_plan;
 
@@ -37,6 +38,7 @@ pub use conflicts::conflict;
 pub use deep_ranges::ranges_below;
 pub use joining::span_to_join;
 pub use level_scores::scores;
+pub use manual::{is_cleared, span_to_clear};
 pub use move_rule::is_move;
 pub use plan::Plan;
 pub use plan_fault::PlanFault;

@@ -3,7 +3,7 @@
 use crate::compact_options::CompactOptions;
 
 /// A compaction: of the folder of this path, with these options.
-#[derive(Clone, Copy, Debug)]
+#[derive(Debug, Drop)]
 pub struct CompactLine<'a> {
     pub path: &'a str,
     pub options: CompactOptions,

@@ -1,8 +1,12 @@
 //! How a directory is to be compacted.
 
-/// By how many workers, 1 to 8, and whether it is to be said on standard error how far they are.
-#[derive(Clone, Copy, Debug)]
+use crate::compact_range::CompactRange;
+
+/// By how many workers, 1 to 8; whether it is to be said on standard error how far they are; and
+/// the range whose files are all compacted. Where there is none, all that is due is.
+#[derive(Debug, Drop)]
 pub struct CompactOptions {
     pub workers: usize,
     pub progress: bool,
+    pub range: Option<CompactRange>,
 }

@@ -21,6 +21,7 @@ mod scan_output;
 // Of one that is written.
 mod compact_line;
 mod compact_options;
+mod compact_range;
 mod ingest_options;
 mod load_line;
 mod load_options;
@@ -33,6 +34,7 @@ pub use bench_options::BenchOptions;
 pub use benchmark::Benchmark;
 pub use compact_line::CompactLine;
 pub use compact_options::CompactOptions;
+pub use compact_range::CompactRange;
 pub use conversion::Conversion;
 pub use directory_command::DirectoryCommand;
 pub use directory_line::DirectoryLine;

@@ -5,7 +5,7 @@ ghost use Rattle.lsm_text.specs.FaultText.{field_text, refusal_text};
 ghost use Rattle.lsm_script.specs.RefusalText.{refused_text};
 
 use crate::command_fault::CommandFault;
-use crate::refusals::{cause_of_merge, of_merge, of_state};
+use lsm_refusals::{cause_of_merge, of_merge, of_state};
 use lsm_text::push_decimal;
 use std::alloc::AllocError;
 

@@ -4,7 +4,7 @@ mod EditionLaws
 mod Removing
 mod Listed
 mod OpenLaws
-mod ReserveLaws
+pub mod ReserveLaws
 mod ChangeLaws
 mod AskedLaws
 mod IngestLaws

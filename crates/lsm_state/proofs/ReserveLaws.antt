@@ -1,5 +1,5 @@
 -- What a reservation leaves of the law of a state.
-use Rattle.std.proofs.Common.{◌≡◌, ℕ, suc, ◌-◌, ◌^◌, ◌<◌, ◌≤◌, Bool, Option, Some, true, false, List, [], ◌∷◌, ◌++◌, length, refl, sym, ◌∙◌, ap, subst, inl, inr, arith, ◌⊎◌, ◌↔◌}
+use Rattle.std.proofs.Common.{◌≡◌, ℕ, suc, ◌-◌, ◌^◌, ◌<◌, ◌≤◌, Bool, Option, None, Some, true, false, List, [], ◌∷◌, ◌++◌, length, refl, sym, ◌∙◌, ap, subst, inl, inr, arith, ◌⊎◌, ◌↔◌}
 use Rattle.std.specs.Prelude.{Result, Ok, Err, MatchOption, IfErr, IfSome, IsErrAnd}
 use Rattle.std.proofs.lemmas.Bool.{both_ways}
 use Rattle.atomic_table.specs.Seated.{TableId}
@@ -14,7 +14,8 @@ use Rattle.lsm_model.specs.Plain.{Live, Plain}
 use Rattle.lsm_model.specs.Runs.{Reserve}
 use Rattle.lsm_version.specs.FileNumbers.{AreDistinct}
 use Rattle.lsm_version.specs.Versions.{AreInOrder, IsSound, IsWhole, Levels, file_of, files, numbers_in}
-use Rattle.lsm_picker.specs.Choice.{IsChoice}
+use Rattle.lsm_picker.specs.Choice.{HasNoChoice, IsChoice}
+use Rattle.lsm_picker.specs.Joining.{IsJoined, IsSettled, Span}
 use Rattle.lsm_picker.specs.Reservations.{IsClear, IsLeastConflict, Reserved, conflicts, reserved_of}
 use Rattle.lsm_picker.specs.TablePlans.{IsPlanFrom, StandsIn, TablePlan, files_over, plan_of}
 use Rattle.lsm_picker.specs.TablePlans as planned
@@ -25,9 +26,9 @@ use Rattle.lsm_live.specs.Planned.{IsWorkOf}
 use Rattle.lsm_live.specs.Reserving.{reserved_jobs}
 use Rattle.lsm_live.proofs.CallerLemmas.{live_has, live_says, lives_added, reserved_has}
 use Rattle.lsm_state.specs.Held.{HasInputs, Held, IsLawfulState, plain}
-use Rattle.lsm_state.specs.Reserving.{HasOrderedInputs, IsChosen, IsClosedPlan, IsOfMoment, IsPlanAt, IsRangePlan, IsRangeRefusal, IsReserveRefusal, IsReserving, plan_in, reserved}
+use Rattle.lsm_state.specs.Reserving.{HasOrderedInputs, IsChosen, IsClosedPlan, IsOfMoment, IsPlanAt, IsRangePlan, IsRangeRefusal, IsReserveRefusal, IsReserving, plan_in, reserved, HasNoJoining, HasNoNext, HasNoneBelow, HasToWait, IsJoining, IsNext, IsNextRefusal, IsPlanRefusal}
 use Rattle.lsm_state.specs.declared.state_fault.StateFault.{StateFault}
-use Rattle.lsm_state.specs.declared.state_fault.StateFault.TheVariants.{Conflict, NumbersSpent, OutOfMemory}
+use Rattle.lsm_state.specs.declared.state_fault.StateFault.TheVariants.{OutOfMemory, Shelf, Read, BadLevel, EmptyBatch, KeyOrder, TooLarge, LevelZeroFull, SequencesSpent, Halted, UnknownSnapshot, Conflict, UnknownTicket, NumbersSpent, Stale, SlotsHeld, VersionsSpent, PinsSpent}
 use Rattle.lsm_state.proofs.StateLaws.{agreed, stepped}
 
 -- what the laws of plans say
@@ -177,3 +178,99 @@ if_some {A} o x Q e m = subst (λ (y : Option A). IfSome y Q) e m
 pub if_err : {A : Type 0} (r : Result A StateFault) (P Q : StateFault → Type 0) → IsErrAnd r P → ((e : StateFault) → P e → Q e) → IfErr r Q
 if_err (Ok a) P Q x f = tt
 if_err (Err e) P Q x f = f e x
+
+-- ---- what workers reserve
+
+pub plan_refused : (honest : Type 0) (h : Held) (e : StateFault) → IsPlanRefusal h e → IsReserveRefusal honest h e
+plan_refused honest h OutOfMemory r = r
+plan_refused honest h (Shelf f) r = absurd r
+plan_refused honest h (Read f) r = absurd r
+plan_refused honest h (BadLevel n) r = absurd r
+plan_refused honest h EmptyBatch r = absurd r
+plan_refused honest h (KeyOrder n) r = absurd r
+plan_refused honest h TooLarge r = absurd r
+plan_refused honest h LevelZeroFull r = absurd r
+plan_refused honest h SequencesSpent r = absurd r
+plan_refused honest h Halted r = r
+plan_refused honest h (UnknownSnapshot n) r = absurd r
+plan_refused honest h (Conflict n) r = absurd r
+plan_refused honest h (UnknownTicket n) r = absurd r
+plan_refused honest h NumbersSpent r = absurd r
+plan_refused honest h Stale r = absurd r
+plan_refused honest h SlotsHeld r = absurd r
+plan_refused honest h VersionsSpent r = absurd r
+plan_refused honest h PinsSpent r = absurd r
+
+pub plan_unfit : (honest : Type 0) (h : Held) (e : StateFault) → IsPlanRefusal h e → IsNextRefusal honest h e
+plan_unfit honest h OutOfMemory r = r
+plan_unfit honest h (Shelf f) r = absurd r
+plan_unfit honest h (Read f) r = absurd r
+plan_unfit honest h (BadLevel n) r = absurd r
+plan_unfit honest h EmptyBatch r = absurd r
+plan_unfit honest h (KeyOrder n) r = absurd r
+plan_unfit honest h TooLarge r = absurd r
+plan_unfit honest h LevelZeroFull r = absurd r
+plan_unfit honest h SequencesSpent r = absurd r
+plan_unfit honest h Halted r = r
+plan_unfit honest h (UnknownSnapshot n) r = absurd r
+plan_unfit honest h (Conflict n) r = absurd r
+plan_unfit honest h (UnknownTicket n) r = absurd r
+plan_unfit honest h NumbersSpent r = absurd r
+plan_unfit honest h Stale r = absurd r
+plan_unfit honest h SlotsHeld r = absurd r
+plan_unfit honest h VersionsSpent r = absurd r
+plan_unfit honest h PinsSpent r = absurd r
+
+-- a range plan at a level up to 5 is refused as any plan, where it conflicts with no live job
+pub range_refused : (honest : Type 0) (h : Held) (level : ℕ) (from to : UserKey) (e : StateFault) → level ≤ 5 → (e ≡ NumbersSpent → ⊥) → ((n : ℕ) → e ≡ Conflict n → ⊥)
+    → IsRangeRefusal honest h level from to e → IsPlanRefusal h e
+range_refused honest h level from to OutOfMemory low unspent other r = r.0
+range_refused honest h level from to (Shelf f) low unspent other r = absurd r
+range_refused honest h level from to (Read f) low unspent other r = absurd r
+range_refused honest h level from to (BadLevel n) low unspent other r = (let over = r.2 in absurd (omega arith))
+range_refused honest h level from to EmptyBatch low unspent other r = absurd r
+range_refused honest h level from to (KeyOrder n) low unspent other r = absurd r
+range_refused honest h level from to TooLarge low unspent other r = absurd r
+range_refused honest h level from to LevelZeroFull low unspent other r = absurd r
+range_refused honest h level from to SequencesSpent low unspent other r = absurd r
+range_refused honest h level from to Halted low unspent other r = r
+range_refused honest h level from to (UnknownSnapshot n) low unspent other r = absurd r
+range_refused honest h level from to (Conflict n) low unspent other r = absurd (other n refl)
+range_refused honest h level from to (UnknownTicket n) low unspent other r = absurd r
+range_refused honest h level from to NumbersSpent low unspent other r = absurd (unspent refl)
+range_refused honest h level from to Stale low unspent other r = absurd r
+range_refused honest h level from to SlotsHeld low unspent other r = absurd r
+range_refused honest h level from to VersionsSpent low unspent other r = absurd r
+range_refused honest h level from to PinsSpent low unspent other r = absurd r
+
+pub closed_next : (h : Held) (p : TablePlan) → IsNext h p → IsClosedPlan h p
+closed_next h p (inl chosen) = closed_choice h h.slots.version (reserved_jobs h.live) p refl chosen.0
+closed_next h p (inr (inl joining)) =
+    (let j = joining.1 in (files_over h.slots.version j.span.level j.span.from j.span.to, j.planned))
+closed_next h p (inr (inr chosen)) = closed_choice h h.slots.version (reserved_jobs h.live) p refl chosen.1
+
+pub refused_next : (honest : Type 0) (h : Held) (p : TablePlan) (e : StateFault) → h.halted ≡ false → (honest → IsNext h p) → ((e ≡ NumbersSpent) × (h.next_ticket ≡ 2 ^ 64 - 1)) ⊎ (e ≡ OutOfMemory)
+    → IsNextRefusal honest h e
+refused_next honest h p e going next (inl x) = subst (λ (f : StateFault). IsNextRefusal honest h f) (sym x.0) (going, x.1, λ y. (p, next y))
+refused_next honest h p e going next (inr x) = subst (λ (f : StateFault). IsNextRefusal honest h f) (sym x) going
+
+-- where nothing is chosen, what is joined is next
+pub next_unchosen : (h : Held) (o : Option TablePlan) → HasNoChoice h.slots.version (reserved_jobs h.live) → MatchOption o (HasNoJoining h) (λ p. IsJoining h p) → MatchOption o (HasNoNext h) (λ p. IsNext h p)
+next_unchosen h None none m = (m, none)
+next_unchosen h (Some p) none m = inr (inl (inl none, m))
+
+-- where the choice is of level 0, what is joined is next, or else the choice
+pub next_joined : (h : Held) (chosen p : TablePlan) → IsChosen h chosen → chosen.level ≡ 0 → IsJoining h p → IsNext h p
+next_joined h chosen p c low j = inr (inl (inr (chosen, c, low), j))
+
+pub next_chosen : (h : Held) (p : TablePlan) → HasNoJoining h → IsChosen h p → IsNext h p
+next_chosen h p none c = inr (inr (none, c))
+
+pub joined_low : (v : Levels) (target_size : ℕ) (s : Span) → IsJoined v target_size s → s.level ≤ 5
+joined_low v target_size s j = j.sunk.last
+
+pub chosen_of : (h : Held) (v : Levels) (rs : List Reserved) (o : Option TablePlan) → v ≡ h.slots.version → rs ≡ reserved_jobs h.live → MatchOption o (HasNoChoice v rs) (λ p. IsChoice v rs p)
+    → MatchOption o (HasNoChoice h.slots.version (reserved_jobs h.live)) (λ p. IsChosen h p)
+chosen_of h v rs o same live m =
+    subst (λ (x : Levels). MatchOption o (HasNoChoice x (reserved_jobs h.live)) (λ p. IsChoice x (reserved_jobs h.live) p)) same
+    (subst (λ (x : List Reserved). MatchOption o (HasNoChoice v x) (λ p. IsChoice v x p)) live m)

@@ -62,6 +62,12 @@ abbrev pub plan_refusal : PlanFault → StateFault
 plan_refusal planned.OutOfMemory = OutOfMemory
 plan_refusal (planned.BadLevel level) = BadLevel level
 
+-- why no plan was made: the state is halted, or memory was refused
+abbrev pub IsPlanRefusal : Held → StateFault → Type 0
+IsPlanRefusal h Halted = h.halted ≡ true
+IsPlanRefusal h OutOfMemory = h.halted ≡ false
+IsPlanRefusal h e = ⊥
+
 -- ---- the choice
 
 -- the plan that is chosen beside the live jobs
@@ -105,7 +111,13 @@ IsRangeRefusal honest h level from to NumbersSpent =
 IsRangeRefusal honest h level from to OutOfMemory = (h.halted ≡ false) × (level ≤ 5)
 IsRangeRefusal honest h level from to e = ⊥
 
--- ---- what workers reserve: small files first (this project's rule)
+-- ---- what workers reserve: the choice below level 0, then small files, then the choice (this
+-- project's rule)
+
+-- the choice is of level 0, or there is none
+abbrev pub HasNoneBelow : Held → Type 0
+HasNoneBelow h = HasNoChoice h.slots.version (reserved_jobs h.live)
+    ⊎ ((p : TablePlan) × IsChosen h p × (p.level ≡ 0))
 
 -- the plan of the files that are joined, which conflicts with no live job
 pub record IsJoining (h : Held) (p : TablePlan) : Type 0 where
@@ -124,9 +136,11 @@ abbrev pub HasNoJoining : Held → Type 0
 HasNoJoining h = IsSettled h.slots.version h.options.target_size
     ⊎ ((s : Span) × IsJoined h.slots.version h.options.target_size s × HasToWait h s)
 
--- the plan of the files that are joined, or else the chosen one
+-- The chosen plan where it is below level 0; else that of the files that are joined; else the chosen
+-- one.
 abbrev pub IsNext : Held → TablePlan → Type 0
-IsNext h p = IsJoining h p ⊎ (HasNoJoining h × IsChosen h p)
+IsNext h p = (IsChosen h p × (1 ≤ p.level)) ⊎ (HasNoneBelow h × IsJoining h p)
+    ⊎ (HasNoJoining h × IsChosen h p)
 
 abbrev pub HasNoNext : Held → Type 0
 HasNoNext h = HasNoJoining h × HasNoChoice h.slots.version (reserved_jobs h.live)

@@ -1,4 +1,4 @@
-//! What workers reserve: small files are joined before the choice is asked.
+//! What workers reserve: the choice below level 0, then small files that are joined, then the choice.
 
 ghost use Rattle.std.specs.Prelude.{◌≡◌, ◌-◌, ◌^◌, ◌↔◌, false, IfErr, IfNone, IfOk, IfSome, IsTrue};
 ghost use Rattle.std.specs.Prelude.{MatchOption, OnErr, OnOk};
@@ -7,8 +7,8 @@ ghost use Rattle.lsm_picker.specs.Reservations.{IsClear};
 ghost use Rattle.lsm_picker.specs.TablePlans.{StandsIn};
 ghost use Rattle.lsm_live.specs.Reserving.{reserved_jobs};
 ghost use Rattle.lsm_state.specs.Reserving.{HasNoJoining, HasNoNext, HasOrderedInputs, IsJoining};
-ghost use Rattle.lsm_state.specs.Reserving.{IsNext, IsNextRefusal, IsOfMoment, IsReserving};
-ghost use Rattle.lsm_state.specs.Reserving.{plan_in, reserved};
+ghost use Rattle.lsm_state.specs.Reserving.{IsNext, IsNextRefusal, IsOfMoment, IsPlanRefusal};
+ghost use Rattle.lsm_state.specs.Reserving.{IsReserving, plan_in, reserved};
 
 use crate::state::State;
 use crate::state_fault::StateFault;
@@ -20,38 +20,63 @@ use std::alloc::Global;
 
 impl<N: Boarded, S: Shelf> State<N, S> {
     // The plan of the files that are joined; none where nothing can be joined.
+    #[tactic(auto, using(crate::proofs::ReserveLaws::joined_low, crate::proofs::ReserveLaws::range_refused))]
     fn joining_plan(&self, alloc: Global) -> Result<Option<Plan<N, S>>, StateFault>
+        requires open { self.now.halted ≡ false }
         ensures joined { S.honest → IfOk result (λ r.
             MatchOption r (HasNoJoining self.now) (λ p. IsJoining self.now p)) }
         ensures stands { IfOk result (λ r.
             IfSome r (λ p. StandsIn self.now.slots.version p)) }
         ensures clear { IfOk result (λ r.
             IfSome r (λ p. IsClear p (reserved_jobs self.now.live))) }
-        ensures open { OnOk result (self.now.halted ≡ false) }
-        ensures refused { IfErr result (λ e. IsNextRefusal S.honest self.now e) }
+        ensures refused { IfErr result (IsPlanRefusal self.now) }
     {
-        if self.halted {
-            return Err(StateFault::Halted);
-        }
         let version = self.slots.version();
         let Some(span) = span_to_join(&self.registry, version, self.options.target_size) else {
             return Ok(None);
         };
         match self.range_plan(alloc, span.level(), span.from(), span.to()) {
             Ok(plan) => Ok(plan),
-            // A plan that conflicts with a live job has to wait.
-            Err(StateFault::Conflict(_)) => Ok(None),
-            Err(fault) => Err(fault),
+            Err(fault) => match fault {
+                // A plan that conflicts with a live job has to wait.
+                StateFault::Conflict(_) => Ok(None),
+                _ => Err(fault),
+            },
         }
     }
 
-    /// Reserves the next compaction of a worker: that of the files that are joined
-    /// (`lsm_picker::span_to_join`), so that small files become larger ones; where nothing can be
-    /// joined, as where a live job is in the way, the chosen one, as `reserve` does. None exactly
-    /// where there is neither; then nothing changes.
+    // The plan of a worker's next compaction; none where there is none.
+    #[tactic(auto, using(crate::proofs::ReserveLaws::next_unchosen, crate::proofs::ReserveLaws::next_joined, crate::proofs::ReserveLaws::next_chosen))]
+    fn next_plan(&self, alloc: Global) -> Result<Option<Plan<N, S>>, StateFault>
+        ensures next { S.honest → IfOk result (λ r.
+            MatchOption r (HasNoNext self.now) (λ p. IsNext self.now p)) }
+        ensures stands { IfOk result (λ r.
+            IfSome r (λ p. StandsIn self.now.slots.version p)) }
+        ensures clear { IfOk result (λ r.
+            IfSome r (λ p. IsClear p (reserved_jobs self.now.live))) }
+        ensures open { OnOk result (self.now.halted ≡ false) }
+        ensures refused { IfErr result (IsPlanRefusal self.now) }
+    {
+        let Some(chosen) = self.chosen_plan(alloc)? else {
+            return self.joining_plan(alloc);
+        };
+        if chosen.level() > 0 {
+            return Ok(Some(chosen));
+        }
+        match self.joining_plan(alloc)? {
+            Some(plan) => Ok(Some(plan)),
+            None => Ok(Some(chosen)),
+        }
+    }
+
+    /// Reserves the next compaction of a worker: the chosen one, as `reserve` does, where that is
+    /// below level 0; else that of the files that are joined (`lsm_picker::span_to_join`), so that
+    /// small files become larger ones; and where nothing can be joined, as where a live job is in
+    /// the way, the chosen one. None exactly where there is neither; then nothing changes.
     ///
     /// `Halted` where the state is halted; `NumbersSpent` in place of a job whose ticket would be
     /// 2^64 - 1; `OutOfMemory`. A refusal leaves the state as it was.
+    #[tactic(auto, using(crate::proofs::ReserveLaws::closed_next, crate::proofs::ReserveLaws::refused_next, crate::proofs::ReserveLaws::plan_unfit))]
     pub fn reserve_next(&mut self, alloc: Global) -> Result<Option<Job<N, S>>, StateFault>
         ensures next { S.honest → IfOk result (λ r.
             MatchOption r (HasNoNext self.old) (λ w. IsNext self.old (plan_in w))) }
@@ -68,8 +93,8 @@ impl<N: Boarded, S: Shelf> State<N, S> {
         ensures err { OnErr result (self.new ≡ self.old) }
         ensures refused { IfErr result (λ e. IsNextRefusal S.honest self.old e) }
     {
-        let Some(plan) = self.joining_plan(alloc)? else {
-            return self.reserve(alloc);
+        let Some(plan) = self.next_plan(alloc)? else {
+            return Ok(None);
         };
         let version = self.slots.version();
         let moves = is_move(&self.registry, version, &plan, self.options.target_size);

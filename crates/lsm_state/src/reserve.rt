@@ -8,7 +8,7 @@ ghost use Rattle.lsm_picker.specs.Reservations.{IsClear};
 ghost use Rattle.lsm_picker.specs.TablePlans.{StandsIn, tables_over};
 ghost use Rattle.lsm_live.specs.Reserving.{reserved_jobs};
 ghost use Rattle.lsm_state.specs.Reserving.{HasOrderedInputs, IsChosen, IsClosedPlan, IsOfMoment};
-ghost use Rattle.lsm_state.specs.Reserving.{IsPlanAt, IsRangePlan, IsRangeRefusal};
+ghost use Rattle.lsm_state.specs.Reserving.{IsPlanAt, IsPlanRefusal, IsRangePlan, IsRangeRefusal};
 ghost use Rattle.lsm_state.specs.Reserving.{IsReserveRefusal, IsReserving, plan_in, reserved};
 ghost use Rattle.lsm_state.specs.declared.state_fault.StateFault.TheVariants.{NumbersSpent};
 ghost use Rattle.lsm_state.specs.declared.state_fault.StateFault.TheVariants.{OutOfMemory};
@@ -108,11 +108,32 @@ impl<N: Boarded, S: Shelf> State<N, S> {
         Ok(job)
     }
 
+    // The chosen plan; none where there is no choice.
+    #[tactic(auto, using(crate::proofs::ReserveLaws::chosen_of))]
+    pub(crate) fn chosen_plan(&self, alloc: Global) -> Result<Option<Plan<N, S>>, StateFault>
+        ensures chosen { S.honest → IfOk result (λ r.
+            MatchOption r (HasNoChoice self.now.slots.version (reserved_jobs self.now.live)) (λ p.
+            IsChosen self.now p)) }
+        ensures stands { IfOk result (λ r.
+            IfSome r (λ p. StandsIn self.now.slots.version p)) }
+        ensures clear { IfOk result (λ r.
+            IfSome r (λ p. IsClear p (reserved_jobs self.now.live))) }
+        ensures open { OnOk result (self.now.halted ≡ false) }
+        ensures refused { IfErr result (IsPlanRefusal self.now) }
+    {
+        if self.halted {
+            return Err(StateFault::Halted);
+        }
+        let reservations = self.live.reservations(alloc, &self.registry)?;
+        Ok(choose(alloc, &self.registry, self.slots.version(), &reservations)?)
+    }
+
     /// Reserves the next compaction: the job of the chosen plan, under the next ticket. None
     /// exactly where there is no choice; then nothing changes.
     ///
     /// `Halted` where the state is halted; `NumbersSpent` in place of a job whose ticket would be
     /// 2^64 - 1; `OutOfMemory`. A refusal leaves the state as it was.
+    #[tactic(auto, using(crate::proofs::ReserveLaws::plan_refused))]
     pub fn reserve(&mut self, alloc: Global) -> Result<Option<Job<N, S>>, StateFault>
         ensures choice { S.honest → IfOk result (λ r.
             MatchOption r (HasNoChoice self.old.slots.version (reserved_jobs self.old.live)) (λ w.
@@ -130,14 +151,10 @@ impl<N: Boarded, S: Shelf> State<N, S> {
         ensures err { OnErr result (self.new ≡ self.old) }
         ensures refused { IfErr result (λ e. IsReserveRefusal S.honest self.old e) }
     {
-        if self.halted {
-            return Err(StateFault::Halted);
-        }
-        let reservations = self.live.reservations(alloc, &self.registry)?;
-        let version = self.slots.version();
-        let Some(plan) = choose(alloc, &self.registry, version, &reservations)? else {
+        let Some(plan) = self.chosen_plan(alloc)? else {
             return Ok(None);
         };
+        let version = self.slots.version();
         let moves = is_move(&self.registry, version, &plan, self.options.target_size);
         Ok(Some(self.book(alloc, plan, moves)?))
     }
@@ -162,6 +179,7 @@ impl<N: Boarded, S: Shelf> State<N, S> {
         ensures open { OnOk result ((self.now.halted ≡ false) × (level ≤ 5)) }
         ensures refused { IfErr result (λ e.
             IsRangeRefusal S.honest self.now level from.now to.now e) }
+        ensures unspent { IfErr result (λ e. e ≡ NumbersSpent → ⊥) }
     {
         if self.halted {
             return Err(StateFault::Halted);

@@ -6,3 +6,5 @@ pub mod Readers
 pub mod WorkerFault
 pub mod Workers
 pub mod Working
+-- What private functions and proofs cite alone
+pub mod Picking

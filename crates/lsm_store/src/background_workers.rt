@@ -10,6 +10,7 @@ use crate::drawing::draw_for_all;
 use crate::gate::Gate;
 use crate::invariant::Invariant;
 use crate::number_service::NumberService;
+use crate::picks::Picks;
 use crate::store::Store;
 use crate::worker_end::WorkerEnd;
 use crate::worker_thread::{Returned, Thread};
@@ -40,8 +41,8 @@ fn start_drawing<'s, 'e, N: Boarded, S: Shelf, K: Invariant, R: Threads + Wait +
     thread.is_ok()
 }
 
-/// Runs a worker for each shelf beside the body, and a thread that draws numbers for them; there is
-/// room for threads and for what comes back.
+/// Runs a worker for each shelf beside the body, which joins small files too, and a thread that
+/// draws numbers for them; there is room for threads and for what comes back.
 fn run_beside<
     N: Boarded,
     S: Shelf,
@@ -76,6 +77,8 @@ fn run_beside<
     let service = &service;
     let background = Background::of(shelves.len());
     let background = &background;
+    let picks = Picks::Joining;
+    let picks = &picks;
     thread::scope(
         thread::scope_env(),
         rt,
@@ -99,7 +102,7 @@ fn run_beside<
             }
             let bell = &background.bell;
             let threads = start_all(
-                scope, rt, alloc, store, service, bell, shelves, gate, threads,
+                scope, rt, alloc, store, service, bell, shelves, gate, picks, threads,
             );
             let answer = body(background);
             bell.close(rt);
@@ -112,10 +115,11 @@ fn run_beside<
 /// body answered, and what each worker has done, with its shelf, in the order of the shelves. These
 /// are forks of the store's, of any number; 1 to 8 are meant.
 ///
-/// Each worker has a thread of its own, in which it reserves under the lock, merges outside it, and
-/// installs under it; before each merge the gate is told. Where nothing is left to reserve it
-/// sleeps, until it is woken (`Background::wake`) or another worker has installed a result. One
-/// more thread draws the numbers of the outputs under the lock.
+/// Each worker has a thread of its own, in which it reserves under the lock what comes next, so that
+/// small files are joined (`State::reserve_next`), merges outside it, and installs under it; before
+/// each merge the gate is told. Where nothing is left to reserve it sleeps, until it is woken
+/// (`Background::wake`) or another worker has installed a result. One more thread draws the numbers
+/// of the outputs under the lock.
 ///
 /// The body runs in the thread of the caller, and is lent the workers. Once it has answered, each
 /// worker ends after the merge at hand, and all threads are joined. A body after which nothing

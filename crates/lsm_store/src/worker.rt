@@ -3,6 +3,8 @@
 ghost use Rattle.std.specs.Prelude.{◌≡◌, IfErr, IfOk, MatchBool, OnOk, Some};
 ghost use Rattle.lsm_live.specs.Booked.{HasTicket, without};
 ghost use Rattle.lsm_store.specs.Compacting.{IsCompactingStep, IsKeptByCompaction};
+ghost use Rattle.lsm_store.specs.Picking.{IsBooked, IsManual, IsPicked, IsPickedUnder};
+ghost use Rattle.lsm_store.specs.declared.picks.Picks.TheVariants.{Choice, Joining};
 ghost use Rattle.lsm_store.specs.Workers.{IsOfInstalling, IsOfReserving, IsOfTurn, IsWorkersEnd};
 ghost use Rattle.lsm_store.specs.Working.{IsLast, IsTaken, IsTurn, IsUntaken, IsWorked};
 ghost use Rattle.lsm_store.specs.Working.{LeavesOut, TakesIn};
@@ -10,7 +12,9 @@ ghost use Rattle.lsm_store.specs.Working.{LeavesOut, TakesIn};
 use crate::bell::Bell;
 use crate::gate::Gate;
 use crate::invariant::Invariant;
+use crate::manual_compaction::ManualCompaction;
 use crate::number_service::NumberService;
+use crate::picks::Picks;
 use crate::store::Store;
 use crate::ticket_numbers::TicketNumbers;
 use crate::worker_end::WorkerEnd;
@@ -22,12 +26,14 @@ use lsm_table::{NamedShelf, Registry, Shelf};
 use std::alloc::{AllocError, Global};
 use std::sync::{Arc, Wait};
 
-/// The next job of the state; none where there is no choice.
+/// The job of the chosen compaction; none where there is no choice.
 #[tactic(auto, using(crate::proofs::CompactingLaws::step_none))]
-fn next_job<N: Boarded, S: Shelf>(
+fn chosen_job<N: Boarded, S: Shelf>(
     state: &mut State<N, S>,
     alloc: Global,
 ) -> Result<Option<Job<N, S>>, StateFault>
+    ensures next { S.honest → IfOk result (λ r. IsPicked Choice state.old r) }
+    ensures booked { IfOk result (λ r. IsBooked r state.old state.new) }
     ensures step { IsCompactingStep S.honest state.old state.new }
     ensures refused { IfErr result IsOfReserving }
 {
@@ -38,16 +44,73 @@ fn next_job<N: Boarded, S: Shelf>(
     }
 }
 
-/// The next job, which the state reserves under the lock; none where there is no choice.
+/// The job that comes next, where small files are joined; none where there is none.
+#[tactic(auto, using(crate::proofs::CompactingLaws::step_none))]
+fn joining_job<N: Boarded, S: Shelf>(
+    state: &mut State<N, S>,
+    alloc: Global,
+) -> Result<Option<Job<N, S>>, StateFault>
+    ensures next { S.honest → IfOk result (λ r. IsPicked Joining state.old r) }
+    ensures booked { IfOk result (λ r. IsBooked r state.old state.new) }
+    ensures step { IsCompactingStep S.honest state.old state.new }
+    ensures refused { IfErr result IsOfReserving }
+{
+    match state.reserve_next(alloc) {
+        Ok(Some(job)) => Ok(Some(job)),
+        Ok(None) => Ok(None),
+        Err(fault) => Err(fault),
+    }
+}
+
+/// The job of a range of keys; none where no file of it can be reserved.
+#[tactic(auto, using(crate::proofs::CompactingLaws::step_none))]
+fn manual_job<N: Boarded, S: Shelf>(
+    state: &mut State<N, S>,
+    alloc: Global,
+    manual: &ManualCompaction,
+) -> Result<Option<Job<N, S>>, StateFault>
+    ensures next { S.honest → IfOk result (λ r. IsManual manual.now state.old r) }
+    ensures booked { IfOk result (λ r. IsBooked r state.old state.new) }
+    ensures step { IsCompactingStep S.honest state.old state.new }
+    ensures refused { IfErr result IsOfReserving }
+{
+    match manual.reserve(state, alloc) {
+        Ok(Some(job)) => Ok(Some(job)),
+        Ok(None) => Ok(None),
+        Err(fault) => Err(fault),
+    }
+}
+
+/// The job that the state has for a worker; none where there is none.
+fn next_job<N: Boarded, S: Shelf>(
+    state: &mut State<N, S>,
+    alloc: Global,
+    picks: &Picks,
+) -> Result<Option<Job<N, S>>, StateFault>
+    ensures next { S.honest → IfOk result (λ r. IsPicked picks.now state.old r) }
+    ensures booked { IfOk result (λ r. IsBooked r state.old state.new) }
+    ensures step { IsCompactingStep S.honest state.old state.new }
+    ensures refused { IfErr result IsOfReserving }
+{
+    match picks {
+        Picks::Choice => chosen_job(state, alloc),
+        Picks::Joining => joining_job(state, alloc),
+        Picks::Manual(manual) => manual_job(state, alloc, manual),
+    }
+}
+
+/// The job that the state reserves for a worker under the lock; none where there is none.
 fn reserve<N: Boarded, S: Shelf, K: Invariant, R: Wait>(
     rt: &R,
     alloc: Global,
     store: &Store<N, S, K>,
+    picks: &Picks,
 ) -> Result<Option<Job<N, S>>, StateFault>
     requires kept { IsKeptByCompaction S.honest K.keeps }
-    ensures { IfErr result IsOfReserving }
+    ensures next { S.honest → IfOk result (IsPickedUnder K.keeps picks.now) }
+    ensures refused { IfErr result IsOfReserving }
 {
-    next_job(&mut store.lock(rt).state, alloc)
+    next_job(&mut store.lock(rt).state, alloc, picks)
 }
 
 /// Puts the result into the state. A refused one is let go.
@@ -147,6 +210,7 @@ fn turn<N: Boarded, S: Shelf, K: Invariant, G: Gate, R: Wait>(
     shelf: &mut NamedShelf<N, S>,
     gate: &G,
     worker: usize,
+    picks: &Picks,
 ) -> Result<bool, WorkerFault>
     requires kept { IsKeptByCompaction S.honest K.keeps }
     ensures refused { IfErr result (IsOfTurn S.honest) }
@@ -155,7 +219,7 @@ fn turn<N: Boarded, S: Shelf, K: Invariant, G: Gate, R: Wait>(
     ensures last { IfErr result (λ e.
         IsLast S.honest (S.refuses N.place) K.keeps (Some e) shelf.old shelf.new) }
 {
-    let job = match reserve(rt, alloc, store) {
+    let job = match reserve(rt, alloc, store, picks) {
         Ok(Some(job)) => job,
         Ok(None) => return Ok(false),
         Err(fault) => return Err(WorkerFault::State(fault)),
@@ -190,6 +254,7 @@ pub(crate) fn work<N: Boarded, S: Shelf, K: Invariant, G: Gate, R: Wait>(
     shelf: &mut NamedShelf<N, S>,
     gate: &G,
     worker: usize,
+    picks: &Picks,
 ) -> WorkerEnd
     requires kept { IsKeptByCompaction S.honest K.keeps }
     ensures end { IsWorkersEnd S.honest result }
@@ -209,7 +274,9 @@ pub(crate) fn work<N: Boarded, S: Shelf, K: Invariant, G: Gate, R: Wait>(
                 fault: None,
             };
         };
-        match turn(rt, alloc, store, &registry, service, shelf, gate, worker) {
+        match turn(
+            rt, alloc, store, &registry, service, shelf, gate, worker, picks,
+        ) {
             Ok(true) => {
                 installed = installed.saturating_add(1);
                 bell.ring(rt);

@@ -11,6 +11,7 @@ use crate::drawing::draw_for_all;
 use crate::gate::Gate;
 use crate::invariant::Invariant;
 use crate::number_service::NumberService;
+use crate::picks::Picks;
 use crate::store::Store;
 use crate::worker::work;
 use crate::worker_end::WorkerEnd;
@@ -34,6 +35,7 @@ fn start<'s, 'e, N: Boarded, S: Shelf, K: Invariant, G: Gate + Sync, R: Threads 
     shelf: NamedShelf<N, S>,
     gate: &'e G,
     worker: usize,
+    picks: &'e Picks,
 ) -> Thread<N, S, K>
     requires kept { IsKeptByCompaction S.honest K.keeps }
     ensures given { result.given.value ≡ shelf }
@@ -48,7 +50,9 @@ fn start<'s, 'e, N: Boarded, S: Shelf, K: Invariant, G: Gate + Sync, R: Threads 
             ensures worked { IsWorked S.honest (S.refuses N.place) K.keeps shelf result.0 result.1 }
         {
             let mut shelf = shelf;
-            let end = work(rt, alloc, store, service, bell, &mut shelf, gate, worker);
+            let end = work(
+                rt, alloc, store, service, bell, &mut shelf, gate, worker, picks,
+            );
             service.leave(rt);
             bell.leave(rt);
             (end, shelf)
@@ -82,6 +86,7 @@ pub(crate) fn start_all<
     bell: &'e Bell,
     shelves: Vec<NamedShelf<N, S>>,
     gate: &'e G,
+    picks: &'e Picks,
     threads: Vec<Thread<N, S, K>>,
 ) -> Vec<Thread<N, S, K>>
     requires kept { IsKeptByCompaction S.honest K.keeps }
@@ -94,7 +99,9 @@ pub(crate) fn start_all<
     let mut threads = threads;
     while let Some(shelf) = shelves.pop() {
         let worker = shelves.len();
-        let thread = start(scope, rt, alloc, store, service, bell, shelf, gate, worker);
+        let thread = start(
+            scope, rt, alloc, store, service, bell, shelf, gate, worker, picks,
+        );
         let Ok(()) = threads.push(thread) else {
             unreachable!()
         };
@@ -154,6 +161,7 @@ fn run_all<N: Boarded, S: Shelf, K: Invariant, G: Gate + Sync, R: Threads + Wait
     store: &Store<N, S, K>,
     shelves: Vec<NamedShelf<N, S>>,
     gate: &G,
+    picks: &Picks,
     threads: Vec<Thread<N, S, K>>,
     returned: Vec<Returned<N, S>>,
 ) -> Vec<Returned<N, S>>
@@ -183,7 +191,7 @@ fn run_all<N: Boarded, S: Shelf, K: Invariant, G: Gate + Sync, R: Threads + Wait
             ensures len { vec_len result ≡ vec_len shelves }
         {
             let threads = start_all(
-                scope, rt, alloc, store, service, bell, shelves, gate, threads,
+                scope, rt, alloc, store, service, bell, shelves, gate, picks, threads,
             );
             draw_for_all(rt, store, service);
             join_all(rt, threads, returned)
@@ -191,10 +199,38 @@ fn run_all<N: Boarded, S: Shelf, K: Invariant, G: Gate + Sync, R: Threads + Wait
     )
 }
 
-/// Compacts with one worker for each shelf, each in a thread of its own, until none of them finds
-/// anything left to reserve; answers what each has done, with its shelf, in the order of the
-/// shelves. These are forks of the store's, of any number; 1 to 8 are meant. The caller holds no
-/// guard of the store: this thread draws under the lock, and would wait for itself.
+/// As `run_workers_returning`, but each worker takes what is picked (`Picks`). Those that compact a
+/// range end where no file of it is left at its levels, or all that is left waits for a live job; a
+/// deletion with nothing below it goes, but where a snapshot needs it.
+pub fn run_workers_by<N: Boarded, S: Shelf, K: Invariant, G: Gate + Sync, R: Threads + Wait + Sync>(
+    rt: &R,
+    alloc: Global,
+    store: &Store<N, S, K>,
+    shelves: Vec<NamedShelf<N, S>>,
+    gate: &G,
+    picks: &Picks,
+) -> Result<Vec<Returned<N, S>>, AllocFailed<Vec<NamedShelf<N, S>>>>
+    requires kept { IsKeptByCompaction S.honest K.keeps }
+    ensures len { IfOk result (λ v. vec_len v ≡ vec_len shelves) }
+    ensures ends { IfOk result (λ v. All (λ r. IsWorkersEnd S.honest r.0) v.items) }
+    ensures returned { IfOk result (λ v.
+        AreReturned S.honest (S.refuses N.place) K.keeps shelves.items v.items) }
+    ensures back { IfErr result (λ e. e.value ≡ shelves) }
+{
+    let Ok(returned) = Vec::with_capacity(alloc, shelves.len()) else {
+        return Err(AllocFailed { value: shelves });
+    };
+    let Ok(threads) = Vec::with_capacity(alloc, shelves.len()) else {
+        return Err(AllocFailed { value: shelves });
+    };
+    Ok(run_all(rt, alloc, store, shelves, gate, picks, threads, returned))
+}
+
+/// Compacts with one worker for each shelf, each in a thread of its own, as the state chooses
+/// (`State::reserve`), until none of them finds anything left to reserve; answers what each has
+/// done, with its shelf, in the order of the shelves. These are forks of the store's, of any number;
+/// 1 to 8 are meant. The caller holds no guard of the store: this thread draws under the lock, and
+/// would wait for itself.
 ///
 /// A worker reserves under the lock, merges outside it, and installs under it. The numbers of its
 /// outputs are drawn under the lock too, by this thread. At a fault it cancels its ticket and ends,
@@ -225,13 +261,7 @@ pub fn run_workers_returning<
         AreReturned S.honest (S.refuses N.place) K.keeps shelves.items v.items) }
     ensures back { IfErr result (λ e. e.value ≡ shelves) }
 {
-    let Ok(returned) = Vec::with_capacity(alloc, shelves.len()) else {
-        return Err(AllocFailed { value: shelves });
-    };
-    let Ok(threads) = Vec::with_capacity(alloc, shelves.len()) else {
-        return Err(AllocFailed { value: shelves });
-    };
-    Ok(run_all(rt, alloc, store, shelves, gate, threads, returned))
+    run_workers_by(rt, alloc, store, shelves, gate, &Picks::Choice)
 }
 
 /// As `run_workers_returning`, and the shelves are let go.

@@ -4,14 +4,13 @@ ghost use Rattle.std.specs.Prelude.{◌≡◌, ◌≢◌, IsFalse, OnErr, OnOk};
 ghost use Rattle.std.specs.Io.KnownBytes.{Keeps};
 ghost use Rattle.lsm_cmd_compact.specs.Compacting.{IsCompacted, IsNotCompacted};
 ghost use Rattle.lsm_cmd_compact.specs.Compacted.{IsCompactedAt, IsUncompacted};
-ghost use Rattle.lsm_cmd_compact.specs.declared.compact_fault.CompactFault.{CompactFault};
+ghost use Rattle.lsm_opening.specs.declared.faults.compact_fault.CompactFault.{CompactFault};
 ghost use Rattle.lsm_shelf.specs.Stored.{Stored};
 
-use crate::compact_fault::CompactFault;
 use crate::compacting::compact_to;
-use crate::compacting::opening::held_shelf;
 use lsm_directory::{Known, Paths, open_at, refuse, status_of};
 use lsm_folder::{FolderCalls, Reasons};
+use lsm_opening::{CompactFault, held_shelf};
 use lsm_requests::{CompactLine, CompactOptions};
 use lsm_table::Shelf;
 use std::alloc::Global;
@@ -21,6 +20,7 @@ use std::thread::Threads;
 
 /// Opens the database on the shelf, compacts it by so many workers (1 to 8 are meant), each in a
 /// thread of its own with a fork of the shelf, until none of them finds anything left to do,
+/// or, where a range is asked for, no file of it is left but below the deepest level that had one;
 /// removes the tables that nothing names any more, writes `installed M`, and answers the exit
 /// status: 0 where it is done, and 1 where it is refused. A fault is one line on `err`: that of the
 /// first worker, in their order, that has one, and then nothing is removed; else what refused the
@@ -37,18 +37,18 @@ pub fn compact<S: Shelf, R: Threads + Wait + Sync, O: Write, E: Write + Send>(
     rt: &R,
     alloc: Global,
     shelf: S,
-    options: CompactOptions,
+    options: &CompactOptions,
     out: &mut O,
     err: &mut E,
 ) -> (u8, S)
     ensures done { result.0 ≡ 0 → IsCompacted (S.refuses (S.told shelf).place) S.honest
-        options.workers (S.told shelf) (S.told result.1) (O.contents out.old)
+        options.now (S.told shelf) (S.told result.1) (O.contents out.old)
         (O.contents out.new) }
     ensures refused { result.0 ≢ 0 → (result.0 ≡ 1) × ((fault : CompactFault)
         × IsNotCompacted (Stored S.Receipt (S.is_of (S.told shelf).place) S.Receipt.number
-        S.Receipt.image) (S.refuses (S.told shelf).place) S.honest options.workers fault
+        S.Receipt.image) (S.refuses (S.told shelf).place) S.honest options.now fault
         (S.told shelf) (S.told result.1) (O.contents out.old) (O.contents out.new)) }
-    ensures quiet { result.0 ≡ 0 → IsFalse options.progress
+    ensures quiet { result.0 ≡ 0 → IsFalse options.now.progress
         → Keeps (E.contents err.old) (E.contents err.new) }
 {
     let (done, shelf) = compact_to(rt, alloc, shelf, options, out, err);
@@ -81,7 +81,7 @@ where
 {
     let folder = open_at(paths, line.path, reasons)?;
     let shelf = held_shelf(rt, folder)?;
-    let (done, _shelf) = compact_to(rt, paths.alloc(), shelf, line.options, out, err);
+    let (done, _shelf) = compact_to(rt, paths.alloc(), shelf, &line.options, out, err);
     done
 }
 

@@ -3,11 +3,11 @@
 ghost use Rattle.std.specs.Prelude.{◌≡◌, ◌⊎◌, ◌≤◌, IfErr, IfOk, IfSome, OnOk, length};
 ghost use Rattle.lsm_cmd_convert.specs.Played.{IsInputFault, IsScriptTextFault, IsInputUnread};
 ghost use Rattle.lsm_script.specs.CommandLine.{IsScript};
-ghost use Rattle.lsm_cmd_write.specs.declared.faults.writer_fault.WriterFault.TheVariants.{OutOfMemory};
-ghost use Rattle.lsm_cmd_write.specs.declared.faults.writer_fault.WriterFault.TheVariants.{Read as ReadFault};
+ghost use Rattle.lsm_opening.specs.declared.faults.writer_fault.WriterFault.TheVariants.{OutOfMemory};
+ghost use Rattle.lsm_opening.specs.declared.faults.writer_fault.WriterFault.TheVariants.{Read as ReadFault};
 
 use crate::playing::watched::Watched;
-use lsm_cmd_write::WriterFault;
+use lsm_opening::WriterFault;
 use lsm_script::{Command, ScriptFault, script_in};
 use lsm_text::{InputFault, read_input};
 use std::alloc::Global;

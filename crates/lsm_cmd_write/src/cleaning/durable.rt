@@ -4,8 +4,8 @@ ghost use Rattle.std.specs.Prelude.{◌≡◌, IfErr, OnOk};
 ghost use Rattle.lsm_cmd_write.specs.Cleaning.{IsDurable, IsUndurable};
 
 use crate::cleaning::refused_by;
-use crate::faults::writer_fault::WriterFault;
 use lsm_folder::FolderCalls;
+use lsm_opening::WriterFault;
 use lsm_storage::manifest_file;
 use std::alloc::Global;
 use std::sync::Wait;

@@ -6,10 +6,9 @@ ghost use Rattle.lsm_codec.specs.Lists.{Has};
 ghost use Rattle.lsm_cmd_write.specs.Cleaning.{HasNone, IsKept, IsSpare, IsUnkept, Needs};
 ghost use Rattle.lsm_shelf.specs.Stored.{Stored};
 
-use crate::faults::writer_fault::WriterFault;
-use crate::names::{is_temporary, manifest_in, table_in};
 use lsm_folder::FolderCalls;
 use lsm_journal::Found;
+use lsm_opening::{WriterFault, is_temporary, manifest_in, table_in};
 use lsm_storage::FileShelf;
 use lsm_table::{NamedShelf, Naming, Records, Registry, Shelf};
 use std::alloc::{AllocError, Global};

@@ -4,12 +4,12 @@ ghost use Rattle.std.specs.Prelude.{◌≡◌, ◌≢◌, IfErr, OnOk};
 ghost use Rattle.std.specs.Io.KnownBytes.{Keeps};
 ghost use Rattle.lsm_cmd_write.specs.Cleaning.{IsCleaned, IsUncleaned};
 ghost use Rattle.lsm_cmd_write.specs.Cleaned.{FailsToClean, IsCleanedAt};
-ghost use Rattle.lsm_cmd_write.specs.declared.faults.writer_fault.WriterFault.{WriterFault};
+ghost use Rattle.lsm_opening.specs.declared.faults.writer_fault.WriterFault.{WriterFault};
 
 use crate::cleaning::clean_folder;
-use crate::faults::writer_fault::WriterFault;
 use lsm_directory::{Known, Paths, open_at, refuse, status_of};
 use lsm_folder::{FolderCalls, Reasons};
+use lsm_opening::WriterFault;
 use std::alloc::Global;
 use std::io::Write;
 use std::sync::Wait;

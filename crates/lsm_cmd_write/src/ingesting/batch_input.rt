@@ -4,8 +4,8 @@ ghost use Rattle.std.specs.Prelude.{◌≤◌, IfErr, IfOk, IfSome, OnOk, length
 ghost use Rattle.lsm_text.specs.BatchText.{IsBatchText};
 ghost use Rattle.lsm_cmd_write.specs.BatchInput.{IsTextFault};
 
-use crate::faults::writer_fault::WriterFault;
 use lsm_batch::Batch;
+use lsm_opening::WriterFault;
 use lsm_text::{BatchTextFault, Form, batch_in, read_input};
 use std::alloc::Global;
 use std::io::Read;

@@ -19,7 +19,7 @@ pub returns-then-is_settled-clause-told : goal.returns-then-is_settled-clause-to
 returns-then-is_settled-clause-told g c = forked_then _ _ _ c.tries.invariant.told c.compact_once.ensures.told
 
 pub returns-then-is_settled-clause-compacted : goal.returns-then-is_settled-clause-compacted
-returns-then-is_settled-clause-compacted g c = compacted_since g.S.Shelf.honest c.args.memory.now c.tries.memory c.compact_once.new.memory c.tries.invariant.known (c.in_ok-is_settled.ensures.settled c.if-is_settled.true)
+returns-then-is_settled-clause-compacted g c = compacted_since g.S.Shelf.honest g.K.Invariant.keeps c.args.memory.now c.tries.memory c.compact_once.new.memory c.tries.invariant.known (c.in_ok-is_settled.ensures.settled c.if-is_settled.true)
 
 pub returns-in_err-is_settled-clause-known : goal.returns-in_err-is_settled-clause-known
 returns-in_err-is_settled-clause-known g c = later_then c.args.memory.now c.tries.memory c.compact_once.new.memory c.tries.invariant.known c.compact_once.ensures.known

@@ -1,6 +1,5 @@
 use Rattle.lsm_directory.proofs.CallerLemmas.{shelf_over}
-use Rattle.lsm_cmd_write.specs.Preparing.{IsPrepared}
-use Rattle.lsm_cmd_bench.specs.Benched.{plainly}
+use Rattle.lsm_opening.specs.Preparing.{IsPrepared, plainly}
 use Rattle.lsm_cmd_bench.proofs.RunLaws.{benches_at}
 use Rattle.lsm_cmd_bench.proofs.program.bench_at.Goals as goal
 
@@ -11,6 +10,6 @@ returns g c =
     let all = benches_at g.C.FolderCalls c.run_on-done.result.0 c.args.path.now c.args.options.now c.in_ok-number.number start logs c.over-shelf.result c.run_on-done.result.1 c.in_ok-number.ensures.begins
     c.in_ok-number.ensures.flushed
     (shelf_over g.C.FolderCalls c.args.path.now (IsPrepared plainly start logs) c.in_ok-folder.folder c.prepare.new.folder c.over-shelf.result c.in_ok-folder.ensures.place
-    c.in_ok-folder.ensures.calls c.in_ok-prepared.ensures.prepared c.prepare.ensures.place c.over-shelf.ensures.folder c.over-shelf.ensures.fresh)
+    c.in_ok-folder.ensures.calls (rw c.plainly.ensures at c.in_ok-prepared.ensures.prepared) c.prepare.ensures.place c.over-shelf.ensures.folder c.over-shelf.ensures.fresh)
     c.run_on-done.ensures in
     record { done = all }

@@ -6,7 +6,8 @@ use Rattle.lsm_shelf.specs.Told.{Place}
 use Rattle.lsm_slots.specs.Slots.{current_id}
 use Rattle.lsm_state.specs.Held.{Held}
 use Rattle.lsm_store.specs.Compacting.{IsLeftByWorkers}
-use Rattle.lsm_cmd_compact.specs.Compacting.{AreEnds, IsNamed, IsOfManning, IsOpened, IsWorkersFault, installed_between, installed_text}
+use Rattle.lsm_cmd_compact.specs.Compacting.{AreEnds, IsNamed, IsOfManning, IsOpened, IsWorkersFault, installed_between}
+use Rattle.lsm_opening.specs.Compactions.{installed_text}
 use Rattle.lsm_cmd_compact.proofs.CompactOutcomes.{compacts, named_still, opens, unfinished, unswept}
 use Rattle.lsm_cmd_compact.proofs.Quiet.{quiet_then}
 use Rattle.lsm_cmd_compact.proofs.compacting.compact_named.Goals as goal
@@ -17,6 +18,16 @@ compact_state-requires-clause-kept g c κs within = c.what_was_found_is_kept.ens
 pub compact_state-requires-clause-steps : goal.compact_state-requires-clause-steps
 compact_state-requires-clause-steps g c κs within = c.what_was_found_is_kept.ensures.kept c.in_ok-state.state
 
+pub returns-in_err-state-clause-fault : goal.returns-in_err-state-clause-fault
+returns-in_err-state-clause-fault g c =
+    let p = err_from_is_err_and c.from_residual.result c.from_residual.ensures.1 in
+    rw (p.1, p.2) (inr (inl (inl (c.in_err-state.field-0.0, refl, c.in_err-state.ensures.refused))))
+
+pub returns-in_err-state-clause-left : goal.returns-in_err-state-clause-left
+returns-in_err-state-clause-left g c =
+    let p = err_from_is_err_and c.from_residual.result c.from_residual.ensures.1 in
+    rw (p.1, p.2) (λ other. keeps_same (g.O.Write.contents c.args.out.now))
+
 pub returns-in_err-left-clause-fault : goal.returns-in_err-left-clause-fault
 returns-in_err-left-clause-fault g c =
     let p = err_from_is_err_and c.from_residual-in_err-left.result c.from_residual-in_err-left.ensures.1 in
@@ -25,8 +36,8 @@ returns-in_err-left-clause-fault g c =
     let found = c.in_ok-state.state in
     let opened : IsOpened g.S.Shelf.honest g.N.Boarded.board found c.args.shelf.now c.compact_state.new.shelf = opens _ _ _ _ c.open.new.shelf _ c.in_ok-state.ensures.opened c.in_ok-state.ensures.board c.in_err-left.ensures.told in
     let e = c.in_err-left.field-0.0 in
-    let stops = subst (λ (at : Place). IsOfManning e ⊎ IsWorkersFault Refused g.S.Shelf.honest (IsLeftByWorkers g.S.Shelf.honest found) at c.args.options.workers e) (sym c.requires.shelf) c.in_err-left.ensures.refused in
-    rw (p.1, p.2) (unfinished Stored Refused g.S.Shelf.honest g.N.Boarded.board found c.args.options.workers e _ _ opened stops)
+    let stops = subst (λ (at : Place). IsOfManning e ⊎ IsWorkersFault Refused g.S.Shelf.honest (IsLeftByWorkers g.S.Shelf.honest found) at c.args.options.now.workers e) (sym c.requires.shelf) c.in_err-left.ensures.refused in
+    rw (p.1, p.2) (unfinished Stored Refused g.S.Shelf.honest g.N.Boarded.board found c.args.options.now e _ _ opened stops)
 
 pub returns-in_err-find_manifest-clause-fault : goal.returns-in_err-find_manifest-clause-fault
 returns-in_err-find_manifest-clause-fault g c =
@@ -38,9 +49,9 @@ returns-in_err-find_manifest-clause-fault g c =
     let found = c.in_ok-state.state in
     let returned = c.in_ok-left._returned.items in
     let opened : IsOpened Honest g.N.Boarded.board found c.args.shelf.now c.compact_state.new.shelf = opens _ _ _ _ c.open.new.shelf _ c.in_ok-state.ensures.opened c.in_ok-state.ensures.board c.in_ok-left.ensures.told in
-    let ends = subst (λ (at : Place). AreEnds Refused Honest (IsLeftByWorkers Honest found) at c.args.options.workers returned) (sym c.requires.shelf) c.in_ok-left.ensures.ends in
+    let ends = subst (λ (at : Place). AreEnds Refused Honest (IsLeftByWorkers Honest found) at c.args.options.now.workers returned) (sym c.requires.shelf) c.in_ok-left.ensures.ends in
     let left : IsLeftByWorkers Honest found c.in_ok-left.left = law.out found c.in_ok-left.left c.in_ok-left.ensures.kept in
-    rw (p.1, p.2) (unswept Stored Refused Honest g.N.Boarded.board found c.in_ok-left.left c.args.options.workers returned c.in_err-find_manifest.field-0.0 _ _ _ opened ends
+    rw (p.1, p.2) (unswept Stored Refused Honest g.N.Boarded.board found c.in_ok-left.left c.args.options.now returned c.in_err-find_manifest.field-0.0 _ _ _ opened ends
     c.in_ok-left.ensures.faultless left (inl c.in_err-find_manifest.ensures.refused))
 
 pub returns-in_err-sweep_all-clause-fault : goal.returns-in_err-sweep_all-clause-fault
@@ -53,11 +64,11 @@ returns-in_err-sweep_all-clause-fault g c =
     let found = c.in_ok-state.state in
     let returned = c.in_ok-left._returned.items in
     let opened : IsOpened Honest g.N.Boarded.board found c.args.shelf.now c.compact_state.new.shelf = opens _ _ _ _ c.open.new.shelf _ c.in_ok-state.ensures.opened c.in_ok-state.ensures.board c.in_ok-left.ensures.told in
-    let ends = subst (λ (at : Place). AreEnds Refused Honest (IsLeftByWorkers Honest found) at c.args.options.workers returned) (sym c.requires.shelf) c.in_ok-left.ensures.ends in
+    let ends = subst (λ (at : Place). AreEnds Refused Honest (IsLeftByWorkers Honest found) at c.args.options.now.workers returned) (sym c.requires.shelf) c.in_ok-left.ensures.ends in
     let after = c.sweep_all.new.state in
     let left : IsLeftByWorkers Honest found after = law.looked found c.in_ok-left.left after (law.out found c.in_ok-left.left c.in_ok-left.ensures.kept) c.in_err-sweep_all.ensures.looked c.in_err-sweep_all.ensures.rest in
     let named : IsNamed after c.compact_state.new.shelf c.find_manifest.new.shelf = named_still c.in_ok-left.left after _ _ c.in_err-sweep_all.ensures.rest c.in_ok-find_manifest.ensures.named in
-    rw (p.1, p.2) (unswept Stored Refused Honest g.N.Boarded.board found after c.args.options.workers returned _ _ _ _ opened ends
+    rw (p.1, p.2) (unswept Stored Refused Honest g.N.Boarded.board found after c.args.options.now returned _ _ _ _ opened ends
     c.in_ok-left.ensures.faultless left (inr (c.in_err-sweep_all.field-0.0, c.find_manifest.new.shelf, refl, named, c.in_err-sweep_all.ensures.refused)))
 
 pub returns-in_err-find_manifest-clause-left : goal.returns-in_err-find_manifest-clause-left
@@ -78,7 +89,7 @@ returns-clause-fault g c =
     let found = c.in_ok-state.state in
     let returned = c.in_ok-left._returned.items in
     let opened : IsOpened Honest g.N.Boarded.board found c.args.shelf.now c.compact_state.new.shelf = opens _ _ _ _ c.open.new.shelf _ c.in_ok-state.ensures.opened c.in_ok-state.ensures.board c.in_ok-left.ensures.told in
-    let ends = subst (λ (at : Place). AreEnds Refused Honest (IsLeftByWorkers Honest found) at c.args.options.workers returned) (sym c.requires.shelf) c.in_ok-left.ensures.ends in
+    let ends = subst (λ (at : Place). AreEnds Refused Honest (IsLeftByWorkers Honest found) at c.args.options.now.workers returned) (sym c.requires.shelf) c.in_ok-left.ensures.ends in
     let after = c.sweep_all.new.state in
     let left : IsLeftByWorkers Honest found after = law.looked found c.in_ok-left.left after (law.out found c.in_ok-left.left c.in_ok-left.ensures.kept) c.in_ok-sweep_all.ensures.looked c.in_ok-sweep_all.ensures.rest in
     let named : IsNamed after c.compact_state.new.shelf c.find_manifest.new.shelf = named_still c.in_ok-left.left after _ _ c.in_ok-sweep_all.ensures.rest c.in_ok-find_manifest.ensures.named in
@@ -91,7 +102,7 @@ returns-clause-fault g c =
       refl,
       (
         c.saturating_sub-installed.result,
-        compacts Refused Honest g.N.Boarded.board found after c.args.options.workers _ returned _ _ _ _ opened ends c.in_ok-left.ensures.faultless left count named
+        compacts Refused Honest g.N.Boarded.board found after c.args.options.now _ returned _ _ _ _ opened ends c.in_ok-left.ensures.faultless c.in_ok-left.ensures.cleared left count named
             c.in_ok-sweep_all.ensures.ok,
       ),
     ))))
@@ -104,7 +115,7 @@ returns-in-Ok-clause-done g c =
     let found = c.in_ok-state.state in
     let returned = c.in_ok-left._returned.items in
     let opened : IsOpened Honest g.N.Boarded.board found c.args.shelf.now c.compact_state.new.shelf = opens _ _ _ _ c.open.new.shelf _ c.in_ok-state.ensures.opened c.in_ok-state.ensures.board c.in_ok-left.ensures.told in
-    let ends = subst (λ (at : Place). AreEnds Refused Honest (IsLeftByWorkers Honest found) at c.args.options.workers returned) (sym c.requires.shelf) c.in_ok-left.ensures.ends in
+    let ends = subst (λ (at : Place). AreEnds Refused Honest (IsLeftByWorkers Honest found) at c.args.options.now.workers returned) (sym c.requires.shelf) c.in_ok-left.ensures.ends in
     let after = c.sweep_all.new.state in
     let left : IsLeftByWorkers Honest found after = law.looked found c.in_ok-left.left after (law.out found c.in_ok-left.left c.in_ok-left.ensures.kept) c.in_ok-sweep_all.ensures.looked c.in_ok-sweep_all.ensures.rest in
     let named : IsNamed after c.compact_state.new.shelf c.find_manifest.new.shelf = named_still c.in_ok-left.left after _ _ c.in_ok-sweep_all.ensures.rest c.in_ok-find_manifest.ensures.named in
@@ -115,18 +126,18 @@ returns-in-Ok-clause-done g c =
     let count : c.saturating_sub-installed.result ≡ installed_between found after = cc in
     let written : Appends (g.O.Write.contents c.args.out.now) (g.O.Write.contents c.reply.new.out) (installed_text c.saturating_sub-installed.result) = search rules in (
       c.saturating_sub-installed.result,
-      compacts Refused Honest g.N.Boarded.board found after c.args.options.workers _ returned _ _ _ _ opened ends c.in_ok-left.ensures.faultless left count named
+      compacts Refused Honest g.N.Boarded.board found after c.args.options.now _ returned _ _ _ _ opened ends c.in_ok-left.ensures.faultless c.in_ok-left.ensures.cleared left count named
           c.in_ok-sweep_all.ensures.ok,
       written,
     )
 
 pub returns-in_err-left-clause-quiet : goal.returns-in_err-left-clause-quiet
 returns-in_err-left-clause-quiet g c =
-    quiet_then c.args.options.progress _ (g.E.Write.contents c.tell_opened.new.err) _ c.tell_opened.ensures.quiet c.in_err-left.ensures.quiet
+    quiet_then c.args.options.now.progress _ (g.E.Write.contents c.tell_opened.new.err) _ c.tell_opened.ensures.quiet c.in_err-left.ensures.quiet
 
 pub returns-in_err-find_manifest-clause-quiet : goal.returns-in_err-find_manifest-clause-quiet
 returns-in_err-find_manifest-clause-quiet g c =
-    let asked = c.args.options.progress in
+    let asked = c.args.options.now.progress in
     let worked = g.E.Write.contents c.compact_state.new.err in
     let told = g.E.Write.contents c.tell_installed.new.err in
     let first = quiet_then asked _ (g.E.Write.contents c.tell_opened.new.err) worked c.tell_opened.ensures.quiet c.in_ok-left.ensures.quiet in
@@ -135,7 +146,7 @@ returns-in_err-find_manifest-clause-quiet g c =
 
 pub returns-in_err-sweep_all-clause-quiet : goal.returns-in_err-sweep_all-clause-quiet
 returns-in_err-sweep_all-clause-quiet g c =
-    let asked = c.args.options.progress in
+    let asked = c.args.options.now.progress in
     let worked = g.E.Write.contents c.compact_state.new.err in
     let told = g.E.Write.contents c.tell_installed.new.err in
     let first = quiet_then asked _ (g.E.Write.contents c.tell_opened.new.err) worked c.tell_opened.ensures.quiet c.in_ok-left.ensures.quiet in
@@ -144,7 +155,7 @@ returns-in_err-sweep_all-clause-quiet g c =
 
 pub returns-clause-quiet : goal.returns-clause-quiet
 returns-clause-quiet g c =
-    let asked = c.args.options.progress in
+    let asked = c.args.options.now.progress in
     let worked = g.E.Write.contents c.compact_state.new.err in
     let told = g.E.Write.contents c.tell_installed.new.err in
     let first = quiet_then asked _ (g.E.Write.contents c.tell_opened.new.err) worked c.tell_opened.ensures.quiet c.in_ok-left.ensures.quiet in
@@ -153,7 +164,7 @@ returns-clause-quiet g c =
 
 pub returns-in-Ok-clause-quiet : goal.returns-in-Ok-clause-quiet
 returns-in-Ok-clause-quiet g c =
-    let asked = c.args.options.progress in
+    let asked = c.args.options.now.progress in
     let worked = g.E.Write.contents c.compact_state.new.err in
     let told = g.E.Write.contents c.tell_installed.new.err in
     let first = quiet_then asked _ (g.E.Write.contents c.tell_opened.new.err) worked c.tell_opened.ensures.quiet c.in_ok-left.ensures.quiet in

@@ -1,5 +1,5 @@
 use Rattle.lsm_directory.proofs.CallerLemmas.{shelf_over}
-use Rattle.lsm_cmd_write.specs.Preparing.{IsPrepared}
+use Rattle.lsm_opening.specs.Preparing.{IsPrepared}
 use Rattle.lsm_cmd_load.proofs.RunLaws.{fails_to_load, loads_at}
 use Rattle.lsm_cmd_load.proofs.program.load_at.Goals as goal
 

@@ -1,11 +1,11 @@
 use Rattle.lsm_cmd_shell.proofs.conversing.converse.Given as goal
 
--- the name stands for the records, the board and the history that were just made, and for the contents of the shelf
+-- the name stands for the parts that were just made, and for the contents of the shelf
 abbrev pub ghosts-converse_as-N-Boarded : goal.ghosts-converse_as-N-Boarded
-ghosts-converse_as-N-Boarded g a = record { board = a.parts.publisher.board }
+ghosts-converse_as-N-Boarded g a = record { board = a.parts.board }
 
 abbrev pub ghosts-converse_as-N-Naming : goal.ghosts-converse_as-N-Naming
-ghosts-converse_as-N-Naming g a = record { registry = a.parts.records; place = (g.S.Shelf.told a.shelf).place }
+ghosts-converse_as-N-Naming g a = record { registry = a.parts.registry; place = (g.S.Shelf.told a.shelf).place }
 
 abbrev pub ghosts-converse_as-N-Historied : goal.ghosts-converse_as-N-Historied
-ghosts-converse_as-N-Historied g a = record { history = a.parts.history.table.shared.table_id }
+ghosts-converse_as-N-Historied g a = record { history = a.parts.history }

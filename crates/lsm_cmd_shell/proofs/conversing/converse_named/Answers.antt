@@ -6,8 +6,8 @@ use Rattle.lsm_state.specs.Held.{Held}
 use Rattle.lsm_text.specs.declared.form.Form.{Form}
 use Rattle.lsm_directory.specs.declared.folder.folder_file.FolderFile.{FolderFile}
 use Rattle.lsm_script.specs.Steps.{OnDesk, Stage, clear, stage}
-use Rattle.lsm_cmd_write.specs.Starting.{IsStarted}
-use Rattle.lsm_cmd_write.specs.declared.ingesting.start.Start.{Start}
+use Rattle.lsm_opening.specs.Starting.{IsStarted}
+use Rattle.lsm_opening.specs.declared.prepared.Start.{Start}
 use Rattle.lsm_cmd_shell.specs.Conversing.{Converses}
 use Rattle.lsm_cmd_shell.specs.Talk.{IsTalk}
 use Rattle.lsm_cmd_shell.specs.declared.talk_fault.TalkFault.{TalkFault}
@@ -26,12 +26,12 @@ converses honest start logs form input r was mid old new state desk last started
 }
 
 pub returns-in-Err-new-clause-fault : goal.returns-in-Err-new-clause-fault
-returns-in-Err-new-clause-fault g c = inl (refl, Keeps-refl _, inr (c.in-Ok-start.state, c.in-Ok-start.ensures.started))
+returns-in-Err-new-clause-fault g c = inl (refl, Keeps-refl _, inr (c.in-Ok.state, c.in-Ok.ensures.started))
 
 pub returns-in-Ok-talk-clause-done : goal.returns-in-Ok-talk-clause-done
 returns-in-Ok-talk-clause-done g c =
     converses g.S.Shelf.honest c.args.prepared.now.start c.args.prepared.now.logs.items c.args.form c.args.lines.now.left (Ok tt) c.args.shelf.now c.start.new.shelf (g.O.Write.contents c.args.out.now)
-    (g.O.Write.contents c.talk.new.out) c.in-Ok-start.state c.in-Ok-new.desk (stage c.talk.new.state c.talk.new.desk c.talk.new.shelf) c.in-Ok-start.ensures.started c.in-Ok-new.ensures.clear
+    (g.O.Write.contents c.talk.new.out) c.in-Ok.state c.in-Ok-new.desk (stage c.talk.new.state c.talk.new.desk c.talk.new.shelf) c.in-Ok.ensures.started c.in-Ok-new.ensures.clear
     (rw c.in-Ok-talk.is at c.talk.ensures.talk)
 
 pub returns-in-Err-Read-clause-fault : goal.returns-in-Err-Read-clause-fault
@@ -40,7 +40,7 @@ returns-in-Err-Read-clause-fault g c =
     inr (inr (inl (
       refl,
       converses g.S.Shelf.honest c.args.prepared.now.start c.args.prepared.now.logs.items c.args.form c.args.lines.now.left (Err Read) c.args.shelf.now c.start.new.shelf (g.O.Write.contents c.args.out.now)
-          (g.O.Write.contents c.talk.new.out) c.in-Ok-start.state c.in-Ok-new.desk (stage c.talk.new.state c.talk.new.desk c.talk.new.shelf) c.in-Ok-start.ensures.started c.in-Ok-new.ensures.clear talk,
+          (g.O.Write.contents c.talk.new.out) c.in-Ok.state c.in-Ok-new.desk (stage c.talk.new.state c.talk.new.desk c.talk.new.shelf) c.in-Ok.ensures.started c.in-Ok-new.ensures.clear talk,
     )))
 
 pub returns-clause-fault : goal.returns-clause-fault
@@ -49,5 +49,5 @@ returns-clause-fault g c =
     inr (inr (inr (
       refl,
       converses g.S.Shelf.honest c.args.prepared.now.start c.args.prepared.now.logs.items c.args.form c.args.lines.now.left (Err Write) c.args.shelf.now c.start.new.shelf (g.O.Write.contents c.args.out.now)
-          (g.O.Write.contents c.talk.new.out) c.in-Ok-start.state c.in-Ok-new.desk (stage c.talk.new.state c.talk.new.desk c.talk.new.shelf) c.in-Ok-start.ensures.started c.in-Ok-new.ensures.clear talk,
+          (g.O.Write.contents c.talk.new.out) c.in-Ok.state c.in-Ok-new.desk (stage c.talk.new.state c.talk.new.desk c.talk.new.shelf) c.in-Ok.ensures.started c.in-Ok-new.ensures.clear talk,
     )))

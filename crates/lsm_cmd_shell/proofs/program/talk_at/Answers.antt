@@ -1,5 +1,5 @@
 use Rattle.lsm_directory.proofs.CallerLemmas.{shelf_over}
-use Rattle.lsm_cmd_write.specs.Preparing.{IsPrepared}
+use Rattle.lsm_opening.specs.Preparing.{IsPrepared}
 use Rattle.lsm_cmd_shell.proofs.RunLaws.{fails_to_talk, talks_at}
 use Rattle.lsm_cmd_shell.proofs.program.talk_at.Goals as goal
 

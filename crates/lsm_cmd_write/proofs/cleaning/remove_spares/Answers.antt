@@ -1,7 +1,7 @@
 use Rattle.std.proofs.Common.{◌+◌, ◌∙◌, drop, map, refl, take, string_bytes, subst}
 use Rattle.std.proofs.lemmas.Result.{err_from_is_err_and}
 use Rattle.lsm_cmd_write.specs.Cleaning.{AreRemoved}
-use Rattle.lsm_cmd_write.proofs.NameLaws.{all_names, next_name}
+use Rattle.lsm_opening.proofs.CallerLemmas.{all_names, next_name}
 use Rattle.lsm_cmd_write.proofs.SpareLaws.{names_around, removed_more, removed_none}
 use Rattle.lsm_cmd_write.proofs.cleaning.remove_spares.Goals as goal
 

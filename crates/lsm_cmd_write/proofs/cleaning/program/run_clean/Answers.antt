@@ -1,5 +1,5 @@
 use Rattle.std.proofs.Common.{inl, inr, refl}
-use Rattle.lsm_cmd_write.specs.declared.faults.writer_fault.WriterFault.TheVariants.{OutOfMemory}
+use Rattle.lsm_opening.specs.declared.faults.writer_fault.WriterFault.TheVariants.{OutOfMemory}
 use Rattle.lsm_directory.proofs.CallerLemmas.{keeps_same, stopped_by}
 use Rattle.lsm_cmd_write.proofs.cleaning.program.run_clean.Goals as goal
 

@@ -1,4 +1,4 @@
-use Rattle.lsm_cmd_write.specs.Preparing.{IsPrepared}
+use Rattle.lsm_opening.specs.Preparing.{IsPrepared}
 use Rattle.lsm_cmd_write.proofs.RunLaws.{comes_in_at, fails_to_bring_in}
 use Rattle.lsm_directory.proofs.CallerLemmas.{shelf_over}
 use Rattle.lsm_cmd_write.proofs.ingesting.program.ingest_at.Goals as goal

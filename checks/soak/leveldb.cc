@@ -1,0 +1,66 @@
+// The writes of one kind of writer, by LevelDB: leveldb DIR KIND FIRST COUNT BATCH SIZE. Prints how many
+// bytes the process wrote. The keys are those of soak.py.
+#include <cinttypes>
+#include <cstdio>
+#include <cstdlib>
+#include <cstring>
+#include <fstream>
+#include <string>
+
+#include "leveldb/db.h"
+#include "leveldb/write_batch.h"
+
+static unsigned long long written() {
+  std::ifstream file("/proc/self/io");
+  std::string name;
+  unsigned long long count;
+  while (file >> name >> count)
+    if (name == "wchar:") return count;
+  abort();
+}
+
+static std::uint64_t mixed(std::uint64_t x) {  // splitmix64
+  x += 0x9e3779b97f4a7c15u;
+  x = (x ^ (x >> 30)) * 0xbf58476d1ce4e5b9u;
+  x = (x ^ (x >> 27)) * 0x94d049bb133111ebu;
+  return x ^ (x >> 31);
+}
+
+static std::uint64_t key_at(const std::string& kind, std::uint64_t i) {
+  const std::uint64_t room = 10000000000000000u;
+  if (kind == "ascending") return i;
+  if (kind == "descending") return room - 1 - i;
+  if (kind == "random") return mixed(i) % room;
+  if (kind == "overwriting") return mixed(i) % 10000;
+  if (kind == "streams") return i % 100 * 100000000000u + i / 100;
+  abort();
+}
+
+int main(int count, char** words) {
+  if (count != 7) return 2;
+  const std::string kind = words[2];
+  const std::uint64_t first = strtoull(words[3], nullptr, 10), all = strtoull(words[4], nullptr, 10);
+  const std::uint64_t batch = strtoull(words[5], nullptr, 10), size = strtoull(words[6], nullptr, 10);
+  leveldb::Options options;
+  options.create_if_missing = true;
+  options.compression = leveldb::kNoCompression;
+  leveldb::DB* db;
+  if (!leveldb::DB::Open(options, words[1], &db).ok()) return 1;
+  const unsigned long long before = written();
+  leveldb::WriteBatch writes;
+  for (std::uint64_t i = first; i < first + all; i++) {
+    char key[20], value[32];
+    snprintf(key, sizeof key, "%016" PRIu64, key_at(kind, i));
+    snprintf(value, sizeof value, "%016" PRIx64, mixed(~i));
+    std::string text;
+    while (text.size() < size) text += value;
+    text.resize(size);
+    writes.Put(key, text);
+    if ((i - first + 1) % batch == 0 || i + 1 == first + all) {
+      if (!db->Write(leveldb::WriteOptions(), &writes).ok()) return 1;
+      writes.Clear();
+    }
+  }
+  delete db;
+  printf("%llu\n", written() - before);
+}

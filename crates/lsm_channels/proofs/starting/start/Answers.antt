@@ -1,7 +1,0 @@
-use Rattle.lsm_channels.proofs.starting.start.Goals as goal
-
-pub returns-in-Open-clause-started : goal.returns-in-Open-clause-started
-returns-in-Open-clause-started g c = rw (c.in-Open.is, ← c.deref.ensures.value) c.open_beside.ensures.opened
-
-pub returns-in-Open-clause-refused : goal.returns-in-Open-clause-refused
-returns-in-Open-clause-refused g c = rw (c.in-Open.is, ← c.deref.ensures.value) c.open_beside.ensures.refused

@@ -1,7 +1,0 @@
-use Rattle.std.proofs.Common.{◌≡◌, codes, map, take, string_bytes}
-use Rattle.lsm_cmd_write.specs.Names.{Among}
-use Rattle.lsm_cmd_write.proofs.names.has_current.Given as goal
-
--- none so far is such a one
-abbrev pub invariant-loop-name : goal.invariant-loop-name
-invariant-loop-name l = Among (map string_bytes (take l.name-index l.names)) (λ name. name ≡ codes "CURRENT") → ⊥

@@ -1,7 +1,0 @@
-use Rattle.std.proofs.Common.{map, take, string_bytes}
-use Rattle.lsm_cmd_write.specs.Names.{IsHighestManifest}
-use Rattle.lsm_cmd_write.proofs.names.highest_manifest.Given as goal
-
--- the highest so far
-abbrev pub invariant-loop-name : goal.invariant-loop-name
-invariant-loop-name l = IsHighestManifest (map string_bytes (take l.name-index l.names)) l.highest

@@ -1,8 +1,0 @@
-use Rattle.lsm_cmd_write.proofs.NameLaws.{unused_more, unused_same}
-use Rattle.lsm_cmd_write.proofs.names.next_above.Goals as goal
-
-pub returns-in-Some-clause-some : goal.returns-in-Some-clause-some
-returns-in-Some-clause-some c = λ front h. unused_more front c.args.name.now c.args.next c.in-Some.number c.max.result h c.in-Some.ensures.only c.in-Some.ensures.found c.max.ensures
-
-pub returns-in-None-clause-some : goal.returns-in-None-clause-some
-returns-in-None-clause-some c = λ front h. unused_same front c.args.name.now c.args.next h (λ m g. (let e = c.in-None.ensures.found m g in absurd cc))

@@ -1,0 +1,8 @@
+mod NameKindLaws
+mod NameLaws
+mod Looked
+mod PartsLaws
+mod StartLaws
+mod ForkLaws
+mod SweepLaws
+pub mod CallerLemmas

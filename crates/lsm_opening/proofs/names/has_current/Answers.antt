@@ -1,0 +1,15 @@
+use Rattle.std.proofs.Common.{◌≡◌, codes, string_bytes}
+use Rattle.lsm_opening.proofs.NameLaws.{among_at, none_all, none_more}
+use Rattle.lsm_opening.proofs.names.has_current.Goals as goal
+
+pub returns-then-is_current : goal.returns-then-is_current
+returns-then-is_current c =
+    among_at string_bytes (λ name. name ≡ codes "CURRENT") c.args.names.now c.loop-name.name-index c.name-item.result c.as_str.result.now c.loop-name-test.true c.name-item.is c.as_str.ensures.value c.if-is_current.ensures
+
+pub loop-name-preserved : goal.loop-name-preserved
+loop-name-preserved c =
+    none_more string_bytes (λ name. name ≡ codes "CURRENT") c.args.names.now c.loop-name.name-index c.name-item.result c.as_str.result.now c.loop-name-test.true c.name-item.is c.as_str.ensures.value
+    c.loop-name.invariant c.if-is_current.ensures
+
+pub returns : goal.returns
+returns c = none_all string_bytes (λ name. name ≡ codes "CURRENT") c.args.names.now c.loop-name.name-index c.loop-name-test.false c.loop-name.invariant

@@ -1,0 +1,12 @@
+use Rattle.lsm_opening.proofs.StartLaws.{reopened_with}
+use Rattle.lsm_opening.proofs.starting.reopen.Goals as goal
+
+pub returns-in-Ok-clause-opened : goal.returns-in-Ok-clause-opened
+returns-in-Ok-clause-opened g c =
+    reopened_with g.S.Shelf.honest c.parts.inside.options c.args.parts c.in-Ok.state _ _ c.parts.view_is
+    record {
+      publisher = c.parts.inside.publisher;
+      pinners = c.parts.inside.pinners.items;
+      state = c.in-Ok.ensures.opened;
+      begun = c.in-Ok.ensures.begun;
+    }

@@ -1,0 +1,40 @@
+//! How the database in a folder is opened: the folder is held and looked at, and its database is
+//! begun, or opened where it is there; and how a store stands beside its workers then.
+//!
+//! Stands on `lsm_directory` for the folder, its lock and its logs, on `lsm_state` and `lsm_store`
+//! for the database, and on `lsm_refusals` for the texts of refusals. Commands and the server stand
+//! side by side over it. Its contract: a state was begun or opened, beside no log that LevelDB
+//! would read (`started` of `start`), or why it was not (`refused`).
+#![tactic(auto)]
+
+// What a state is made with, as one value.
+mod parts;
+
+// A folder is held and looked at: to which database its names lead, and which logs are beside it.
+mod holding;
+mod names;
+mod prepared;
+mod preparing;
+
+// A database is begun or opened.
+mod starting;
+
+// A store beside its workers, and what is removed behind them.
+mod crew;
+mod forking;
+mod sweeping;
+
+// Why not, and what is told of that.
+mod faults;
+
+pub use crew::Crew;
+pub use faults::compact_fault::CompactFault;
+pub use faults::writer_fault::WriterFault;
+pub use forking::forks;
+pub use holding::held_shelf;
+pub use names::{is_temporary, manifest_in, table_in};
+pub use parts::NewParts;
+pub use prepared::{Prepared, Start};
+pub use preparing::{plainly, prepare};
+pub use starting::{begin, open, start, start_with};
+pub use sweeping::sweep;

@@ -1,0 +1,36 @@
+-- Which job a worker gets when it looks for one (this project's rule).
+use Rattle.std.specs.Prelude.{◌≡◌, ℕ, ◌≤◌, Option, None, Some}
+use Rattle.lsm_picker.specs.Choice.{HasNoChoice}
+use Rattle.lsm_picker.specs.Joining.{Span}
+use Rattle.lsm_live.specs.Reserving.{reserved_jobs}
+use Rattle.lsm_merge.specs.Work.{Work}
+use Rattle.lsm_state.specs.Held.{Held}
+use Rattle.lsm_state.specs.Reserving.{HasNoNext, HasToWait, IsChosen, IsNext, IsRangePlan}
+use Rattle.lsm_state.specs.Reserving.{plan_in, reserved}
+use Rattle.lsm_store.specs.declared.picks.Picks.{Picks}
+use Rattle.lsm_store.specs.declared.picks.Picks.TheVariants.{Choice, Joining, Manual}
+
+-- The job of a level's files that meet the range, at one of its levels; none just where each of
+-- these levels has none, or a live job is in the way of those that it has.
+abbrev pub IsManual : Span → Held → Option Work → Type 0
+IsManual s h None = (level : ℕ) → level ≤ s.level
+    → HasToWait h (record { level = level; from = s.from; to = s.to })
+IsManual s h (Some w) = (level : ℕ) × (level ≤ s.level)
+    × IsRangePlan h level s.from s.to (plan_in w)
+
+-- the job of the plan that is picked; none just where there is none
+abbrev pub IsPicked : Picks → Held → Option Work → Type 0
+IsPicked Choice h None = HasNoChoice h.slots.version (reserved_jobs h.live)
+IsPicked Choice h (Some w) = IsChosen h (plan_in w)
+IsPicked Joining h None = HasNoNext h
+IsPicked Joining h (Some w) = IsNext h (plan_in w)
+IsPicked (Manual s) h job = IsManual s h job
+
+-- it stays among the live jobs
+abbrev pub IsBooked : Option Work → Held → Held → Type 0
+IsBooked None was is = is ≡ was
+IsBooked (Some w) was is = is ≡ reserved w was
+
+-- So it was at one taking of the lock, where the fact held.
+abbrev pub IsPickedUnder : (Held → Type 0) → Picks → Option Work → Type 0
+IsPickedUnder keeps picks job = (h : Held) × ∥ keeps h ∥₁ × IsPicked picks h job
