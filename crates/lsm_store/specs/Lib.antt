@@ -3,6 +3,7 @@ pub mod Background
 pub mod Compacting
 pub mod Promised
 pub mod Readers
+pub mod Sweeping
 pub mod WorkerFault
 pub mod Workers
 pub mod Working

@@ -7,6 +7,8 @@ use std::sync::{Condvar, Mutex, Wait};
 struct Rung {
     // How often it was rung. The count wraps.
     rings: u64,
+    // How often a result was installed. The count wraps.
+    installs: u64,
     // How many workers have not ended.
     working: usize,
     // How many of these have found nothing to reserve since it was rung last.
@@ -41,6 +43,7 @@ impl Bell {
         Bell {
             rung: Mutex::new(Rung {
                 rings: 0,
+                installs: 0,
                 working: workers,
                 idle: 0,
                 closed: false,
@@ -66,6 +69,14 @@ impl Bell {
         rung.ring();
         self.changed.notify_all();
         rung.rings
+    }
+
+    /// Rings after an install.
+    pub(crate) fn installed<R: Wait>(&self, rt: &R) {
+        let mut rung = self.rung.lock(rt);
+        rung.installs = rung.installs.wrapping_add(1);
+        rung.ring();
+        self.changed.notify_all();
     }
 
     /// A worker ends. The others are to look again: its job may be left to them.
@@ -118,6 +129,22 @@ impl Bell {
                 return Some(rung.rings);
             }
             if rung.idle >= rung.working {
+                return None;
+            }
+            rung = self.changed.wait(rt, rung);
+        }
+        unreachable!()
+    }
+
+    /// So many installs are known. Waits until there are others: how many there are then. None where
+    /// none will come: it is closed, and each worker has ended.
+    pub(crate) fn wait_for_installs<R: Wait>(&self, rt: &R, known: u64) -> Option<u64> {
+        let mut rung = self.rung.lock(rt);
+        for _ in rt.forever() {
+            if rung.installs != known {
+                return Some(rung.installs);
+            }
+            if rung.closed && rung.working == 0 {
                 return None;
             }
             rung = self.changed.wait(rt, rung);

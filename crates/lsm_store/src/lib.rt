@@ -23,6 +23,7 @@ mod background_workers;
 mod bell;
 mod gate;
 mod picks;
+mod sweeping;
 mod worker;
 mod worker_end;
 mod worker_fault;

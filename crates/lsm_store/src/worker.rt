@@ -227,7 +227,7 @@ pub(crate) fn work<N: Boarded, S: Shelf, K: Invariant, G: Gate, R: Wait>(
         ) {
             Ok(true) => {
                 installed = installed.saturating_add(1);
-                bell.ring(rt);
+                bell.installed(rt);
             }
             Ok(false) => bell.wait_for_work(rt, rings),
             Err(fault) => {
