@@ -3,9 +3,9 @@ use Rattle.std.proofs.Common.{◌≡◌, ℕ, suc, ◌+◌, ◌≤◌, Bool, tru
 use Rattle.std.specs.Prelude.{Result, Ok, Err}
 use Rattle.lsm_codec.specs.Lists.{Has}
 use Rattle.lsm_shelf.specs.Told.{Told, Becomes, Forked, removed_by, removing}
+use Rattle.lsm_shelf.proofs.CallerLemmas.{becomes_same}
 use Rattle.lsm_shelf.specs.declared.shelf_fault.ShelfFault.{ShelfFault}
 use Rattle.lsm_shelf.specs.declared.shelf_fault.ShelfFault.TheVariants as why
-use Rattle.lsm_slots.specs.Slots.{Looked}
 use Rattle.lsm_state.specs.Collecting.{HasLookedAround, IsKeptNumber, IsRemoveRefusal, IsRemovedOrKept}
 use Rattle.lsm_state.specs.Held.{Held, plain}
 use Rattle.lsm_state.specs.declared.state_fault.StateFault.{StateFault}
@@ -32,21 +32,7 @@ step_looked_or_not Honest was is e rest event (inr looked) = step_looked Honest 
 -- ---- removals
 
 becomes_none : (was is : Told) → is ≡ was → Becomes was is
-becomes_none was is e = subst (λ (t : Told). Becomes was t) (sym e) record {
-  place = refl;
-  faults = omega arith;
-  misses = omega arith;
-  puts = refl;
-  gone = refl;
-  listed = refl;
-  manifest = refl;
-  sent = refl;
-  found = refl;
-  starts = refl;
-  written = refl;
-  forks = refl;
-  made = refl;
-}
+becomes_none was is e = subst (λ (t : Told). Becomes was t) (sym e) (becomes_same was)
 
 pub asked_ok : (h : Held) (n : ℕ) (did : Bool) (was is : Told) → IsRemovedOrKept h n did was is → RemovesUnkept h was is
 asked_ok h n true was is r = inr (n, r.0, r.1)
