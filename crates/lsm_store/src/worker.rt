@@ -4,6 +4,7 @@ ghost use Rattle.std.specs.Prelude.{◌≡◌, IfErr, IfOk, MatchBool, OnOk, Som
 ghost use Rattle.lsm_live.specs.Booked.{HasTicket, without};
 ghost use Rattle.lsm_store.specs.Compacting.{IsCompactingStep, IsKeptByCompaction};
 ghost use Rattle.lsm_store.specs.Picking.{IsBooked, IsPicked, IsPickedUnder};
+ghost use Rattle.lsm_store.specs.declared.picks.Picks.TheVariants.{Choice, Joining};
 ghost use Rattle.lsm_store.specs.Workers.{IsOfInstalling, IsOfReserving, IsOfTurn, IsWorkersEnd};
 ghost use Rattle.lsm_store.specs.Working.{IsLast, IsTaken, IsTurn, IsUntaken, IsWorked};
 ghost use Rattle.lsm_store.specs.Working.{LeavesOut, TakesIn};
@@ -24,8 +25,43 @@ use lsm_table::{NamedShelf, Registry, Shelf};
 use std::alloc::{AllocError, Global};
 use std::sync::{Arc, Wait};
 
-/// The job that the state has for a worker; none where there is none.
+/// The job of the chosen compaction; none where there is no choice.
 #[tactic(auto, using(crate::proofs::CompactingLaws::step_none))]
+fn chosen_job<N: Boarded, S: Shelf>(
+    state: &mut State<N, S>,
+    alloc: Global,
+) -> Result<Option<Job<N, S>>, StateFault>
+    ensures next { S.honest → IfOk result (λ r. IsPicked Choice state.old r) }
+    ensures booked { IfOk result (λ r. IsBooked r state.old state.new) }
+    ensures step { IsCompactingStep S.honest state.old state.new }
+    ensures refused { IfErr result IsOfReserving }
+{
+    match state.reserve(alloc) {
+        Ok(Some(job)) => Ok(Some(job)),
+        Ok(None) => Ok(None),
+        Err(fault) => Err(fault),
+    }
+}
+
+/// The job that comes next, where small files are joined; none where there is none.
+#[tactic(auto, using(crate::proofs::CompactingLaws::step_none))]
+fn joining_job<N: Boarded, S: Shelf>(
+    state: &mut State<N, S>,
+    alloc: Global,
+) -> Result<Option<Job<N, S>>, StateFault>
+    ensures next { S.honest → IfOk result (λ r. IsPicked Joining state.old r) }
+    ensures booked { IfOk result (λ r. IsBooked r state.old state.new) }
+    ensures step { IsCompactingStep S.honest state.old state.new }
+    ensures refused { IfErr result IsOfReserving }
+{
+    match state.reserve_next(alloc) {
+        Ok(Some(job)) => Ok(Some(job)),
+        Ok(None) => Ok(None),
+        Err(fault) => Err(fault),
+    }
+}
+
+/// The job that the state has for a worker; none where there is none.
 fn next_job<N: Boarded, S: Shelf>(
     state: &mut State<N, S>,
     alloc: Global,
@@ -36,14 +72,9 @@ fn next_job<N: Boarded, S: Shelf>(
     ensures step { IsCompactingStep S.honest state.old state.new }
     ensures refused { IfErr result IsOfReserving }
 {
-    let next = match picks {
-        Picks::Choice => state.reserve(alloc),
-        Picks::Joining => state.reserve_next(alloc),
-    };
-    match next {
-        Ok(Some(job)) => Ok(Some(job)),
-        Ok(None) => Ok(None),
-        Err(fault) => Err(fault),
+    match picks {
+        Picks::Choice => chosen_job(state, alloc),
+        Picks::Joining => joining_job(state, alloc),
     }
 }
 

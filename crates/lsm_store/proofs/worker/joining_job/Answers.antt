@@ -1,8 +1,8 @@
 use Rattle.lsm_store.proofs.CompactingLaws.{step_reserved}
-use Rattle.lsm_store.proofs.worker.next_job.Goals as goal
+use Rattle.lsm_store.proofs.worker.joining_job.Goals as goal
 
 pub returns-in-Ok-Some-clause-step : goal.returns-in-Ok-Some-clause-step
 returns-in-Ok-Some-clause-step g c =
     let ok = rw c.in-Ok-Some.field-0-is at c.in-Ok-Some.ensures.ok in
     let event = rw c.in-Ok-Some.field-0-is at c.in-Ok-Some.ensures.event in
-    step_reserved g.S.Shelf.honest c.args.state.now c.reserve.new.self c.in-Ok-Some.job _ _ ok event
+    step_reserved g.S.Shelf.honest c.args.state.now c.reserve_next.new.self c.in-Ok-Some.job _ _ ok event
