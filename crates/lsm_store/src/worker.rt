@@ -67,7 +67,7 @@ fn next_job<N: Boarded, S: Shelf>(
     alloc: Global,
     picks: &Picks,
 ) -> Result<Option<Job<N, S>>, StateFault>
-    ensures next { S.honest → IfOk result (λ r. IsPicked picks state.old r) }
+    ensures next { S.honest → IfOk result (λ r. IsPicked picks.now state.old r) }
     ensures booked { IfOk result (λ r. IsBooked r state.old state.new) }
     ensures step { IsCompactingStep S.honest state.old state.new }
     ensures refused { IfErr result IsOfReserving }
@@ -86,7 +86,7 @@ fn reserve<N: Boarded, S: Shelf, K: Invariant, R: Wait>(
     picks: &Picks,
 ) -> Result<Option<Job<N, S>>, StateFault>
     requires kept { IsKeptByCompaction S.honest K.keeps }
-    ensures next { S.honest → IfOk result (IsPickedUnder K.keeps picks) }
+    ensures next { S.honest → IfOk result (IsPickedUnder K.keeps picks.now) }
     ensures refused { IfErr result IsOfReserving }
 {
     next_job(&mut store.lock(rt).state, alloc, picks)
