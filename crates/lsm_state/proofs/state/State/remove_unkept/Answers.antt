@@ -12,7 +12,7 @@ returns-then-is_among-clause-ok g c =
     let going : h.halted ≡ false = ap (λ (x : Held). x.halted) (sym c.self.view_is) ∙ c.if-self.false in
     let up : IsStrictlyIncreasing c.deref.result.now = subst (λ l. IsStrictlyIncreasing l) (sym c.deref.ensures.value) c.in_ok-kept.ensures.ascending in
     let found : is_in c.in_ok-kept.kept.items c.args.number ≡ true = subst (λ l. is_in l c.args.number ≡ true) c.deref.ensures.value (sym (c.is_among.ensures up) ∙ c.if-is_among.true) in
-    (going, among_kept h c.in_ok-kept.kept.items c.args.number c.in_ok-kept.ensures.numbers found, refl)
+    (going, (among_kept h c.in_ok-kept.kept.items c.args.number c.in_ok-kept.ensures.numbers found, refl))
 
 pub returns-in_err-remove-clause-refused : goal.returns-in_err-remove-clause-refused
 returns-in_err-remove-clause-refused g c =
@@ -30,4 +30,4 @@ returns-clause-ok g c =
     let going : h.halted ≡ false = ap (λ (x : Held). x.halted) (sym c.self.view_is) ∙ c.if-self.false in
     let up : IsStrictlyIncreasing c.deref.result.now = subst (λ l. IsStrictlyIncreasing l) (sym c.deref.ensures.value) c.in_ok-kept.ensures.ascending in
     let none : is_in c.in_ok-kept.kept.items c.args.number ≡ false = subst (λ l. is_in l c.args.number ≡ false) c.deref.ensures.value (sym (c.is_among.ensures up) ∙ c.if-is_among.false) in
-    (going, not_among_kept h c.in_ok-kept.kept.items c.args.number c.in_ok-kept.ensures.numbers none, c.in_ok-remove.ensures.told)
+    (going, (not_among_kept h c.in_ok-kept.kept.items c.args.number c.in_ok-kept.ensures.numbers none, c.in_ok-remove.ensures.told))
