@@ -163,7 +163,8 @@ load = command (codes "load") (folder ∷ file ∷ text ∷ begin ∷ beside_log
     ∷ progress ∷ [])
 
 unfoldable pub compact : App
-compact = command (codes "compact") (folder ∷ workers ∷ progress ∷ [])
+compact = command (codes "compact") (folder ∷ flag (codes "all") ∷ valued (codes "from")
+    ∷ valued (codes "to") ∷ text ∷ workers ∷ progress ∷ [])
 
 unfoldable pub clean : App
 clean = command (codes "clean") (folder ∷ [])

@@ -37,9 +37,11 @@ impl<N: Boarded, S: Shelf> State<N, S> {
         };
         match self.range_plan(alloc, span.level(), span.from(), span.to()) {
             Ok(plan) => Ok(plan),
-            // A plan that conflicts with a live job has to wait.
-            Err(StateFault::Conflict(_)) => Ok(None),
-            Err(fault) => Err(fault),
+            Err(fault) => match fault {
+                // A plan that conflicts with a live job has to wait.
+                StateFault::Conflict(_) => Ok(None),
+                _ => Err(fault),
+            },
         }
     }
 
