@@ -1,5 +1,5 @@
 -- Which job a worker gets when it looks for one (this project's rule).
-use Rattle.std.specs.Prelude.{◌≡◌, ℕ, ◌≤◌, Option, None, Some}
+use Rattle.std.specs.Prelude.{◌≡◌, ℕ, ◌<◌, ◌≤◌, Option, None, Some}
 use Rattle.lsm_picker.specs.Choice.{HasNoChoice}
 use Rattle.lsm_picker.specs.Joining.{Span}
 use Rattle.lsm_live.specs.Reserving.{reserved_jobs}
@@ -10,13 +10,16 @@ use Rattle.lsm_state.specs.Reserving.{plan_in, reserved}
 use Rattle.lsm_store.specs.declared.picks.Picks.{Picks}
 use Rattle.lsm_store.specs.declared.picks.Picks.TheVariants.{Choice, Joining, Manual}
 
--- The job of a level's files that meet the range, at one of its levels; none just where each of
--- these levels has none, or a live job is in the way of those that it has.
+-- A level has no files that meet the range, or a live job is in the way of those that it has.
+abbrev pub HasToWaitAt : Span → Held → ℕ → Type 0
+HasToWaitAt s h level = HasToWait h (record { level = level; from = s.from; to = s.to })
+
+-- The job of the files that meet the range at the first of its levels where they have not to wait;
+-- none just where they have at each.
 abbrev pub IsManual : Span → Held → Option Work → Type 0
-IsManual s h None = (level : ℕ) → level ≤ s.level
-    → HasToWait h (record { level = level; from = s.from; to = s.to })
+IsManual s h None = (level : ℕ) → level ≤ s.level → HasToWaitAt s h level
 IsManual s h (Some w) = (level : ℕ) × (level ≤ s.level)
-    × IsRangePlan h level s.from s.to (plan_in w)
+    × ((n : ℕ) → n < level → HasToWaitAt s h n) × IsRangePlan h level s.from s.to (plan_in w)
 
 -- the job of the plan that is picked; none just where there is none
 abbrev pub IsPicked : Picks → Held → Option Work → Type 0

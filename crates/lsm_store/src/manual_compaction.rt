@@ -1,6 +1,6 @@
 //! Compactions of a range of keys (LevelDB's `CompactRange`).
 
-ghost use Rattle.std.specs.Prelude.{◌≡◌, IfErr, IfOk, IfSome, IsTrue, OnErr};
+ghost use Rattle.std.specs.Prelude.{◌≡◌, ◌↔◌, IfErr, IfOk, IfSome, IsTrue, OnErr};
 ghost use Rattle.lsm_picker.specs.Manual.{IsCleared, IsToClear};
 ghost use Rattle.lsm_state.specs.Reserving.{IsReserving};
 ghost use Rattle.lsm_store.specs.Picking.{IsBooked, IsManual};
@@ -65,7 +65,7 @@ impl ManualCompaction {
 
     /// Whether no file of a state at these levels meets the range.
     pub fn is_done<N: Boarded, S: Shelf>(&self, state: &State<N, S>) -> bool
-        ensures { IsTrue result → IsCleared state.now.slots.version self.now }
+        ensures { IsTrue result ↔ IsCleared state.now.slots.version self.now }
     {
         let (_id, version) = state.current();
         let (from, to) = (self.from.as_slice(), self.to.as_slice());
