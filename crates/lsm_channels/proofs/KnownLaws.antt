@@ -20,7 +20,7 @@ pub later_then : (a b c : List Entry) → IsLater b a → IsLater c b → IsLate
 later_then a b c p q = (q.0 ++ p.0, q.1 ∙ ap (λ (es : List Entry). q.0 ++ es) p.1 ∙ sym (append_assoc q.0 p.0 a))
 
 told_since : (h : Held) (first knew knows : List Entry) → IsLater knew first → IsToldBy h knew knows → IsToldBy h first knows
-told_since h first knew knows later told = record { later = later_then first knew h.history later told.later; known = told.known }
+told_since h first knew knows later told = record { later = later_then first knew h.history later told.later; known = told.known; slots = told.slots }
 
 lent_since : (keeps : Held → Type 0) (h : Held) (first knew knows : List Entry) → IsLater knew first → IsLent keeps h knew knows → IsLent keeps h first knows
 lent_since keeps h first knew knows later lent = record { kept = lent.kept; told = told_since h first knew knows later lent.told }

@@ -18,6 +18,8 @@ pub(crate) fn catch_up<N: Boarded, S: Shelf>(state: &mut State<N, S>, memory: &m
     ensures told { IsToldBy state.old memory.old memory.new }
     ensures same { state.new ≡ state.old }
 {
+    // What holds of every state is told by this call.
+    let _options = state.options();
     let now = state.remember();
     let before = mem::replace(memory, now);
     state.recall(before);
