@@ -1,6 +1,6 @@
 -- What a compaction answers, by what is done.
 use Rattle.std.proofs.Common.{◌≡◌, ◌≢◌, ℕ, inl, inr, List, Option, IfErr, OnErr, OnOk, refl, sym, subst, ap, ◌∙◌}
-use Rattle.std.specs.Prelude.{◌⊎◌, Result, Ok, Err}
+use Rattle.std.specs.Prelude.{◌⊎◌, Some, None, Result, Ok, Err}
 use Rattle.std.specs.Io.KnownBytes.{Keeps}
 use Rattle.atomic_table.specs.Seated.{TableId}
 use Rattle.lsm_shelf.specs.Asked.{Asked}
@@ -17,7 +17,10 @@ use Rattle.lsm_opening.specs.Compactions.{IsSwept}
 use Rattle.lsm_opening.specs.Starting.{Opens}
 use Rattle.lsm_opening.specs.declared.faults.writer_fault.WriterFault.TheVariants.{Write as WriteFault}
 use Rattle.lsm_requests.specs.declared.compact_options.CompactOptions.{CompactOptions}
-use Rattle.lsm_cmd_compact.specs.Compacting.{AreEnds, AreFaultless, Clears, Compacts, IsCompactFault, IsNamed, IsOfManning, IsOpened, IsNotCompacted, IsWorkersFault, LeavesAll, StopsSweeping, installed_between}
+use Rattle.lsm_requests.specs.declared.compact_range.CompactRange.{CompactRange}
+use Rattle.lsm_store.specs.declared.picks.Picks.{Picks}
+use Rattle.lsm_store.specs.declared.picks.Picks.TheVariants.{Choice, Joining, Manual}
+use Rattle.lsm_cmd_compact.specs.Compacting.{IsAimed, IsClearedBy, AreEnds, AreFaultless, Clears, Compacts, IsCompactFault, IsNamed, IsOfManning, IsOpened, IsNotCompacted, IsWorkersFault, LeavesAll, StopsSweeping, installed_between}
 use Rattle.lsm_opening.specs.declared.faults.compact_fault.CompactFault.{CompactFault}
 use Rattle.lsm_opening.specs.declared.faults.compact_fault.CompactFault.TheVariants.{Writer}
 
@@ -95,3 +98,12 @@ named_still was is t u same named =
       told = subst (λ (j : HeldManifest). Becomes (finding j.number j.bytes t) u) (sym (ap (λ (h : Held). h.journal) same)) named.told;
       counts = named.counts;
     }
+
+-- what was picked for a range is cleared of it
+pub clears_by : (keeps : Held → Type 0) (found : Held) (range : Option CompactRange) (picks : Picks) → IsAimed found.slots.version range picks → IsClearedBy keeps picks → Clears keeps found range
+clears_by keeps found None Choice aimed cleared = tt
+clears_by keeps found None Joining aimed cleared = tt
+clears_by keeps found None (Manual s) aimed cleared = tt
+clears_by keeps found (Some r) Choice aimed cleared = absurd aimed
+clears_by keeps found (Some r) Joining aimed cleared = absurd aimed
+clears_by keeps found (Some r) (Manual s) aimed cleared = (s, aimed, cleared)

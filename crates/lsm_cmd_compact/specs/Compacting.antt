@@ -22,6 +22,8 @@ use Rattle.lsm_store.specs.Workers.{IsWorkersEnd}
 use Rattle.lsm_store.specs.Working.{AreReturned}
 use Rattle.lsm_requests.specs.declared.compact_options.CompactOptions.{CompactOptions}
 use Rattle.lsm_requests.specs.declared.compact_range.CompactRange.{CompactRange}
+use Rattle.lsm_store.specs.declared.picks.Picks.{Picks}
+use Rattle.lsm_store.specs.declared.picks.Picks.TheVariants.{Choice, Joining, Manual}
 use Rattle.lsm_store.specs.declared.worker_end.WorkerEnd.{WorkerEnd}
 use Rattle.lsm_store.specs.declared.worker_fault.WorkerFault.{WorkerFault}
 use Rattle.lsm_opening.specs.Compactions.{IsSwept, Refuses, installed_text}
@@ -94,12 +96,20 @@ Clears keeps found None = Unit {0}
 Clears keeps found (Some r) =
     (s : Span) × IsToClear found.slots.version r.from r.to s × IsClearedUnder keeps s
 
--- what is cleared of the range that is asked for
-abbrev pub IsAimed : Levels → Option CompactRange → Option Span → Type 0
-IsAimed v None None = Unit {0}
-IsAimed v None (Some s) = ⊥
-IsAimed v (Some r) None = ⊥
-IsAimed v (Some r) (Some s) = IsToClear v r.from r.to s
+-- what workers pick, where a range is asked for or is not
+abbrev pub IsAimed : Levels → Option CompactRange → Picks → Type 0
+IsAimed v None Choice = Unit {0}
+IsAimed v None Joining = ⊥
+IsAimed v None (Manual s) = ⊥
+IsAimed v (Some r) Choice = ⊥
+IsAimed v (Some r) Joining = ⊥
+IsAimed v (Some r) (Manual s) = IsToClear v r.from r.to s
+
+-- no file was left of a range that is picked
+abbrev pub IsClearedBy : (Held → Type 0) → Picks → Type 0
+IsClearedBy keeps Choice = Unit {0}
+IsClearedBy keeps Joining = Unit {0}
+IsClearedBy keeps (Manual s) = IsClearedUnder keeps s
 
 -- ---- what the shelf was told
 

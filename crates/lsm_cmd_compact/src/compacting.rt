@@ -22,7 +22,7 @@ ghost use Rattle.lsm_opening.specs.WriterFault.{of_shelf};
 ghost use Rattle.lsm_opening.specs.Parts.{AreOf, usual};
 ghost use Rattle.lsm_opening.specs.declared.faults.writer_fault.WriterFault.TheVariants.{Write as WriteFault};
 ghost use Rattle.lsm_cmd_compact.specs.Compacting.{AreEnds, AreFaultless, IsCompactFault, IsCompacted};
-ghost use Rattle.lsm_cmd_compact.specs.Compacting.{Clears, IsAimed, IsClearedUnder, IsOfManning};
+ghost use Rattle.lsm_cmd_compact.specs.Compacting.{Clears, IsAimed, IsClearedBy, IsOfManning};
 ghost use Rattle.lsm_cmd_compact.specs.Compacting.{IsWorkersFault};
 ghost use Rattle.lsm_opening.specs.Compactions.{IsSwept, Refuses, installed_text};
 ghost use Rattle.lsm_opening.specs.declared.faults.compact_fault.CompactFault.TheVariants.{Writer as WriterVariant};
@@ -36,10 +36,7 @@ use lsm_requests::CompactOptions;
 use lsm_slots::Boarded;
 use lsm_state::{State, StateFault};
 use lsm_store::laws::what_was_found_is_kept;
-use lsm_store::{
-    Gate, Invariant, ManualCompaction, NoGate, Returned, Store, run_workers_over,
-    run_workers_returning,
-};
+use lsm_store::{Invariant, ManualCompaction, NoGate, Picks, Returned, Store, run_workers_by};
 use lsm_table::{NamedShelf, Shelf, ShelfFault};
 use std::alloc::{AllocError, AllocFailed, Global};
 use std::io::{self, Write};
@@ -47,35 +44,15 @@ use std::marker::Brand;
 use std::sync::Wait;
 use std::thread::Threads;
 
-/// Lets workers compact a store, one for each shelf: a range, or else what is due.
-fn run_by<N: Boarded, S: Shelf, K: Invariant, G: Gate + Sync, R: Threads + Wait + Sync>(
-    rt: &R,
-    alloc: Global,
-    store: &Store<N, S, K>,
-    shelves: Vec<NamedShelf<N, S>>,
-    gate: &G,
-    manual: Option<&ManualCompaction>,
-) -> Result<Vec<Returned<N, S>>, AllocFailed<Vec<NamedShelf<N, S>>>>
-    requires kept { IsKeptByCompaction S.honest K.keeps }
-    ensures len { IfOk result (λ v. vec_len v ≡ vec_len shelves) }
-    ensures ends { IfOk result (λ v. All (λ r. IsWorkersEnd S.honest r.0) v.items) }
-    ensures returned { IfOk result (λ v.
-        AreReturned S.honest (S.refuses N.place) K.keeps shelves.items v.items) }
-{
-    match manual {
-        Some(manual) => run_workers_over(rt, alloc, store, shelves, gate, manual),
-        None => run_workers_returning(rt, alloc, store, shelves, gate),
-    }
-}
-
-/// The same; each job that they begin is said where that is asked for.
+/// Lets workers compact a store, one for each shelf, which take what is picked; each job that they
+/// begin is said where that is asked for.
 #[tactic(auto, using(lsm_directory::proofs::CallerLemmas::keeps_same))]
 fn run_all<N: Boarded, S: Shelf, K: Invariant, R: Threads + Wait + Sync, E: Write + Send>(
     rt: &R,
     alloc: Global,
     store: &Store<N, S, K>,
     shelves: Vec<NamedShelf<N, S>>,
-    manual: Option<&ManualCompaction>,
+    picks: &Picks,
     progress: bool,
     err: &mut E,
 ) -> Result<Vec<Returned<N, S>>, AllocFailed<Vec<NamedShelf<N, S>>>>
@@ -88,9 +65,9 @@ fn run_all<N: Boarded, S: Shelf, K: Invariant, R: Threads + Wait + Sync, E: Writ
 {
     if progress {
         let teller = JobTeller::new(rt, err);
-        return run_by(rt, alloc, store, shelves, &teller, manual);
+        return run_workers_by(rt, alloc, store, shelves, &teller, picks);
     }
-    run_by(rt, alloc, store, shelves, &NoGate, manual)
+    run_workers_by(rt, alloc, store, shelves, &NoGate, picks)
 }
 
 /// What the workers of a store have done, one for each of so many new forks, when none of them ends
@@ -101,7 +78,7 @@ fn work<N: Boarded, S: Shelf, K: Invariant, R: Threads + Wait + Sync, E: Write +
     store: &Store<N, S, K>,
     shelves: Vec<NamedShelf<N, S>>,
     options: &CompactOptions,
-    manual: Option<&ManualCompaction>,
+    picks: &Picks,
     err: &mut E,
 ) -> Result<Vec<Returned<N, S>>, CompactFault>
     requires kept { IsKeptByCompaction S.honest K.keeps }
@@ -114,26 +91,29 @@ fn work<N: Boarded, S: Shelf, K: Invariant, R: Threads + Wait + Sync, E: Write +
         ⊎ IsWorkersFault (S.refuses N.place) S.honest K.keeps N.place options.now.workers e) }
     ensures quiet { IsFalse options.now.progress → Keeps (E.contents err.old) (E.contents err.new) }
 {
-    let Ok(returned) = run_all(rt, alloc, store, shelves, manual, options.progress, err) else {
+    let Ok(returned) = run_all(rt, alloc, store, shelves, picks, options.progress, err) else {
         return Err(CompactFault::of_shelf(ShelfFault::OutOfMemory));
     };
     judge(&returned)?;
     Ok(returned)
 }
 
-/// Whether no file of a range is left at its levels, as the state under the lock says.
+/// Whether no file of a range that is picked is left at its levels, as the state under the lock says.
 fn is_cleared<N: Boarded, S: Shelf, K: Invariant, R: Wait>(
     rt: &R,
     store: &Store<N, S, K>,
-    manual: &ManualCompaction,
+    picks: &Picks,
 ) -> bool
-    ensures { IsTrue result → IsClearedUnder K.keeps manual.now }
+    ensures { IsTrue result → IsClearedBy K.keeps picks.now }
 {
-    manual.is_done(&store.lock(rt).state)
+    match picks {
+        Picks::Manual(manual) => manual.is_done(&store.lock(rt).state),
+        Picks::Choice | Picks::Joining => true,
+    }
 }
 
-/// What the workers of a store have done that compact a range, when none of them ends with a fault:
-/// again, each with a new fork of the shelf, until no file of the range is left at its levels.
+/// What the workers of a store have done, when none of them ends with a fault: again, each with a
+/// new fork of the shelf, until no file of a range that is picked is left at its levels.
 fn clear<N: Boarded, S: Shelf, K: Invariant, R: Threads + Wait + Sync, E: Write + Send>(
     rt: &R,
     alloc: Global,
@@ -141,7 +121,7 @@ fn clear<N: Boarded, S: Shelf, K: Invariant, R: Threads + Wait + Sync, E: Write 
     shelf: &mut NamedShelf<N, S>,
     shelves: Vec<NamedShelf<N, S>>,
     options: &CompactOptions,
-    manual: &ManualCompaction,
+    picks: &Picks,
     err: &mut E,
 ) -> Result<Vec<Returned<N, S>>, CompactFault>
     requires kept { IsKeptByCompaction S.honest K.keeps }
@@ -150,7 +130,7 @@ fn clear<N: Boarded, S: Shelf, K: Invariant, R: Threads + Wait + Sync, E: Write 
     ensures ends { IfOk result (λ v.
         AreEnds (S.refuses N.place) S.honest K.keeps N.place options.now.workers v.items) }
     ensures faultless { IfOk result (λ v. AreFaultless v.items) }
-    ensures cleared { OnOk result (IsClearedUnder K.keeps manual.now) }
+    ensures cleared { OnOk result (IsClearedBy K.keeps picks.now) }
     ensures refused { IfErr result (λ e. IsOfManning e
         ⊎ IsWorkersFault (S.refuses N.place) S.honest K.keeps N.place options.now.workers e) }
     ensures quiet { IsFalse options.now.progress
@@ -158,8 +138,8 @@ fn clear<N: Boarded, S: Shelf, K: Invariant, R: Threads + Wait + Sync, E: Write 
 {
     let mut shelves = shelves;
     'tries: for _ in rt.forever() {
-        let returned = work(rt, alloc, store, shelves, options, Some(manual), err)?;
-        if is_cleared(rt, store, manual) {
+        let returned = work(rt, alloc, store, shelves, options, picks, err)?;
+        if is_cleared(rt, store, picks) {
             return Ok(returned);
         }
         shelves = match forks(alloc, shelf, options.workers) {
@@ -170,18 +150,23 @@ fn clear<N: Boarded, S: Shelf, K: Invariant, R: Threads + Wait + Sync, E: Write 
     unreachable!()
 }
 
-/// What is cleared of the range that options ask for, over the files of a state; none where they ask
-/// for none.
+/// What workers are to pick over the files of a state: the range that options ask for, or else what
+/// is chosen.
 fn aim_of<N: Boarded, S: Shelf>(
     alloc: Global,
     state: &State<N, S>,
     options: &CompactOptions,
-) -> Result<Option<ManualCompaction>, AllocError>
+) -> Result<Picks, AllocError>
     ensures { IfOk result (IsAimed state.now.slots.version options.now.range) }
 {
     match &options.range {
-        Some(range) => Ok(Some(ManualCompaction::of(alloc, state, &range.from, &range.to)?)),
-        None => Ok(None),
+        Some(range) => Ok(Picks::Manual(ManualCompaction::of(
+            alloc,
+            state,
+            &range.from,
+            &range.to,
+        )?)),
+        None => Ok(Picks::Choice),
     }
 }
 
@@ -209,7 +194,7 @@ fn compact_state<N: Boarded, S: Shelf, K: Invariant, R: Threads + Wait + Sync, E
     ensures told { Forked shelf.old shelf.new }
     ensures quiet { IsFalse options.now.progress → Keeps (E.contents err.old) (E.contents err.new) }
 {
-    let Ok(aim) = aim_of(alloc, &state, options) else {
+    let Ok(picks) = aim_of(alloc, &state, options) else {
         return Err(CompactFault::of_shelf(ShelfFault::OutOfMemory));
     };
     let made: Crew<N, S, K> = match Crew::new(alloc, state, shelf, options.workers) {
@@ -222,10 +207,7 @@ fn compact_state<N: Boarded, S: Shelf, K: Invariant, R: Threads + Wait + Sync, E
         own,
     } = made;
     let mut own = own;
-    let returned = match &aim {
-        Some(manual) => clear(rt, alloc, &store, &mut own, shelves, options, manual, err)?,
-        None => work(rt, alloc, &store, shelves, options, None, err)?,
-    };
+    let returned = clear(rt, alloc, &store, &mut own, shelves, options, &picks, err)?;
     Ok((store.into_state(), returned))
 }
 

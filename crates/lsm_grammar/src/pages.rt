@@ -459,8 +459,9 @@ changes. Then the tables that are not needed any more are removed. Prints
 --all compacts every key instead, and --from and --to those from one key to
 another, both included: all tables with such keys are written anew one level
 down, level by level, until they stand together below the deepest level that has
-one (or on level 6). So a deleted key takes no room there, but where a reader's
-snapshot needs it. KEY is hex, or text with --text, `.` for no bytes.
+one. Level 6 is left as it is; above it a deleted key takes no room then. --all
+with a bound is that bound's range. KEY is hex, or text with --text, `.` for no
+bytes.
 
 --workers is how many threads compact at a time, 1 to 8; 2 if it is not said.
 

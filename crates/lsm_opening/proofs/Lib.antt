@@ -5,4 +5,4 @@ mod PartsLaws
 mod StartLaws
 mod ForkLaws
 mod SweepLaws
-mod CallerLemmas
+pub mod CallerLemmas

@@ -27,7 +27,7 @@ IsPicked Choice h None = HasNoChoice h.slots.version (reserved_jobs h.live)
 IsPicked Choice h (Some w) = IsChosen h (plan_in w)
 IsPicked Joining h None = HasNoNext h
 IsPicked Joining h (Some w) = IsNext h (plan_in w)
-IsPicked (Manual m) h job = IsManual m.now h job
+IsPicked (Manual s) h job = IsManual s h job
 
 -- it stays among the live jobs
 abbrev pub IsBooked : Option Work → Held → Held → Type 0

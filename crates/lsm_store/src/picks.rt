@@ -3,12 +3,12 @@
 use crate::manual_compaction::ManualCompaction;
 
 /// Which compaction a worker reserves when it looks for one.
-#[derive(Clone, Copy)]
-pub(crate) enum Picks<'a> {
+#[derive(Drop)]
+pub enum Picks {
     /// The chosen one, as `State::reserve` does.
     Choice,
     /// The next one, as `State::reserve_next` does: small files are joined.
     Joining,
-    /// That of a range of keys.
-    Manual(&'a ManualCompaction),
+    /// That of a range of keys, level by level, due or not, and no other.
+    Manual(ManualCompaction),
 }

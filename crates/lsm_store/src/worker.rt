@@ -85,9 +85,9 @@ fn manual_job<N: Boarded, S: Shelf>(
 fn next_job<N: Boarded, S: Shelf>(
     state: &mut State<N, S>,
     alloc: Global,
-    picks: &Picks<'_>,
+    picks: &Picks,
 ) -> Result<Option<Job<N, S>>, StateFault>
-    ensures next { S.honest → IfOk result (λ r. IsPicked picks state.old r) }
+    ensures next { S.honest → IfOk result (λ r. IsPicked picks.now state.old r) }
     ensures booked { IfOk result (λ r. IsBooked r state.old state.new) }
     ensures step { IsCompactingStep S.honest state.old state.new }
     ensures refused { IfErr result IsOfReserving }
@@ -104,10 +104,10 @@ fn reserve<N: Boarded, S: Shelf, K: Invariant, R: Wait>(
     rt: &R,
     alloc: Global,
     store: &Store<N, S, K>,
-    picks: &Picks<'_>,
+    picks: &Picks,
 ) -> Result<Option<Job<N, S>>, StateFault>
     requires kept { IsKeptByCompaction S.honest K.keeps }
-    ensures next { S.honest → IfOk result (IsPickedUnder K.keeps picks) }
+    ensures next { S.honest → IfOk result (IsPickedUnder K.keeps picks.now) }
     ensures refused { IfErr result IsOfReserving }
 {
     next_job(&mut store.lock(rt).state, alloc, picks)
@@ -210,7 +210,7 @@ fn turn<N: Boarded, S: Shelf, K: Invariant, G: Gate, R: Wait>(
     shelf: &mut NamedShelf<N, S>,
     gate: &G,
     worker: usize,
-    picks: &Picks<'_>,
+    picks: &Picks,
 ) -> Result<bool, WorkerFault>
     requires kept { IsKeptByCompaction S.honest K.keeps }
     ensures refused { IfErr result (IsOfTurn S.honest) }
@@ -254,7 +254,7 @@ pub(crate) fn work<N: Boarded, S: Shelf, K: Invariant, G: Gate, R: Wait>(
     shelf: &mut NamedShelf<N, S>,
     gate: &G,
     worker: usize,
-    picks: &Picks<'_>,
+    picks: &Picks,
 ) -> WorkerEnd
     requires kept { IsKeptByCompaction S.honest K.keeps }
     ensures end { IsWorkersEnd S.honest result }

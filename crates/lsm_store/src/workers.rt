@@ -10,7 +10,6 @@ use crate::bell::Bell;
 use crate::drawing::draw_for_all;
 use crate::gate::Gate;
 use crate::invariant::Invariant;
-use crate::manual_compaction::ManualCompaction;
 use crate::number_service::NumberService;
 use crate::picks::Picks;
 use crate::store::Store;
@@ -36,7 +35,7 @@ fn start<'s, 'e, N: Boarded, S: Shelf, K: Invariant, G: Gate + Sync, R: Threads 
     shelf: NamedShelf<N, S>,
     gate: &'e G,
     worker: usize,
-    picks: &'e Picks<'e>,
+    picks: &'e Picks,
 ) -> Thread<N, S, K>
     requires kept { IsKeptByCompaction S.honest K.keeps }
     ensures given { result.given.value ≡ shelf }
@@ -87,7 +86,7 @@ pub(crate) fn start_all<
     bell: &'e Bell,
     shelves: Vec<NamedShelf<N, S>>,
     gate: &'e G,
-    picks: &'e Picks<'e>,
+    picks: &'e Picks,
     threads: Vec<Thread<N, S, K>>,
 ) -> Vec<Thread<N, S, K>>
     requires kept { IsKeptByCompaction S.honest K.keeps }
@@ -162,7 +161,7 @@ fn run_all<N: Boarded, S: Shelf, K: Invariant, G: Gate + Sync, R: Threads + Wait
     store: &Store<N, S, K>,
     shelves: Vec<NamedShelf<N, S>>,
     gate: &G,
-    picks: &Picks<'_>,
+    picks: &Picks,
     threads: Vec<Thread<N, S, K>>,
     returned: Vec<Returned<N, S>>,
 ) -> Vec<Returned<N, S>>
@@ -200,15 +199,16 @@ fn run_all<N: Boarded, S: Shelf, K: Invariant, G: Gate + Sync, R: Threads + Wait
     )
 }
 
-/// A worker for each shelf, which takes what is picked, until none of them finds anything left to
-/// reserve. Where there is no memory for the answer nothing is done, and the shelves come back.
-fn run_picking<N: Boarded, S: Shelf, K: Invariant, G: Gate + Sync, R: Threads + Wait + Sync>(
+/// As `run_workers_returning`, but each worker takes what is picked (`Picks`). Those that compact a
+/// range end where no file of it is left at its levels, or all that is left waits for a live job; a
+/// deletion with nothing below it goes, but where a snapshot needs it.
+pub fn run_workers_by<N: Boarded, S: Shelf, K: Invariant, G: Gate + Sync, R: Threads + Wait + Sync>(
     rt: &R,
     alloc: Global,
     store: &Store<N, S, K>,
     shelves: Vec<NamedShelf<N, S>>,
     gate: &G,
-    picks: &Picks<'_>,
+    picks: &Picks,
 ) -> Result<Vec<Returned<N, S>>, AllocFailed<Vec<NamedShelf<N, S>>>>
     requires kept { IsKeptByCompaction S.honest K.keeps }
     ensures len { IfOk result (λ v. vec_len v ≡ vec_len shelves) }
@@ -261,35 +261,7 @@ pub fn run_workers_returning<
         AreReturned S.honest (S.refuses N.place) K.keeps shelves.items v.items) }
     ensures back { IfErr result (λ e. e.value ≡ shelves) }
 {
-    run_picking(rt, alloc, store, shelves, gate, &Picks::Choice)
-}
-
-/// As `run_workers_returning`, but the workers compact a range of keys, level by level, and nothing
-/// else: until none of them finds files that meet the range at its levels, or all that it finds wait
-/// for a live job. It writes anew also what is not due; so deletions with nothing below them go, but
-/// where a snapshot needs them.
-pub fn run_workers_over<
-    N: Boarded,
-    S: Shelf,
-    K: Invariant,
-    G: Gate + Sync,
-    R: Threads + Wait + Sync,
->(
-    rt: &R,
-    alloc: Global,
-    store: &Store<N, S, K>,
-    shelves: Vec<NamedShelf<N, S>>,
-    gate: &G,
-    manual: &ManualCompaction,
-) -> Result<Vec<Returned<N, S>>, AllocFailed<Vec<NamedShelf<N, S>>>>
-    requires kept { IsKeptByCompaction S.honest K.keeps }
-    ensures len { IfOk result (λ v. vec_len v ≡ vec_len shelves) }
-    ensures ends { IfOk result (λ v. All (λ r. IsWorkersEnd S.honest r.0) v.items) }
-    ensures returned { IfOk result (λ v.
-        AreReturned S.honest (S.refuses N.place) K.keeps shelves.items v.items) }
-    ensures back { IfErr result (λ e. e.value ≡ shelves) }
-{
-    run_picking(rt, alloc, store, shelves, gate, &Picks::Manual(manual))
+    run_workers_by(rt, alloc, store, shelves, gate, &Picks::Choice)
 }
 
 /// As `run_workers_returning`, and the shelves are let go.

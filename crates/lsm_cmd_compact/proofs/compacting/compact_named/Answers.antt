@@ -20,12 +20,12 @@ compact_state-requires-clause-steps g c κs within = c.what_was_found_is_kept.en
 
 pub returns-in_err-state-clause-fault : goal.returns-in_err-state-clause-fault
 returns-in_err-state-clause-fault g c =
-    let p = err_from_is_err_and c.from_residual-in_err-state.result c.from_residual-in_err-state.ensures.1 in
+    let p = err_from_is_err_and c.from_residual.result c.from_residual.ensures.1 in
     rw (p.1, p.2) (inr (inl (inl (c.in_err-state.field-0.0, refl, c.in_err-state.ensures.refused))))
 
 pub returns-in_err-state-clause-left : goal.returns-in_err-state-clause-left
 returns-in_err-state-clause-left g c =
-    let p = err_from_is_err_and c.from_residual-in_err-state.result c.from_residual-in_err-state.ensures.1 in
+    let p = err_from_is_err_and c.from_residual.result c.from_residual.ensures.1 in
     rw (p.1, p.2) (λ other. keeps_same (g.O.Write.contents c.args.out.now))
 
 pub returns-in_err-left-clause-fault : goal.returns-in_err-left-clause-fault

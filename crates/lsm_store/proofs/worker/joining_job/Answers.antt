@@ -6,3 +6,6 @@ returns-in-Ok-Some-clause-step g c =
     let ok = rw c.in-Ok-Some.field-0-is at c.in-Ok-Some.ensures.ok in
     let event = rw c.in-Ok-Some.field-0-is at c.in-Ok-Some.ensures.event in
     step_reserved g.S.Shelf.honest c.args.state.now c.reserve_next.new.self c.in-Ok-Some.job _ _ ok event
+
+pub returns-in-Ok-Some-clause-next : goal.returns-in-Ok-Some-clause-next
+returns-in-Ok-Some-clause-next g c = rw c.in-Ok-Some.field-0-is at c.in-Ok-Some.ensures.next
