@@ -1,7 +1,8 @@
-use Rattle.std.proofs.Common.{◌≡◌, ◌≤◌, ℕ, List, arith, sym, ap, ◌∙◌, subst}
+use Rattle.std.proofs.Common.{◌≡◌, ◌≤◌, ◌<◌, ℕ, List, arith, sym, ap, ◌∙◌, subst}
 use Rattle.lsm_picker.specs.Joining.{Span}
 use Rattle.lsm_state.specs.Held.{Held}
 use Rattle.lsm_state.specs.Reserving.{IsRangePlan, plan_in}
+use Rattle.lsm_store.specs.Picking.{HasToWaitAt}
 use Rattle.lsm_store.proofs.manual_compaction.ManualCompaction.reserve.Goals as goal
 
 pub returns-in-Ok-Some-clause-next : goal.returns-in-Ok-Some-clause-next
@@ -14,6 +15,7 @@ returns-in-Ok-Some-clause-next g c = λ h.
     let few : at ≤ c.args.self.now.level = omega (arith, c.loop-level-test.true, last) in
     let from : c.as_slice-from.result.now ≡ c.args.self.now.from = c.as_slice-from.ensures ∙ sym (ap (λ (s : Span). s.from) self_is) in
     let to : c.as_slice-to.result.now ≡ c.args.self.now.to = c.as_slice-to.ensures ∙ sym (ap (λ (s : Span). s.to) self_is) in
+    let waits : (n : ℕ) → n < at → HasToWaitAt c.args.self.now c.args.state.now n = λ n lt. c.loop-level.invariant.wait h n lt in
     let first = subst (λ (s : Held). IsRangePlan s at c.as_slice-from.result.now c.as_slice-to.result.now plan) c.loop-level.invariant.same planned in
     let second = subst (λ (k : List ℕ). IsRangePlan c.args.state.now at k c.as_slice-to.result.now plan) from first in
-    (at, few, subst (λ (k : List ℕ). IsRangePlan c.args.state.now at c.args.self.now.from k plan) to second)
+    (at, few, waits, subst (λ (k : List ℕ). IsRangePlan c.args.state.now at c.args.self.now.from k plan) to second)
