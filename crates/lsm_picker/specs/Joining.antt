@@ -29,6 +29,11 @@ pub record IsCrowded (target_size : ℕ) (ts : List Table) : Type 0 where
   pub four : 4 ≤ length ts
   pub small : length ts ≤ 2 * length (filter (is_small target_size) ts)
 
+-- crowded, with eight files at least: level 0 has room for twelve
+pub record IsPressed (target_size : ℕ) (ts : List Table) : Type 0 where
+  pub crowded : IsCrowded target_size ts
+  pub eight : 8 ≤ length ts
+
 -- the least and the greatest user key of all the files
 pub record IsHull (ts : List Table) (from to : UserKey) : Type 0 where
   pub first : (t : Table) × Has ts t × (from ≡ user_of t.smallest)
@@ -129,9 +134,21 @@ IsPart v target_size from to s =
     × ((t : Table) × IsNextInTurn v s.level from to t × (s.from ≡ user_of t.smallest)
     × (s.to ≡ user_of t.largest)))
 
--- What is joined: the wanted range or a part of it, at the first level where that is no waste.
-pub record IsJoined (v : Levels) (target_size : ℕ) (s : Span) : Type 0 where
+-- the hull of level 0, at level 0 itself
+pub record IsPressedHull (v : Levels) (target_size : ℕ) (s : Span) : Type 0 where
+  pub pressed : IsPressed target_size (level_in v.tables 0)
+  pub level : s.level ≡ 0
+  pub hull : IsHull (level_in v.tables 0) s.from s.to
+
+-- the wanted range or a part of it, at the first level where that is no waste
+pub record IsSunkPart (v : Levels) (target_size : ℕ) (s : Span) : Type 0 where
   pub wanted : Span
   pub wants : IsWanted v target_size wanted
   pub sunk : IsSunk v wanted.level wanted.from wanted.to s.level
   pub part : IsPart v target_size wanted.from wanted.to s
+
+-- What is joined: the hull of a pressed level 0, so that what comes in waits for no deeper level;
+-- else what may be joined deeper.
+abbrev pub IsJoined : Levels → ℕ → Span → Type 0
+IsJoined v target_size s = IsPressedHull v target_size s
+    ⊎ ((IsPressed target_size (level_in v.tables 0) → ⊥) × IsSunkPart v target_size s)

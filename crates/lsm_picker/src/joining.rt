@@ -6,7 +6,8 @@ ghost use Rattle.std.specs.List.{filter};
 ghost use Rattle.lsm_table.specs.Registry.{bytes_of};
 ghost use Rattle.lsm_picker.specs.Joining.{HasNoRun, IsCrowded, IsHeavyBelow, IsHull, IsJoined};
 ghost use Rattle.lsm_picker.specs.Joining.{IsNextInTurn, IsOverFirstRun, IsPart, IsRun, IsSettled};
-ghost use Rattle.lsm_picker.specs.Joining.{IsSunk, IsTooMuch, IsWanted, NoRunBefore, bytes_met};
+ghost use Rattle.lsm_picker.specs.Joining.{IsPressed, IsSunk, IsSunkPart, IsTooMuch, IsWanted};
+ghost use Rattle.lsm_picker.specs.Joining.{NoRunBefore, bytes_met};
 ghost use Rattle.lsm_picker.specs.Joining.{first_over, is_small, lies_ahead, next_beyond};
 
 use crate::candidates::is_beyond;
@@ -58,6 +59,17 @@ fn is_crowded<N: Naming, S: Shelf>(
 {
     let count = tables.len();
     count >= 4 && count as u128 <= 2 * small_count(registry, tables, target_size)
+}
+
+/// Whether level 0 is crowded and has eight files at least.
+fn is_pressed<N: Naming, S: Shelf>(
+    registry: &Registry<N, S>,
+    tables: &[TableRef<N, S>],
+    target_size: u64,
+) -> bool
+    ensures { IsTrue result ↔ IsPressed target_size tables.now }
+{
+    tables.len() >= 8 && is_crowded(registry, tables, target_size)
 }
 
 /// The bytes of tables.
@@ -308,16 +320,32 @@ fn part_of<'a, N: Naming, S: Shelf>(
     Span { level, from, to }
 }
 
+/// What is joined where level 0 is not pressed.
+fn sunk_part<'a, N: Naming, S: Shelf>(
+    registry: &'a Registry<N, S>,
+    version: &Version<N, S>,
+    target_size: u64,
+) -> Option<Span<'a>>
+    ensures { MatchOption result (IsSettled version.now target_size) (λ s.
+        IsSunkPart version.now target_size s) }
+{
+    let whole = wanted(registry, version, target_size)?;
+    let level = sunk(registry, version, whole.level, whole.from, whole.to);
+    Some(part_of(registry, version, target_size, level, whole.from, whole.to))
+}
+
 /// The files that are joined next, so that small files become larger ones; none where no file wants
 /// to be joined.
 ///
-/// The range is that of the first run, twelve neighbours with at most three target sizes of bytes
-/// together, of the first level from 1 to 5 that has one. Else it is the hull of level 0, where
-/// that is crowded: it has four files at least, and at least half of them are small, below a
-/// quarter of the target size. The files are those of the first level from there on below which the
-/// range meets at most six times the bytes that it meets at the level itself (of level 5 where
-/// there is none before). Where these are more than four target sizes of bytes below level 0, it is
-/// the next one of them: the first beyond the level's compaction pointer, or else the first.
+/// Where level 0 is crowded and has eight files at least they are all those of level 0, so that what
+/// comes in waits for no deeper level. Else the range is that of the first run, twelve neighbours
+/// with at most three target sizes of bytes together, of the first level from 1 to 5 that has one;
+/// or else it is the hull of level 0, where that is crowded: it has four files at least, and at
+/// least half of them are small, below a quarter of the target size. The files are those of the
+/// first level from there on below which the range meets at most six times the bytes that it meets
+/// at the level itself (of level 5 where there is none before). Where these are more than four
+/// target sizes of bytes below level 0, it is the next one of them: the first beyond the level's
+/// compaction pointer, or else the first.
 ///
 /// Live jobs are not looked at: a plan that conflicts with one has to wait.
 pub fn span_to_join<'a, N: Naming, S: Shelf>(
@@ -329,7 +357,10 @@ pub fn span_to_join<'a, N: Naming, S: Shelf>(
     ensures { MatchOption result (IsSettled version.now target_size) (λ s.
         IsJoined version.now target_size s) }
 {
-    let whole = wanted(registry, version, target_size)?;
-    let level = sunk(registry, version, whole.level, whole.from, whole.to);
-    Some(part_of(registry, version, target_size, level, whole.from, whole.to))
+    let newest = version.level(0);
+    if is_pressed(registry, newest, target_size) {
+        let (from, to) = hull_of(registry, newest);
+        return Some(Span { level: 0, from, to });
+    }
+    sunk_part(registry, version, target_size)
 }

@@ -267,7 +267,8 @@ pub next_chosen : (h : Held) (p : TablePlan) → HasNoJoining h → IsChosen h p
 next_chosen h p none c = inr (inr (none, c))
 
 pub joined_low : (v : Levels) (target_size : ℕ) (s : Span) → IsJoined v target_size s → s.level ≤ 5
-joined_low v target_size s j = j.sunk.last
+joined_low v target_size s (inl hull) = subst (λ (n : ℕ). n ≤ 5) (sym hull.level) (omega arith)
+joined_low v target_size s (inr part) = part.1.sunk.last
 
 pub chosen_of : (h : Held) (v : Levels) (rs : List Reserved) (o : Option TablePlan) → v ≡ h.slots.version → rs ≡ reserved_jobs h.live → MatchOption o (HasNoChoice v rs) (λ p. IsChoice v rs p)
     → MatchOption o (HasNoChoice h.slots.version (reserved_jobs h.live)) (λ p. IsChosen h p)

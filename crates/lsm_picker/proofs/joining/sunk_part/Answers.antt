@@ -1,7 +1,7 @@
 use Rattle.std.proofs.Common.{◌≡◌, ℕ, sym, subst}
 use Rattle.lsm_version.specs.Versions.{Levels}
 use Rattle.lsm_picker.specs.Joining.{IsPart, IsSunk, IsWanted, Span}
-use Rattle.lsm_picker.proofs.joining.span_to_join.Goals as goal
+use Rattle.lsm_picker.proofs.joining.sunk_part.Goals as goal
 
 pub returns : goal.returns
 returns g c =
