@@ -13,5 +13,5 @@ loop-level-preserved g c = λ n lt t has. elim (cases_lt n c.loop-level.level) [
       let same : n ≡ c.loop-level.level = omega (arith, lt, ge) in
       let here : Has (level_in c.args.version.now.tables c.loop-level.level) t = subst (λ (m : ℕ). Has (level_in c.args.version.now.tables m) t) same has in
       c.highest-last.ensures.each t (subst (λ (ts : List Table). Has ts t) (sym c.level.ensures) here)
-    )
+      )
 ]
