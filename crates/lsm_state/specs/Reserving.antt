@@ -136,8 +136,8 @@ abbrev pub HasNoJoining : Held → Type 0
 HasNoJoining h = IsSettled h.slots.version h.options.target_size
     ⊎ ((s : Span) × IsJoined h.slots.version h.options.target_size s × HasToWait h s)
 
--- The chosen plan where it is below level 0; else that of the files that are joined; else the chosen
--- one.
+-- The chosen plan where it is below level 0; else that of the files that are joined; else the
+-- chosen one.
 abbrev pub IsNext : Held → TablePlan → Type 0
 IsNext h p = (IsChosen h p × (1 ≤ p.level)) ⊎ (HasNoneBelow h × IsJoining h p)
     ⊎ (HasNoJoining h × IsChosen h p)

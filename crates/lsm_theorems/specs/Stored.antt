@@ -19,4 +19,5 @@ marks_of_program = record { name = system_mark_name; image = system_mark_image k
 
 abbrev pub StoredByProgram : Place → ℕ → List ℕ → Type 0
 StoredByProgram place = Stored (FileReceipt (SystemMark Mute Tag) marks_of_program)
-    (λ r. IsOfSystem place (mark_of r)) file_number (λ r. system_mark_image kept_by_mute (mark_of r))
+    (λ r. IsOfSystem place (mark_of r)) file_number
+    (λ r. system_mark_image kept_by_mute (mark_of r))
