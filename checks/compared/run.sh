@@ -3,8 +3,9 @@
 # was read whole (`Images` of lsm_folder): of it the theorems on reads have no premise. The program
 # that users have lets all through, so here is shown what that costs: over a disk that lies where no
 # checksum shows it (lie.c) its `get` and `scan` tell the lie, and its `compact` makes it stay. The
-# program that compares is refused 9 Device, and the folder gives what it gave. Then that program is
-# killed and cut off from its disk, as `killed` and `power_cuts` do with the other.
+# program that compares is refused 9 Device, a compaction of it 35 with that 9, and the folder gives
+# what it gave. Then that program is killed and cut off from its disk, as `killed` and `power_cuts`
+# do with the other.
 #
 #   run.sh [KILLS [CUTS]]      how many of each (100 and 200)
 #
@@ -49,7 +50,7 @@ want "installed 1" "$(lied_to "$mute" compact mute)"
 want "a=LYING"$'\n'"$others" "$("$mute" scan mute --text)"
 want "$refused"$'\n'"read compared/000008.ldb: other bytes than before" "$(lied_to "$compared" get compared a --text)"
 want "$refused" "$(lied_to "$compared" scan compared --text | head -n 1)"
-want "$refused" "$(lied_to "$compared" compact compared | head -n 1)"
+want "refused 35 ReadFailed 8 9" "$(lied_to "$compared" compact compared | head -n 1)"
 want "a=TRUTH"$'\n'"$others" "$("$mute" scan compared --text)"
 want "installed 1" "$("$compared" compact compared)"
 want "a=TRUTH"$'\n'"$others" "$("$mute" scan compared --text)"

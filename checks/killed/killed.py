@@ -91,13 +91,14 @@ class Killer:
 
     def scanned(self):
         status, out, err = self.run(["scan", self.path])
-        if status != 0 or err:
+        if status != 0 or plain.besides_torn(err):
             self.stop(f"lsm scan: status {status}, says: {err[:300]}")
         return out.splitlines()
 
     def look(self, *contents):
         """Which of these contents the directory has."""
         status, out, err = self.run(["check", self.path])
+        err = plain.besides_torn(err)
         if status == 1 and err.startswith("refused 10 Missing\n") and not self.is_begun:
             return 0
         if status != 0 or err:
@@ -173,11 +174,11 @@ class Killer:
         return status is None
 
     def compact(self, kills):
-        words = ["compact", self.path, "--workers", str(self.rng.randrange(1, 9))]
+        words = ["compact", self.path, "--workers", str(self.rng.randrange(1, 9)), "--accept-rest"]
         status, out, err = self.run(words, kills)
         self.counts["compactions"] += 1
-        if status == 1 and err.startswith("refused 10 Missing\n") and not self.is_begun:
-            return False
+        if status in (1, None) and err.startswith("refused 10 Missing\n") and not self.is_begun:
+            return status is None  # killed behind its refusal, or not
         if status not in (0, None) or err or (status == 0 and not re.fullmatch(r"installed \d+\n", out)):
             self.stop(f"lsm compact {' '.join(words[2:])}: status {status}, answers {out[:100]!r}, says: {err[:300]}")
         if status is None:

@@ -142,5 +142,10 @@ def main(words):
     sys.stdout.writelines(f"{line}\n" for line in lines)
 
 
+def besides_torn(said):
+    """What is said beside the note of a manifest that ends within a record."""
+    return re.sub(r"note: the last [^\n]* of the manifest hold[^\n]* no whole record[^\n]*\n", "", said)
+
+
 if __name__ == "__main__":
     main(sys.argv[1:])

@@ -63,7 +63,7 @@ ingest() { # DIR: batches come in until there are as many as asked for, or level
     ask check "$1"
     last=$(sed -n 's/^last //p' "$scratch/answer")
     if ! "$lsm" ingest "$1" "$scratch/batch" > "$scratch/answer" 2> "$scratch/fault"; then
-      [[ $(cat "$scratch/fault") == "refused 40 LevelZeroFull" ]] || stop "lsm ingest says: $(head -c 300 "$scratch/fault")"
+      [[ $(head -1 "$scratch/fault") == "refused 40 LevelZeroFull" ]] || stop "lsm ingest says: $(head -c 300 "$scratch/fault")"
       break
     fi
     [[ $(cat "$scratch/answer") =~ ^file\ ([0-9]+)\ first\ $((last + 1))\ last\ $((last + count))$ ]] || stop "lsm ingest says: $(cat "$scratch/answer")"

@@ -15,7 +15,10 @@ from markdown import TOP
 
 CRATES = TOP / "crates"
 OWN = 200  # from here on numbers are those of the server and its clients
-BARE = {("lsm_merge", "OutOfOrder")}  # stands behind 35, which names the input, and shows no field
+FEWER = {  # how many fields are printed where a crate knows fewer than the table names
+    ("lsm_merge", "OutOfOrder"): 0,  # stands behind 35, which names the input
+    ("lsm_snappy", "BadSnappy"): 1,  # the cause; lsm_inflate adds where the block is
+}
 passed = failed = 0
 
 
@@ -126,8 +129,7 @@ def main():
         if shown and not shown.startswith("{"):
             judge(shown.split()[0] == name, f"{where}: {name} is printed as {shown.split()[0]}")
             count = shown.count("{")
-            if (where.parts[1], name) in BARE:
-                fields = 0
+            fields = FEWER.get((where.parts[1], name), fields)
             judge(count == fields, f"{where}: {name} is printed with {count} fields, of {fields} in the tables")
     for path, number, name in (*numbered_in_specs(), *spelled()):
         where = path.relative_to(TOP)

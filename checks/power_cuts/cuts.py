@@ -92,6 +92,7 @@ class Cutter:
         if None in contents and "CURRENT" not in found:
             return None
         status, out, err = self.run("check", self.left)
+        err = plain.besides_torn(err)
         refusal = DAMAGE.match(err)
         if status == 1 and refusal and len(contents) > 1 and self.is_of_garbage(found, other, refusal):
             self.counts["damaged"] += 1
@@ -101,7 +102,7 @@ class Cutter:
         rest = re.search(r"^rest (\d+)$", out, re.M)
         self.counts["torn"] += rest is not None and rest[1] != "0"
         status, out, err = self.run("scan", self.left)
-        if status or err:
+        if status or plain.besides_torn(err):
             raise Difference(f"lsm scan: status {status}, says: {err[:300].strip()}")
         scanned = out.splitlines()
         for content in contents:
@@ -141,7 +142,7 @@ class Cutter:
         """The next command, and what the content is behind it."""
         if self.content is not None and self.young() >= self.rng.randrange(4, 10):
             self.workers = 5 - self.workers
-            return ["compact", self.db, "--workers", str(self.workers)], self.content
+            return ["compact", self.db, "--workers", str(self.workers), "--accept-rest"], self.content
         batch = self.draw()
         with open(f"{self.folder}/batch", "w") as file:
             file.writelines(f"{line}\n" for line in plain.batch_lines(batch))

@@ -14,6 +14,9 @@ OTHER = ["open", "creat", "writev", "pwrite64", "pwritev", "pwritev2", "truncate
 OTHER += ["unlinkat", "link", "linkat", "symlink", "symlinkat", "copy_file_range", "sendfile", "splice", "dup", "dup2", "dup3", "rmdir"]
 TRACED = ",".join(KNOWN + OTHER)
 
+# A path through the descriptor of an open folder.
+THROUGH = re.compile(rb"/proc/self/fd/(\d+)(/.*)?", re.DOTALL)
+
 # Which syncs a disk forgets: of a file by its name and how many of its bytes are durable, of the folder (None).
 FORGOTTEN = {
     "none": lambda name, kept: False,
@@ -79,8 +82,14 @@ def understand(log, folder):
     calls, files = [None] * len(said), {}
     folder = os.fsencode(os.path.abspath(folder))
 
-    def name_of(word):
+    def path_of(word):
+        """The program finds its files through the descriptor of the folder that it opened."""
         path = os.path.abspath(text(word))
+        through = THROUGH.fullmatch(path)
+        return folder + (through[2] or b"") if through and files.get(os.fsdecode(through[1])) == "" else path
+
+    def name_of(word):
+        path = path_of(word)
         return os.fsdecode(os.path.basename(path)) if os.path.dirname(path) == folder else None
 
     for kind, number in steps:
@@ -94,7 +103,7 @@ def understand(log, folder):
         if name == "close" or kind == "begin" or answer.startswith("-") or answer == "?":
             continue
         if name == "openat":
-            path, flags = os.path.abspath(text(words[1])), words[2].split("|")
+            path, flags = path_of(words[1]), words[2].split("|")
             inner = name_of(words[1])
             files[answer] = "" if path == folder else inner
             if inner is not None and "O_CREAT" in flags:

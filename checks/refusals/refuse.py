@@ -293,7 +293,7 @@ class Row:
     def kept(self, found):
         """The files that a refusal leaves as they were: all, but that a run which writes may have
         begun a manifest before it is refused."""
-        is_before_all = re.match(r"refused (10|46|51|52|53) ", self.first + " ")
+        is_before_all = re.match(r"refused (10|46|51|52|53|61) ", self.first + " ")
         if self.words[0] in ("ingest", "put", "load", "compact", "shell") and not is_before_all:
             return {name: size for name, size in found.items() if not re.match("MANIFEST-|CURRENT", name)}
         return found

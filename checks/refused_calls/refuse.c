@@ -34,7 +34,21 @@ __attribute__((constructor)) static void read_words(void) {
   is_short = getenv("SHORT") != NULL;
 }
 
-static enum How how(const char *name, const char *path) {
+// The program finds its files through the descriptor of the folder that it opened.
+static const char *through(const char *path, char *room, size_t size) {
+  int file, end = 0;
+  char link[64];
+  if (sscanf(path, "/proc/self/fd/%d%n", &file, &end) != 1 || path[end] != '/') return path;
+  snprintf(link, sizeof link, "/proc/self/fd/%d", file);
+  ssize_t length = readlink(link, room, size - 1);
+  if (length < 0) return path;
+  snprintf(room + length, size - length, "%s", path + end);
+  return room;
+}
+
+static enum How how(const char *name, const char *said) {
+  char room[8192];
+  const char *path = through(said, room, sizeof room);
   if (strcmp(name, call) || strncmp(path, within, strlen(within))) return Done;
   long number = ++calls;
   if (number < at || number > at + more) return Done;

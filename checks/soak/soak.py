@@ -4,7 +4,7 @@ Writers of each kind bring their keys in by `lsm shell --workers 1`, round after
 a folder of its own, with single puts and with batches. After each round the shell is asked how many
 tables and bytes the levels have, and the folder is looked at. LevelDB has the same writes. A line is
 printed for each round, and at the first figure that is out of its bounds the status is 1. Bytes on the
-disk are printed and not judged: nothing collects in a shell unless it is asked to.
+disk are printed and not judged: tables that nothing needs go beside the worker, old manifests stay.
 """
 
 import os

@@ -4,7 +4,9 @@
 # refused is `52 Locked` and left nothing, and a scan that was not refused printed just what is
 # there. Then a reader that holds the folder beside a reader and beside a compaction, and a live
 # LevelDB that has it open, beside each command: all but `52 Locked` is a difference, and once it is
-# closed all are done. Needs g++ and libleveldb-dev. LSM=/path/to/lsm names a built program.
+# closed all are done; but `levels`, which asks for no lock, is done each time. Then the folder of a
+# shell is moved away and another gets its path: what the shell answers is in the first, and the
+# other is as it was. Needs g++ and libleveldb-dev. LSM=/path/to/lsm names a built program.
 set -euo pipefail
 here=$(cd "$(dirname "$0")" && pwd)
 work=$(mktemp -d)
@@ -93,6 +95,7 @@ beside() { # WANTED WORDS..: a command beside whoever holds the folder, done (0)
 
 each_beside() { # READING WRITING: what is wanted of reading and of writing commands beside whoever holds the folder
   local command
+  beside 0 levels db
   for command in "check db" "list db" "get db a11 --text" "scan db"; do beside "$1" $command; done
   for command in "ingest db first --text" "compact db" "clean db"; do beside "$2" $command; done
 }
@@ -122,6 +125,29 @@ wait
 holds big.list
 echo "beside a reader: reading commands are done, writing ones refused 52"
 
+pair="a folder that is moved"
+put_back
+mkfifo asked answered
+"$program" shell db --text < asked > answered 2> err &
+exec 5> asked 6< answered
+cp old.list wanted
+for key in x1 x2 x3; do
+  echo "put $key $key" >&5
+  read -r reply <&6
+  [[ $reply == file* ]] || stop "the shell answers $reply"
+  echo "$key=$key" >> wanted
+  [[ $key != x1 ]] || { mv db moved; cp -r db.old db; }
+done
+exec 5>&-
+cat <&6 > out
+exec 6<&-
+wait
+holds old.list
+rm -r db
+mv moved db
+holds wanted
+echo "a folder that is moved: what is put is in it, and the one in its place is as it was"
+
 pair="beside a live LevelDB"
 put_back
 mkfifo until
@@ -132,4 +158,4 @@ each_beside 1 1
 exec 4>&-
 wait
 each_beside 0 0
-echo "beside a live LevelDB: each command is refused 52, and done once it is closed"
+echo "beside a live LevelDB: each command but levels is refused 52, and done once it is closed"

@@ -2,29 +2,25 @@
 //! compact it. A view answers from the version that it was begun at, whatever is brought in,
 //! compacted and collected later.
 
-ghost use Rattle.std.specs.Prelude.{◌≡◌, IfOk, length};
+ghost use Rattle.std.specs.Prelude.{◌≡◌, IfOk};
 ghost use Rattle.std.specs.Option.{option_map};
 ghost use Rattle.lsm_codec.specs.Entries.{answer};
 ghost use Rattle.lsm_model.specs.Files.{all_entries};
-ghost use Rattle.lsm_state.specs.Making.{IsNewBoard, IsNewHistory};
-ghost use Rattle.lsm_state.specs.Options.{Fits};
+ghost use Rattle.lsm_opening.specs.Parts.{AreOf, usual};
 ghost use Rattle.lsm_version.specs.Versions.{files};
 
-use anyhow::Context;
+use anyhow::{Context, bail};
 use lsm_batch::Batch;
 use lsm_codec::Bytes;
-use lsm_history::NewHistory;
-use lsm_pins::{Board, Pinner, Publisher};
+use lsm_opening::{NewParts, begin};
 use lsm_slots::Boarded;
-use lsm_state::{Options, State};
 use lsm_storage::MemoryShelf;
-use lsm_store::laws::made_states_seat_their_pinners;
 use lsm_store::{NoGate, Reader, Store, View, WorkerEnd, WorkerFault, run_workers};
-use lsm_table::{NamedShelf, ReadFault, Records, Registry, Shelf, ShelfFault};
+use lsm_table::{NamedShelf, ReadFault, Shelf, ShelfFault};
 use std::alloc::{AllocError, Global};
 use std::io::Print;
 use std::marker::Brand;
-use std::sync::{Arc, Wait};
+use std::sync::Wait;
 use std::thread::Threads;
 
 fn bytes(alloc: Global, text: &str) -> Result<Bytes, AllocError> {
@@ -229,63 +225,32 @@ fn work<N: Boarded, S: Shelf, R: Threads + Wait + Print + Sync>(
     collect(rt, alloc, store, shelf)
 }
 
-/// The store of a new database, and its readers.
-fn create<N: Boarded, S: Shelf, R: Wait>(
-    rt: &R,
-    alloc: Global,
-    mut shelf: NamedShelf<N, S>,
-    options: Options,
-    registry: Arc<Registry<N, S>>,
-    board: (Publisher, Vec<Pinner>),
-    history: NewHistory,
-) -> Result<(Store<N, S>, Vec<Reader<N, S>>), ShelfFault>
-    requires fits { Fits options }
-    requires board { IsNewBoard N.board options board.0 board.1.items }
-    requires seats { length board.1.items ≡ options.readers }
-    requires history { IsNewHistory N.history history }
-{
-    let state = State::<N, S>::create(rt, alloc, &mut shelf, options, registry, board, history)?;
-    made_states_seat_their_pinners();
-    match Store::new(alloc, state, shelf) {
-        Ok(made) => Ok(made),
-        Err((_state, _shelf, fault)) => Err(fault),
-    }
-}
-
-/// A new database at work. What is generic in `N` is of the registry, the shelf's contents, the
-/// board and the history that the premises name; the caller picks them by
-/// `proofs/store/show_store/Invariants.antt`.
+/// A new database at work. What is generic in `N` is of the parts and of the shelf's contents that
+/// the premises name; the caller picks them by `proofs/store/show_store/Invariants.antt`.
 fn serve<N: Boarded, S: Shelf, R: Threads + Wait + Print + Sync>(
     rt: &R,
     alloc: Global,
     shelf: S,
-    options: Options,
-    records: Records<S::Receipt>,
-    board: (Publisher, Vec<Pinner>),
-    history: NewHistory,
+    parts: NewParts<S>,
 ) -> anyhow::Result<()>
-    requires fits { Fits options }
-    requires records { records ≡ N.registry }
+    requires parts { AreOf usual N.registry N.board N.history parts }
     requires named { (S.told shelf).place ≡ N.place }
-    requires board { IsNewBoard N.board options board.0 board.1.items }
-    requires seats { length board.1.items ≡ options.readers }
-    requires history { IsNewHistory N.history history }
 {
-    let registry = Registry::shared(alloc, records)?;
-    let mut shelf = NamedShelf::of(shelf);
+    let mut shelf: NamedShelf<N, S> = NamedShelf::of(shelf);
     let mut writer = shelf.fork(alloc)?;
-    let (store, mut readers) = create::<N, S, R>(
-        rt, alloc, shelf, options, registry, board, history,
-    )?;
-    work(rt, alloc, &store, &mut readers, &mut writer)
+    let state = match begin(rt, alloc, &mut shelf, 1, parts) {
+        Ok(state) => state,
+        Err(fault) => bail!("{fault}"),
+    };
+    match Store::new(alloc, state, shelf) {
+        Ok((store, mut readers)) => work(rt, alloc, &store, &mut readers, &mut writer),
+        Err((_state, _shelf, fault)) => Err(fault.into()),
+    }
 }
 
 /// What a program does with a store.
 pub fn show_store<R: Threads + Wait + Print + Sync>(rt: &R, alloc: Global) -> anyhow::Result<()> {
-    let options = Options::usual();
-    let records = Records::new(alloc)?;
-    let board = Board::new(alloc, options.readers, options.versions)?;
-    let history = NewHistory::new(alloc)?;
+    let parts = NewParts::make(alloc)?;
     let shelf = MemoryShelf::new(alloc)?;
-    serve::<Brand, MemoryShelf, _>(rt, alloc, shelf, options, records, board, history)
+    serve::<Brand, MemoryShelf, _>(rt, alloc, shelf, parts)
 }

@@ -1,1 +1,4 @@
 mod BatchLaws
+mod LimitLaws
+mod LastLaws
+pub mod CallerLemmas

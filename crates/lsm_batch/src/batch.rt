@@ -57,6 +57,15 @@ impl Batch {
         Ok(())
     }
 
+    // A write at the end. `AllocError` where a growth was refused; then the batch is as before.
+    pub(crate) fn push(&mut self, write: Write) -> Result<(), AllocError>
+        ensures ok { OnOk result (self.new ≡ self.old ++ write ∷ []) }
+        ensures err { OnErr result (self.new ≡ self.old) }
+    {
+        self.writes.push(write)?;
+        Ok(())
+    }
+
     /// How many entries it has.
     pub fn len(&self) -> usize
         ensures { result ≡ length self.now }

@@ -6,7 +6,7 @@ ghost use Rattle.lsm_block.specs.Block.{Ascends};
 ghost use Rattle.lsm_block.specs.declared.build_fault.BuildFault.TheVariants.{TooLarge};
 ghost use Rattle.lsm_table.specs.Options.{AreInRange};
 ghost use Rattle.lsm_table.specs.TableBuilding.{PassesLimit, table_bytes};
-ghost use Rattle.lsm_batch.specs.Batches.{IsBatch, entries_from, written_at};
+ghost use Rattle.lsm_batch.specs.Batches.{IsBatch, KeysRise, entries_from, written_at};
 ghost use Rattle.lsm_batch.specs.Images.{IsImage, PassesIn, PassesTable};
 
 use crate::batch::Batch;
@@ -54,6 +54,26 @@ impl Batch {
         first: u64,
     ) -> Result<TableImage, BuildFault>
         requires batch { IsBatch self.now }
+        requires sequences { first + length self.now ≤ 2 ^ 56 }
+        requires options { AreInRange options }
+        ensures bytes { IfOk result (λ i.
+            i.bytes ≡ table_bytes options (entries_from first self.now)) }
+        ensures image { IfOk result (IsImage (entries_from first self.now)) }
+        ensures large { result ≡ Err TooLarge → PassesTable options (entries_from first self.now) }
+    {
+        self.build_run(alloc, options, first)
+    }
+
+    /// The same of a batch that may pass the limits of one that comes in, as that of a log's writes
+    /// does: it has an entry, and its keys ascend.
+    pub fn build_run(
+        &self,
+        alloc: Global,
+        options: TableOptions,
+        first: u64,
+    ) -> Result<TableImage, BuildFault>
+        requires some { 0 < length self.now }
+        requires rises { KeysRise (length self.now) self.now }
         requires sequences { first + length self.now ≤ 2 ^ 56 }
         requires options { AreInRange options }
         ensures bytes { IfOk result (λ i.

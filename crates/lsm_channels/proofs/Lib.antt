@@ -1,3 +1,8 @@
+mod KeepingLaws
+mod RunLaws
+mod Sending
+mod TurnLaws
+mod WireLaws
 mod KnownLaws
 mod SeenLaws
 mod PinLaws

@@ -1,12 +1,15 @@
 -- What a session is answered by what is read.
-use Rattle.std.proofs.Common.{◌≡◌, ℕ, List, Result, Ok, Err, IfErr, IfOk, refl, subst, inl, inr}
+use Rattle.std.proofs.Common.{◌≡◌, ℕ, List, Result, Ok, Err, IfErr, IfOk, OnErr, refl, subst, inl, inr}
 use Rattle.std.specs.Prelude.{◌⊎◌}
 use Rattle.lsm_codec.specs.Entries.{Entry}
 use Rattle.lsm_history.specs.History.{IsLater}
 use Rattle.lsm_shelf.specs.Told.{Told}
 use Rattle.lsm_state.specs.declared.state_fault.StateFault.{StateFault}
 use Rattle.lsm_store.specs.Readers.{Learnt}
-use Rattle.lsm_channels.specs.Answered.{refusal_frame}
+use Rattle.lsm_frames.specs.Answers.{Done, Nothing}
+use Rattle.lsm_store.specs.declared.worker_fault.WorkerFault.{WorkerFault}
+use Rattle.lsm_channels.specs.Answered.{done_frame, refusal_frame, worker_refusal_frame}
+use Rattle.lsm_channels.specs.Answering.{Says, SaysWork}
 use Rattle.lsm_channels.specs.Served.{Served}
 
 -- what is said of snapshots that were taken, of a reader before and after, and of what was known and is known
@@ -38,3 +41,23 @@ pub says_refused : {T : Type 0} (Done : Seeing (List ℕ)) (Fault : Seeing State
 says_refused Done Fault frame session b a shelf knew knows taken held done e view same later is refused said =
     let fault = subst (λ ts. Fault ts b a knew knows e) same (subst (λ r. IfErr r (λ f. Fault held b a knew knows f)) is refused) in
     subst (λ (s : Served). ReadsBy Done Fault s (session_of a shelf knows taken) frame) view (refl, refl, later, inr (e, fault, said))
+
+-- ---- answers for which there was no memory
+
+-- some frame says what was done, or the refusal
+pub says_some : {A : Type 0} (done : A → Done) (r : Result A StateFault) → (frame : List ℕ) × Says done r frame
+says_some done (Ok x) = (done_frame (done x), refl)
+says_some done (Err e) = (refusal_frame e, refl)
+
+pub says_some_work : (r : Result (Unit {0}) WorkerFault) → (frame : List ℕ) × SaysWork r frame
+says_some_work (Ok x) = (done_frame Nothing, refl)
+says_some_work (Err e) = (worker_refusal_frame e, refl)
+
+-- what would have been said, where there was no memory for it
+pub unsaid : {T E : Type 0} {P : Type 0} (r : Result T E) → P → OnErr r P
+unsaid (Ok v) p = tt
+unsaid (Err e) p = p
+
+pub unsaid_as : {T E : Type 0} (P Q : List ℕ → Type 0) (r : Result T E) → ((frame : List ℕ) → P frame → Q frame) → OnErr r ((frame : List ℕ) × P frame) → OnErr r ((frame : List ℕ) × Q frame)
+unsaid_as P Q (Ok v) so said = tt
+unsaid_as P Q (Err e) so said = (said.0, so said.0 said.1)

@@ -11,6 +11,7 @@ use Rattle.lsm_manifest.specs.FileOrder.{TableFile}
 use Rattle.lsm_shelf.specs.Asked as shelf
 use Rattle.lsm_shelf.specs.Told as tellings
 use Rattle.lsm_shelf.specs.declared.shelf_fault.ShelfFault.{ShelfFault}
+use Rattle.lsm_state.specs.Held.{Held}
 use Rattle.lsm_state.specs.declared.ingest.Ingested.{Ingested}
 use Rattle.lsm_state.specs.declared.state_fault.StateFault.{StateFault}
 use Rattle.lsm_model.specs.Plain.{without_snapshot}
@@ -39,64 +40,69 @@ SaysWork (Err e) frame = frame ≡ worker_refusal_frame e
 
 -- The store took the batch of the last writes, or refused; the answer says which sequences it has,
 -- or the refusal.
-abbrev pub AnswersWrite : (shelf.Asked → ShelfFault → Type 0) → List Written
+abbrev pub AnswersWrite : (shelf.Asked → ShelfFault → Type 0) → (Held → Type 0) → List Written
     → (before after : Served) → List ℕ → Type 0
-AnswersWrite Refused ws before after frame =
+AnswersWrite Refused keeps ws before after frame =
     (done : Result Ingested StateFault)
-    × IfOk done (λ r. IsWritten ws r after.known before.shelf after.shelf)
-    × IfErr done (λ e. IsWriteFault Refused ws e before.shelf after.shelf)
+    × IfOk done (λ r. IsWritten keeps ws r after.known before.shelf after.shelf)
+    × IfErr done (λ e. IsWriteFault Refused keeps ws e before.shelf after.shelf)
     × Says (λ r. Wrote r.first r.last) done frame
 
 -- The answer has the values of the keys, or the refusal of a read.
-abbrev pub AnswersRead : Type 0 → When → List (List ℕ) → (before after : Served) → List ℕ → Type 0
-AnswersRead Honest when keys before after frame =
-    IsRead Honest when keys before.taken before.reader after.reader before.known after.known frame
-    ⊎ ((e : StateFault) × IsReadFault Honest when keys before.taken before.reader after.reader
+abbrev pub AnswersRead : Type 0 → (Held → Type 0) → When → List (List ℕ) → (before after : Served)
+    → List ℕ → Type 0
+AnswersRead Honest keeps when keys before after frame =
+    IsRead Honest keeps when keys before.taken before.reader after.reader before.known after.known
+    frame
+    ⊎ ((e : StateFault) × IsReadFault Honest keeps when keys before.taken before.reader after.reader
     before.known after.known e × (frame ≡ refusal_frame e))
 
 -- The answer has the first pairs of the range, or the refusal of a scan.
-abbrev pub AnswersScan : Type 0 → Stretch → (before after : Served) → List ℕ → Type 0
-AnswersScan Honest s before after frame =
-    IsScanned Honest s before.taken before.reader after.reader before.known after.known frame
-    ⊎ ((e : StateFault) × IsScanFault Honest s before.taken before.reader after.reader before.known
+abbrev pub AnswersScan : Type 0 → (Held → Type 0) → Stretch → (before after : Served) → List ℕ
+    → Type 0
+AnswersScan Honest keeps s before after frame =
+    IsScanned Honest keeps s before.taken before.reader after.reader before.known after.known frame
+    ⊎ ((e : StateFault) × IsScanFault Honest keeps s before.taken before.reader after.reader
+    before.known
     after.known e × (frame ≡ refusal_frame e))
 
 -- The answer has the number and the sequence of a snapshot that was taken, which the channel knows
 -- from then on; or the refusal.
-abbrev pub AnswersSnapshot : (before after : Served) → List ℕ → Type 0
-AnswersSnapshot before after frame =
+abbrev pub AnswersSnapshot : (Held → Type 0) → (before after : Served) → List ℕ → Type 0
+AnswersSnapshot keeps before after frame =
     (done : Result (ℕ × ℕ) StateFault)
-    × IfOk done (λ r. IsTaken r.0 r.1 before.known after.known before.taken after.taken)
-    × IfErr done (λ e. IsUntaken e before.known after.known before.taken after.taken)
+    × IfOk done (λ r. IsTaken keeps r.0 r.1 before.known after.known before.taken after.taken)
+    × IfErr done (λ e. IsUntaken keeps e before.known after.known before.taken after.taken)
     × Says (λ r. Pinned r.0 r.1) done frame
 
 -- The snapshot was given up; or it is not live, and the answer says so.
-abbrev pub AnswersRelease : ℕ → (before after : Served) → List ℕ → Type 0
-AnswersRelease number before after frame =
+abbrev pub AnswersRelease : (Held → Type 0) → ℕ → (before after : Served) → List ℕ → Type 0
+AnswersRelease keeps number before after frame =
     (done : Result (Unit {0}) StateFault)
-    × OnOk done (IsReleased number before.known after.known
+    × OnOk done (IsReleased keeps number before.known after.known
     × (after.taken ≡ without_snapshot number before.taken))
-    × IfErr done (λ e. IsUnreleased number e before.known after.known
+    × IfErr done (λ e. IsUnreleased keeps number e before.known after.known
     × (after.taken ≡ before.taken)) × Says (λ r. Nothing) done frame
 
 -- Nothing was left to compact; or the answer says the fault of the worker that looked last.
-abbrev pub AnswersCompact : Type 0 → (before after : Served) → List ℕ → Type 0
-AnswersCompact Honest before after frame =
-    (done : Result (Unit {0}) WorkerFault) × OnOk done (IsCompacted Honest before.known after.known)
+abbrev pub AnswersCompact : Type 0 → (Held → Type 0) → (before after : Served) → List ℕ → Type 0
+AnswersCompact Honest keeps before after frame =
+    (done : Result (Unit {0}) WorkerFault)
+    × OnOk done (IsCompacted Honest keeps before.known after.known)
     × IfErr done (IsCompactFault Honest) × SaysWork done frame
 
 -- The answer has how many tables were removed, or the refusal.
-abbrev pub AnswersCollect : (before after : Served) → List ℕ → Type 0
-AnswersCollect before after frame =
+abbrev pub AnswersCollect : (Held → Type 0) → (before after : Served) → List ℕ → Type 0
+AnswersCollect keeps before after frame =
     (done : Result ℕ StateFault) × IfOk done (λ n.
-    IsCollected n before.known after.known before.shelf after.shelf)
-    × IfErr done (λ e. IsCollectFault e before.known after.known before.shelf after.shelf)
+    IsCollected keeps n before.known after.known before.shelf after.shelf)
+    × IfErr done (λ e. IsCollectFault keeps e before.known after.known before.shelf after.shelf)
     × Says (λ n. Removed n) done frame
 
 -- The answer has the last sequence and the sizes of the levels; or memory ran out.
-abbrev pub AnswersStatistics : (knew knows : List Entry) → List ℕ → Type 0
-AnswersStatistics knew knows frame =
-    ((last : ℕ) × (fs : List (ℕ × TableFile)) × IsListed last fs knew knows
+abbrev pub AnswersStatistics : (Held → Type 0) → (knew knows : List Entry) → List ℕ → Type 0
+AnswersStatistics keeps knew knows frame =
+    ((last : ℕ) × (fs : List (ℕ × TableFile)) × IsListed keeps last fs knew knows
     × (frame ≡ done_frame (Told last (sizes_of fs)))) ⊎ (frame ≡ refusal_frame OutOfMemory)
 
 -- ---- all of them
@@ -108,29 +114,30 @@ LeavesThese before after = (after.reader ≡ before.reader) × (after.shelf ≡ 
 -- The frame answers the request. What else it leaves of the session: a reader learns no earlier
 -- history, and a request that does not read leaves it; a request that asks the shelf for nothing
 -- leaves that; and one that neither takes a snapshot nor gives one up leaves what is known of them.
-abbrev pub IsAnswered : (Honest : Type 0) → (shelf.Asked → ShelfFault → Type 0) → Asked
+abbrev pub IsAnswered : (Honest : Type 0) → (shelf.Asked → ShelfFault → Type 0) → (Held → Type 0)
+    → Asked
     → (before after : Served) → List ℕ → Type 0
-IsAnswered Honest Refused (Writes ws) before after frame =
+IsAnswered Honest Refused keeps (Writes ws) before after frame =
     (after.reader ≡ before.reader) × (after.taken ≡ before.taken)
-    × AnswersWrite Refused ws before after frame
-IsAnswered Honest Refused (Reads when keys) before after frame =
+    × AnswersWrite Refused keeps ws before after frame
+IsAnswered Honest Refused keeps (Reads when keys) before after frame =
     (after.shelf ≡ before.shelf) × (after.taken ≡ before.taken)
     × IsLater after.reader.history before.reader.history
-    × AnswersRead Honest when keys before after frame
-IsAnswered Honest Refused (Scans s) before after frame =
+    × AnswersRead Honest keeps when keys before after frame
+IsAnswered Honest Refused keeps (Scans s) before after frame =
     (after.shelf ≡ before.shelf) × (after.taken ≡ before.taken)
     × IsLater after.reader.history before.reader.history
-    × AnswersScan Honest s before after frame
-IsAnswered Honest Refused Snapshots before after frame =
-    LeavesThese before after × AnswersSnapshot before after frame
-IsAnswered Honest Refused (Releases number) before after frame =
-    LeavesThese before after × AnswersRelease number before after frame
-IsAnswered Honest Refused Compacts before after frame =
+    × AnswersScan Honest keeps s before after frame
+IsAnswered Honest Refused keeps Snapshots before after frame =
+    LeavesThese before after × AnswersSnapshot keeps before after frame
+IsAnswered Honest Refused keeps (Releases number) before after frame =
+    LeavesThese before after × AnswersRelease keeps number before after frame
+IsAnswered Honest Refused keeps Compacts before after frame =
     (after.reader ≡ before.reader) × (after.taken ≡ before.taken)
-    × tellings.Forked before.shelf after.shelf × AnswersCompact Honest before after frame
-IsAnswered Honest Refused Collects before after frame =
+    × tellings.Forked before.shelf after.shelf × AnswersCompact Honest keeps before after frame
+IsAnswered Honest Refused keeps Collects before after frame =
     (after.reader ≡ before.reader) × (after.taken ≡ before.taken)
-    × AnswersCollect before after frame
-IsAnswered Honest Refused Statistics before after frame =
+    × AnswersCollect keeps before after frame
+IsAnswered Honest Refused keeps Statistics before after frame =
     LeavesThese before after × (after.taken ≡ before.taken)
-    × AnswersStatistics before.known after.known frame
+    × AnswersStatistics keeps before.known after.known frame

@@ -5,7 +5,7 @@ use Rattle.lsm_shelf.specs.Told.{Told}
 use Rattle.lsm_state.specs.Collecting.{AreCollected, HasLookedAround, IsCollectRefusal}
 use Rattle.lsm_state.specs.Held.{Held}
 use Rattle.lsm_state.specs.declared.state_fault.StateFault.{StateFault}
-use Rattle.lsm_channels.specs.Served.{IsToldBy}
+use Rattle.lsm_channels.specs.Served.{IsLent}
 
 -- The state goes on, and looked at its slots. So many tables were removed: those that the shelf
 -- listed and that the state then did not keep.
@@ -21,11 +21,12 @@ pub record RefusesAt (was is : Held) (e : StateFault) (before after : Told) : Ty
   pub removed : List ℕ
   pub refusal : IsCollectRefusal was is e removed before after
 
--- at one taking of the lock, of a state that has all that the channel knew
-abbrev pub IsCollected : ℕ → (knew knows : List Entry) → Told → Told → Type 0
-IsCollected count knew knows before after =
-    (was : Held) × (is : Held) × IsToldBy was knew knows × CollectsAt was is count before after
+-- at one taking of the lock, of the state that it gave, which has all that the channel knew
+abbrev pub IsCollected : (Held → Type 0) → ℕ → (knew knows : List Entry) → Told → Told → Type 0
+IsCollected keeps count knew knows before after =
+    (was : Held) × (is : Held) × IsLent keeps was knew knows × CollectsAt was is count before after
 
-abbrev pub IsCollectFault : StateFault → (knew knows : List Entry) → Told → Told → Type 0
-IsCollectFault e knew knows before after =
-    (was : Held) × (is : Held) × IsToldBy was knew knows × RefusesAt was is e before after
+abbrev pub IsCollectFault : (Held → Type 0) → StateFault → (knew knows : List Entry) → Told → Told
+    → Type 0
+IsCollectFault keeps e knew knows before after =
+    (was : Held) × (is : Held) × IsLent keeps was knew knows × RefusesAt was is e before after

@@ -5,7 +5,7 @@ use Rattle.lsm_codec.specs.Entries.{Entry}
 use Rattle.lsm_live.specs.Reserving.{reserved_jobs}
 use Rattle.lsm_state.specs.Held.{Held}
 use Rattle.lsm_store.specs.Workers.{IsOfTurn}
-use Rattle.lsm_channels.specs.Served.{IsToldBy}
+use Rattle.lsm_channels.specs.Served.{IsLent}
 use Rattle.lsm_store.specs.declared.worker_fault.WorkerFault.{WorkerFault}
 use Rattle.lsm_store.specs.declared.worker_fault.WorkerFault.TheVariants.{NoThread, State, Merge}
 
@@ -13,10 +13,11 @@ use Rattle.lsm_store.specs.declared.worker_fault.WorkerFault.TheVariants.{NoThre
 abbrev pub IsSettled : Held → Type 0
 IsSettled h = HasNoChoice h.slots.version (reserved_jobs h.live)
 
--- So it was, over an honest shelf, at a taking of the lock, of a state that has all that the
--- channel knew.
-abbrev pub IsCompacted : Type 0 → (knew knows : List Entry) → Type 0
-IsCompacted Honest knew knows = (h : Held) × IsToldBy h knew knows × (Honest → IsSettled h)
+-- So it was, over an honest shelf, at a taking of the lock, of the state that it gave, which has
+-- all that the channel knew.
+abbrev pub IsCompacted : Type 0 → (Held → Type 0) → (knew knows : List Entry) → Type 0
+IsCompacted Honest keeps knew knows =
+    (h : Held) × IsLent keeps h knew knows × (Honest → IsSettled h)
 
 -- The worker that looked had no thread, or no shelf; or it ended by such a refusal as a worker
 -- meets.

@@ -6,7 +6,7 @@ use Rattle.lsm_manifest.specs.FileOrder.{TableFile}
 use Rattle.lsm_state.specs.Held.{Held}
 use Rattle.lsm_state.specs.Listing.{listed_from}
 use Rattle.lsm_codec.specs.Entries.{Entry}
-use Rattle.lsm_channels.specs.Served.{IsToldBy}
+use Rattle.lsm_channels.specs.Served.{IsLent}
 
 -- the files of a level
 abbrev pub files_at : ℕ → List (ℕ × TableFile) → List (ℕ × TableFile)
@@ -28,9 +28,11 @@ size_at fs level = record {
 abbrev pub sizes_of : List (ℕ × TableFile) → List LevelSize
 sizes_of fs = map (size_at fs) (0 ∷ 1 ∷ 2 ∷ 3 ∷ 4 ∷ 5 ∷ 6 ∷ [])
 
--- These are the last sequence of a state, and the files of its version. It has all that was known.
-pub record IsListed (last : ℕ) (fs : List (ℕ × TableFile)) (knew knows : List Entry) : Type 0 where
+-- These are the last sequence of a state that the lock gave, and the files of its version. It has
+-- all that was known.
+pub record IsListed (keeps : Held
+    → Type 0) (last : ℕ) (fs : List (ℕ × TableFile)) (knew knows : List Entry) : Type 0 where
   pub state : Held
-  pub told : IsToldBy state knew knows
+  pub lent : IsLent keeps state knew knows
   pub last_is : last ≡ state.slots.version.last
   pub files_are : fs ≡ listed_from 0 state.slots.version.tables

@@ -11,6 +11,9 @@ pub mod Collecting
 pub mod Compacting
 pub mod Answered
 pub mod Answering
+-- What the lock keeps, and how channels are served
+pub mod Keeping
+pub mod Serving
 -- How a database is opened
 pub mod Starting
 pub mod Opening

@@ -13,7 +13,7 @@ use Rattle.lsm_table.specs.declared.read_fault.ReadFault.{ReadFault}
 use Rattle.lsm_channels.specs.Answered.{done_frame}
 use Rattle.lsm_channels.specs.Pinning.{IsUnpinned}
 use Rattle.lsm_channels.specs.Seen.{IsNotLive, Sees}
-use Rattle.lsm_channels.specs.Served.{IsToldBy}
+use Rattle.lsm_channels.specs.Served.{IsLent}
 
 -- of each key its newest value at the sequence, or none, in the order of the keys
 abbrev pub values_at : List Entry → ℕ → List (List ℕ) → List (Option (List ℕ))
@@ -21,19 +21,21 @@ values_at history seq keys = map (λ k. answer history k seq) keys
 
 -- The answer has the value of each key, in all that had come in when the reader learnt it, at one
 -- sequence.
-pub record IsRead (Honest : Type 0) (when : When) (keys : List (List ℕ)) (taken : List (ℕ
+pub record IsRead (Honest : Type 0) (keeps : Held
+    → Type 0) (when : When) (keys : List (List ℕ)) (taken : List (ℕ
     × ℕ)) (before after : Learnt) (knew knows : List Entry) (frame : List ℕ) : Type 0 where
   pub seq : ℕ
-  pub sees : Sees when taken before after knew knows seq
+  pub sees : Sees keeps when taken before after knew knows seq
   pub values : Honest → frame ≡ done_frame (Found (values_at knows seq keys))
 
 -- ---- refusals
 
--- Why there is no view: in a state that has all that the channel knew the snapshot is not live, or
--- the version is not pinned.
-abbrev pub IsUnseen : When → List (ℕ × ℕ) → (knew knows : List Entry) → StateFault → Type 0
-IsUnseen when taken knew knows e =
-    (h : Held) × IsToldBy h knew knows × (IsNotLive h taken when e ⊎ IsUnpinned h e)
+-- Why there is no view: in the state that the lock gave, which has all that the channel knew the
+-- snapshot is not live, or the version is not pinned.
+abbrev pub IsUnseen : (Held → Type 0) → When → List (ℕ × ℕ) → (knew knows : List Entry) → StateFault
+    → Type 0
+IsUnseen keeps when taken knew knows e =
+    (h : Held) × IsLent keeps h knew knows × (IsNotLive h taken when e ⊎ IsUnpinned h e)
 
 -- Why an answer does not grow: it would be too long; or memory ran out.
 abbrev pub IsAnswerFault : StateFault → Type 0
@@ -51,8 +53,10 @@ IsTooLong done = MOST_ANSWER < length (answer_text (IsDone done))
 
 -- Why a read is refused: nothing is seen; or what is seen is not answered, as `TooLarge` over an
 -- honest shelf only where the answer would be too long.
-abbrev pub IsReadFault : Type 0 → When → List (List ℕ) → List (ℕ × ℕ) → (before after : Learnt)
+abbrev pub IsReadFault : Type 0 → (Held → Type 0) → When → List (List ℕ) → List (ℕ × ℕ)
+    → (before after : Learnt)
     → (knew knows : List Entry) → StateFault → Type 0
-IsReadFault Honest when keys taken before after knew knows e = IsUnseen when taken knew knows e
-    ⊎ ((seq : ℕ) × Sees when taken before after knew knows seq × IsUnread Honest e
+IsReadFault Honest keeps when keys taken before after knew knows e =
+    IsUnseen keeps when taken knew knows e
+    ⊎ ((seq : ℕ) × Sees keeps when taken before after knew knows seq × IsUnread Honest e
     × (Honest → e ≡ TooLarge → IsTooLong (Found (values_at knows seq keys))))

@@ -8,6 +8,7 @@ use Rattle.lsm_codec.specs.Lists.{Has}
 use Rattle.lsm_frames.specs.Answers as frames
 use Rattle.lsm_frames.specs.Requests.{Stretch}
 use Rattle.lsm_model.specs.Scanning.{Pair, UsersAscend}
+use Rattle.lsm_state.specs.Held.{Held}
 use Rattle.lsm_state.specs.declared.state_fault.StateFault.{StateFault}
 use Rattle.lsm_state.specs.declared.state_fault.StateFault.TheVariants.{TooLarge}
 use Rattle.lsm_store.specs.Readers.{Learnt}
@@ -69,10 +70,10 @@ pub record IsShown (s : Stretch) (history : List Entry) (seq : ℕ) (frame : Lis
   pub page : IsPage s.limit (below s.to all) ended pairs
   pub said : frame ≡ done_frame (frames.Shown ended pairs)
 
-pub record IsScanned (Honest : Type 0) (s : Stretch) (taken : List (ℕ
+pub record IsScanned (Honest : Type 0) (keeps : Held → Type 0) (s : Stretch) (taken : List (ℕ
     × ℕ)) (before after : Learnt) (knew knows : List Entry) (frame : List ℕ) : Type 0 where
   pub seq : ℕ
-  pub sees : Sees s.when taken before after knew knows seq
+  pub sees : Sees keeps s.when taken before after knew knows seq
   pub shown : Honest → IsShown s knows seq frame
 
 -- ---- refusals
@@ -93,8 +94,9 @@ IsUnshown s history seq = (all : List Pair) × IsScanFrom s.from seq history all
 
 -- Why a scan is refused: nothing is seen; or what is seen is not shown, as `TooLarge` over an
 -- honest shelf only where no answer has room for a pair.
-abbrev pub IsScanFault : Type 0 → Stretch → List (ℕ × ℕ) → (before after : Learnt)
+abbrev pub IsScanFault : Type 0 → (Held → Type 0) → Stretch → List (ℕ × ℕ) → (before after : Learnt)
     → (knew knows : List Entry) → StateFault → Type 0
-IsScanFault Honest s taken before after knew knows e = IsUnseen s.when taken knew knows e
-    ⊎ ((seq : ℕ) × Sees s.when taken before after knew knows seq × IsUnread Honest e
+IsScanFault Honest keeps s taken before after knew knows e =
+    IsUnseen keeps s.when taken knew knows e
+    ⊎ ((seq : ℕ) × Sees keeps s.when taken before after knew knows seq × IsUnread Honest e
     × (Honest → e ≡ TooLarge → IsUnshown s knows seq))

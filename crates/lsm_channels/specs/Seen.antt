@@ -15,7 +15,7 @@ use Rattle.lsm_state.specs.declared.state_fault.StateFault.{StateFault}
 use Rattle.lsm_state.specs.declared.state_fault.StateFault.TheVariants.{UnknownSnapshot}
 use Rattle.lsm_store.specs.Promised.{snapshot_sequences}
 use Rattle.lsm_store.specs.Readers.{Learnt}
-use Rattle.lsm_channels.specs.Served.{IsToldBy}
+use Rattle.lsm_channels.specs.Served.{IsLent}
 
 -- the snapshot that is asked for
 abbrev pub snapshot_in : When → Option ℕ
@@ -53,12 +53,13 @@ pub record Learns (h : Held) (before after : Learnt) : Type 0 where
   pub snapshots : after.snapshots ≡ snapshot_sequences h
   pub later : IsLater after.history before.history
 
--- The reader has learnt a state that has all that the channel knew, and this is the sequence of the
--- read there: the last one, or the snapshot's, which is the one that the channel was told.
-pub record Sees (when : When) (taken : List (ℕ
+-- The reader has learnt a state that the lock gave, which has all that the channel knew, and this
+-- is the sequence of the read there: the last one, or the snapshot's, which is the one that the
+-- channel was told.
+pub record Sees (keeps : Held → Type 0) (when : When) (taken : List (ℕ
     × ℕ)) (before after : Learnt) (knew knows : List Entry) (seq : ℕ) : Type 0 where
   pub state : Held
   pub learnt : Learns state before after
-  pub told : IsToldBy state knew knows
+  pub lent : IsLent keeps state knew knows
   pub sequence : IsSequence state (snapshot_in when) seq
   pub given : IsAsGiven taken when seq

@@ -8,7 +8,7 @@ use Rattle.lsm_state.specs.Held.{Held}
 use Rattle.lsm_state.specs.declared.state_fault.StateFault.{StateFault}
 use Rattle.lsm_state.specs.declared.state_fault.StateFault.TheVariants.{NumbersSpent, OutOfMemory}
 use Rattle.lsm_state.specs.declared.state_fault.StateFault.TheVariants.{UnknownSnapshot}
-use Rattle.lsm_channels.specs.Served.{IsToldBy}
+use Rattle.lsm_channels.specs.Served.{IsLent}
 
 -- The next number is that of a snapshot of the last sequence.
 pub record TakesAt (was is : Held) (number sequence : ℕ) : Type 0 where
@@ -51,23 +51,25 @@ abbrev pub Notes : Held → (number sequence : ℕ) → (taken left : List (ℕ 
 Notes h number sequence taken left =
     (mid : List (ℕ × ℕ)) × Forgets h taken mid × (left ≡ mid ++ (number, sequence) ∷ [])
 
--- ---- at one taking of the lock, of a state that has all that the channel knew
+-- ---- at one taking of the lock, of the state that it gave, which has all that the channel knew
 
-abbrev pub IsTaken : (number sequence : ℕ) → (knew knows : List Entry) → (taken left : List (ℕ × ℕ))
+abbrev pub IsTaken : (Held → Type 0) → (number sequence : ℕ) → (knew knows : List Entry)
+    → (taken left : List (ℕ × ℕ))
     → Type 0
-IsTaken number sequence knew knows taken left =
-    (was : Held) × (is : Held) × IsToldBy was knew knows × TakesAt was is number sequence
+IsTaken keeps number sequence knew knows taken left =
+    (was : Held) × (is : Held) × IsLent keeps was knew knows × TakesAt was is number sequence
     × Notes was number sequence taken left
 
-abbrev pub IsUntaken : StateFault → (knew knows : List Entry) → (taken left : List (ℕ × ℕ)) → Type 0
-IsUntaken e knew knows taken left =
-    (was : Held) × IsToldBy was knew knows × IsTakeFault was e × Forgets was taken left
+abbrev pub IsUntaken : (Held → Type 0) → StateFault → (knew knows : List Entry)
+    → (taken left : List (ℕ × ℕ)) → Type 0
+IsUntaken keeps e knew knows taken left =
+    (was : Held) × IsLent keeps was knew knows × IsTakeFault was e × Forgets was taken left
 
-abbrev pub IsReleased : ℕ → (knew knows : List Entry) → Type 0
-IsReleased number knew knows =
-    (was : Held) × (is : Held) × IsToldBy was knew knows × ReleasesAt was is number
+abbrev pub IsReleased : (Held → Type 0) → ℕ → (knew knows : List Entry) → Type 0
+IsReleased keeps number knew knows =
+    (was : Held) × (is : Held) × IsLent keeps was knew knows × ReleasesAt was is number
 
-abbrev pub IsUnreleased : ℕ → StateFault → (knew knows : List Entry) → Type 0
-IsUnreleased number e knew knows =
-    (was : Held) × IsToldBy was knew knows × (e ≡ UnknownSnapshot number)
+abbrev pub IsUnreleased : (Held → Type 0) → ℕ → StateFault → (knew knows : List Entry) → Type 0
+IsUnreleased keeps number e knew knows =
+    (was : Held) × IsLent keeps was knew knows × (e ≡ UnknownSnapshot number)
     × (HasId was.snapshots.taken number → ⊥)

@@ -23,23 +23,26 @@ abbrev pub writes_of : List Written → List Write
 writes_of ws = map write_of ws
 
 -- The batch came in, and this is all that had come in then.
-abbrev pub IsIn : List Write → Ingested → List Entry → Told → Told → Type 0
-IsIn batch r all before after =
-    (was : Held) × (is : Held) × BringsIn was is batch r before after × (all ≡ is.history)
+abbrev pub IsIn : (Held → Type 0) → List Write → Ingested → List Entry → Told → Told → Type 0
+IsIn keeps batch r all before after =
+    (was : Held) × (is : Held) × ∥ keeps was ∥₁ × BringsIn was is batch r before after
+    × (all ≡ is.history)
 
 -- The batch was refused.
-abbrev pub IsOut : (Asked → ShelfFault → Type 0) → List Write → StateFault → Told → Told → Type 0
-IsOut Refused batch e before after =
-    (was : Held) × (is : Held) × KeepsOut Refused was is batch e before after
+abbrev pub IsOut : (Asked → ShelfFault → Type 0) → (Held → Type 0) → List Write → StateFault → Told
+    → Told → Type 0
+IsOut Refused keeps batch e before after =
+    (was : Held) × (is : Held) × ∥ keeps was ∥₁ × KeepsOut Refused was is batch e before after
 
 -- Of each key that is written the last write came in, all as one batch. The channel knows all that
 -- had come in then.
-pub record IsWritten (ws : List Written) (r : Ingested) (knows : List Entry) (before after : Told)
+pub record IsWritten (keeps : Held
+    → Type 0) (ws : List Written) (r : Ingested) (knows : List Entry) (before after : Told)
     : Type 0 where
   pub batch : List Write
   pub gathered : KeepsLast (writes_of ws) batch
   pub all : List Entry
-  pub brought : IsIn batch r all before after
+  pub brought : IsIn keeps batch r all before after
   pub known : IsLater knows all
 
 -- Why a write is not put behind others: with it they pass a limit of a batch; or memory ran out.
@@ -54,14 +57,16 @@ IsUngathered ws e = ((e ≡ TooLarge)
 
 -- The batch of the last writes was refused.
 pub record IsUnwritten (Refused : Asked → ShelfFault
-    → Type 0) (ws : List Written) (e : StateFault) (before after : Told) : Type 0 where
+    → Type 0) (keeps : Held → Type 0) (ws : List Written) (e : StateFault) (before after
+    : Told) : Type 0 where
   pub batch : List Write
   pub gathered : KeepsLast (writes_of ws) batch
-  pub refused : IsOut Refused batch e before after
+  pub refused : IsOut Refused keeps batch e before after
 
 -- Why nothing came in: there is no batch of the writes, and the shelf was asked for nothing; or it
 -- was refused.
-abbrev pub IsWriteFault : (Asked → ShelfFault → Type 0) → List Written → StateFault → Told → Told
+abbrev pub IsWriteFault : (Asked → ShelfFault → Type 0) → (Held → Type 0) → List Written
+    → StateFault → Told → Told
     → Type 0
-IsWriteFault Refused ws e before after =
-    (IsUngathered ws e × (after ≡ before)) ⊎ IsUnwritten Refused ws e before after
+IsWriteFault Refused keeps ws e before after =
+    (IsUngathered ws e × (after ≡ before)) ⊎ IsUnwritten Refused keeps ws e before after

@@ -1,88 +1,118 @@
 //! Channels.
 
-use crate::descriptors::{Incoming, end_unanswered, read_frame, send};
+ghost use Rattle.std.specs.Prelude.{◌≡◌, ◌∷◌, List};
+ghost use Rattle.lsm_channels.specs.Keeping.{IsKeptByRequests, IsKeptQuietly, IsKnown};
+ghost use Rattle.lsm_channels.specs.Serving.{Answers};
+ghost use Rattle.lsm_wire.specs.Conversing.{IsConversation, IsTurnOrEnd};
+ghost use Rattle.lsm_wire.specs.Happenings.{Came, Happening};
+
 use crate::session::Session;
-use lsm_frames::{Request, unread};
+use lsm_frames::Request;
 use lsm_slots::Boarded;
-use lsm_store::{Background, Store};
+use lsm_store::{Background, Invariant, Store};
 use lsm_table::Shelf;
+use lsm_wire::{Incoming, Wire, call_no_request, say, say_unanswered};
 use std::alloc::Global;
 use std::sync::Wait;
 use std::thread::Threads;
 
-/// A session, and the descriptor by which its requests come.
+/// A session, and the wire over which its requests come.
 #[derive(Drop)]
-pub(crate) struct Channel<N: Boarded, S: Shelf> {
+pub(crate) struct Channel<N: Boarded, S: Shelf, W: Wire> {
     pub(crate) session: Session<N, S>,
-    pub(crate) fd: i32,
-}
-
-/// Says that a request is in none of the forms. The channel ends.
-fn end_unread(alloc: Global, fd: i32) {
-    let _is_sent = send(fd, unread(alloc));
+    pub(crate) wire: W,
 }
 
 /// Answers what a frame asks: the session as it is then, and whether the channel goes on.
-fn answer<N: Boarded, S: Shelf, R: Threads + Wait + Sync>(
+fn answer<N: Boarded, S: Shelf, K: Invariant, W: Wire, R: Threads + Wait + Sync>(
     rt: &R,
     alloc: Global,
-    store: &Store<N, S>,
+    store: &Store<N, S, K>,
     background: &Background,
     session: Session<N, S>,
-    fd: i32,
+    wire: &mut W,
     content: &[u8],
-) -> (Session<N, S>, bool) {
+) -> (Session<N, S>, bool)
+    requires quiet { IsKeptQuietly S.honest K.keeps }
+    requires asked { IsKeptByRequests (S.refuses N.place) W.gives K.keeps }
+    requires given { W.gives content.now }
+    requires known { IsKnown K.keeps session.known }
+    ensures turn { (was : List Happening) → W.happened wire.old ≡ Came content.now ∷ was
+        → IsTurnOrEnd (Answers S.honest (S.refuses N.place) K.keeps) result.1 session result.0
+        was (W.happened wire.new) }
+    ensures known { IsKnown K.keeps result.0.known }
+    ensures same { W.descriptor wire.new ≡ W.descriptor wire.old }
+{
     match Request::parse(content) {
         Ok(request) => {
             let (session, answer) = session.perform(rt, alloc, store, background, request);
-            (session, send(fd, answer))
+            (session, say(wire, &answer))
         }
         Err(_) => {
-            end_unread(alloc, fd);
+            call_no_request(alloc, wire);
             (session, false)
         }
     }
 }
 
 /// Answers the next request: the session as it is then, and whether the channel goes on.
-fn take_turn<N: Boarded, S: Shelf, R: Threads + Wait + Sync>(
+fn take_turn<N: Boarded, S: Shelf, K: Invariant, W: Wire, R: Threads + Wait + Sync>(
     rt: &R,
     alloc: Global,
-    store: &Store<N, S>,
+    store: &Store<N, S, K>,
     background: &Background,
     session: Session<N, S>,
-    fd: i32,
-) -> (Session<N, S>, bool) {
-    match read_frame(alloc, fd) {
-        Ok(Incoming::Content(content)) => {
-            answer(rt, alloc, store, background, session, fd, &content)
+    wire: &mut W,
+) -> (Session<N, S>, bool)
+    requires quiet { IsKeptQuietly S.honest K.keeps }
+    requires asked { IsKeptByRequests (S.refuses N.place) W.gives K.keeps }
+    requires known { IsKnown K.keeps session.known }
+    ensures turn { IsTurnOrEnd (Answers S.honest (S.refuses N.place) K.keeps) result.1
+        session result.0 (W.happened wire.old) (W.happened wire.new) }
+    ensures known { IsKnown K.keeps result.0.known }
+    ensures same { W.descriptor wire.new ≡ W.descriptor wire.old }
+{
+    match wire.read(alloc) {
+        Incoming::Content(content) => {
+            answer(rt, alloc, store, background, session, wire, &content)
         }
-        Ok(Incoming::Unreadable) => {
-            end_unread(alloc, fd);
+        Incoming::Misfit => {
+            call_no_request(alloc, wire);
             (session, false)
         }
-        Ok(Incoming::End) => (session, false),
-        Err(_) => {
-            end_unanswered(fd);
+        Incoming::End => (session, false),
+        Incoming::Unheld => {
+            let _is_taken = say_unanswered(wire);
             (session, false)
         }
     }
 }
 
 /// Serves a channel to its end.
-pub(crate) fn serve<N: Boarded, S: Shelf, R: Threads + Wait + Sync>(
+pub(crate) fn serve<N: Boarded, S: Shelf, K: Invariant, W: Wire, R: Threads + Wait + Sync>(
     rt: &R,
     alloc: Global,
-    store: &Store<N, S>,
+    store: &Store<N, S, K>,
     background: &Background,
-    channel: Channel<N, S>,
-) {
-    let Channel { mut session, fd } = channel;
-    for _ in rt.forever() {
-        let (after, goes_on) = take_turn(rt, alloc, store, background, session, fd);
+    channel: Channel<N, S, W>,
+) -> Channel<N, S, W>
+    requires quiet { IsKeptQuietly S.honest K.keeps }
+    requires asked { IsKeptByRequests (S.refuses N.place) W.gives K.keeps }
+    requires known { IsKnown K.keeps channel.session.known }
+    ensures served { IsConversation (Answers S.honest (S.refuses N.place) K.keeps)
+        channel.session result.session (W.happened channel.wire) (W.happened result.wire) }
+    ensures same { W.descriptor result.wire ≡ W.descriptor channel.wire }
+{
+    let Channel {
+        mut session,
+        mut wire,
+    } = channel;
+    'turns: for _ in rt.forever() {
+        let (after, goes_on) = take_turn(rt, alloc, store, background, session, &mut wire);
         session = after;
         if !goes_on {
-            break;
+            return Channel { session, wire };
         }
     }
+    unreachable!()
 }

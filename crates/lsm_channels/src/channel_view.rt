@@ -6,6 +6,7 @@ ghost use Rattle.lsm_codec.specs.Entries.{answer};
 ghost use Rattle.lsm_model.specs.Scanning.{IsScan};
 ghost use Rattle.lsm_iterators.specs.Seeking.{at_or_past};
 ghost use Rattle.lsm_iterators.specs.Shown.{ShowsPair};
+ghost use Rattle.lsm_channels.specs.Keeping.{IsKeptQuietly};
 ghost use Rattle.lsm_store.specs.Readers.{IsPromised, unpinned};
 ghost use Rattle.lsm_table.specs.ReadFault.{IsMemoryOrShelf};
 
@@ -14,7 +15,7 @@ use crate::pin::Pin;
 use lsm_query::{Pair, Scan};
 use lsm_reader::Cached;
 use lsm_slots::Boarded;
-use lsm_store::Store;
+use lsm_store::{Invariant, Store};
 use lsm_table::{ReadFault, Shelf};
 use std::alloc::Global;
 use std::marker::Model;
@@ -96,7 +97,12 @@ impl<N: Boarded, S: Shelf> ChannelView<N, S> {
     }
 
     /// Gives the pin back.
-    pub(crate) fn end<R: Wait>(self, rt: &R, store: &Store<N, S>) -> ChannelReader<N, S>
+    pub(crate) fn end<K: Invariant, R: Wait>(
+        self,
+        rt: &R,
+        store: &Store<N, S, K>,
+    ) -> ChannelReader<N, S>
+        requires quiet { IsKeptQuietly S.honest K.keeps }
         ensures { result ≡ unpinned self }
     {
         let ChannelView { pin, blocks } = self;

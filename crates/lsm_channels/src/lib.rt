@@ -29,18 +29,20 @@ mod refusing;
 mod saying;
 mod viewing;
 
-// Frames over descriptors, a thread for each channel.
+// Frames over wires, a thread for each channel.
 mod channel;
-mod descriptors;
+mod channel_thread;
 mod opened;
 mod serving;
+mod wires;
 
 // A database is opened.
+mod ended;
 mod opening_fault;
 mod parts;
 mod plan;
 mod program;
 
-pub use descriptors::Descriptors;
+pub use ended::Ended;
 pub use program::serve_opening;
 pub use session::Session;

@@ -2,6 +2,7 @@
 
 ghost use Rattle.std.specs.Prelude.{◌≡◌, IfErr, IfOk, OnErr, OnOk};
 ghost use Rattle.lsm_slots.specs.Slots.{current_id};
+ghost use Rattle.lsm_state.specs.Held.{plain};
 ghost use Rattle.lsm_channels.specs.Pinning.{GivesPinBack, IsSpent, PinsCurrent};
 
 use lsm_slots::Boarded;
@@ -19,6 +20,7 @@ impl LockedPin {
         ensures id { IfOk result (λ p. p.id ≡ current_id state.old.slots) }
         ensures pinned { OnOk result (PinsCurrent state.old.slots state.new.slots) }
         ensures rest { state.new ≡ record state.old { slots = state.new.slots } }
+        ensures plain { plain state.new ≡ plain state.old }
         ensures err { OnErr result (state.new ≡ state.old) }
         ensures refused { IfErr result (IsSpent state.old) }
     {
@@ -30,6 +32,7 @@ impl LockedPin {
     pub(crate) fn give_back<N: Boarded, S: Shelf>(self, state: &mut State<N, S>)
         ensures pin { GivesPinBack state.old.slots state.new.slots self.id }
         ensures rest { state.new ≡ record state.old { slots = state.new.slots } }
+        ensures plain { plain state.new ≡ plain state.old }
     {
         let LockedPin { id } = self;
         let _is_given_back = state.unpin(id);

@@ -5,6 +5,8 @@ ghost use Rattle.std.specs.Option.{option_map};
 ghost use Rattle.lsm_codec.specs.Entries.{answer};
 ghost use Rattle.lsm_model.specs.Scanning.{IsScan};
 ghost use Rattle.lsm_iterators.specs.Seeking.{at_or_past};
+ghost use Rattle.lsm_channels.specs.Keeping.{IsKeptQuietly};
+ghost use Rattle.lsm_state.specs.Held.{plain};
 ghost use Rattle.lsm_channels.specs.Pinning.{HasLearnt, IsUnpinned, PinsCurrent};
 ghost use Rattle.lsm_store.specs.Readers.{IsIdle, IsPromised};
 ghost use Rattle.lsm_table.specs.ReadFault.{IsMemoryOrShelf};
@@ -14,7 +16,7 @@ use lsm_query::{Scan, get_by, scan_from_by};
 use lsm_reader::Cached;
 use lsm_slots::Boarded;
 use lsm_state::{State, StateFault};
-use lsm_store::{Reader, Store};
+use lsm_store::{Invariant, Reader, Store};
 use lsm_table::{ReadFault, Shelf};
 use lsm_version::Version;
 use std::alloc::Global;
@@ -53,6 +55,7 @@ impl<N: Boarded, S: Shelf> LockedVersion<N, S> {
         ensures pinned { OnOk result (PinsCurrent state.old.slots state.new.slots) }
         ensures reader { IfOk result (λ l. l ≡ reader) }
         ensures rest { state.new ≡ record state.old { slots = state.new.slots } }
+        ensures plain { plain state.new ≡ plain state.old }
         ensures err { OnErr result (state.new ≡ state.old) }
         ensures back { IfErr result (λ e. e.0 ≡ reader) }
         ensures refused { IfErr result (λ e. IsUnpinned state.old e.1) }
@@ -108,7 +111,8 @@ impl<N: Boarded, S: Shelf> LockedVersion<N, S> {
     }
 
     /// Gives the pin back.
-    pub(crate) fn end<R: Wait>(self, rt: &R, store: &Store<N, S>) -> Reader<N, S>
+    pub(crate) fn end<K: Invariant, R: Wait>(self, rt: &R, store: &Store<N, S, K>) -> Reader<N, S>
+        requires quiet { IsKeptQuietly S.honest K.keeps }
         ensures reader { result ≡ self }
         ensures idle { IsIdle result }
     {

@@ -1,17 +1,19 @@
 //! A database that is open.
 
-ghost use Rattle.lsm_opening.specs.Parts.{AreOf};
+ghost use Rattle.std.specs.Prelude.{All, IfOk};
+ghost use Rattle.lsm_channels.specs.Keeping.{IsKeptQuietly};
+ghost use Rattle.lsm_channels.specs.Serving.{IsFresh};
+ghost use Rattle.lsm_state.specs.Held.{Held};
+ghost use Rattle.lsm_store.specs.Compacting.{IsSeated};
 ghost use Rattle.lsm_store.specs.Readers.{SeatsPinners};
 
-use crate::channel::Channel;
 use crate::knowing::remember;
-use crate::plan::Plan;
 use crate::session::Session;
-use lsm_opening::{NewParts, Prepared, WriterFault, forks, start_with};
+use lsm_opening::forks;
 use lsm_reader::Cached;
 use lsm_slots::Boarded;
 use lsm_state::{Options, State};
-use lsm_store::{Reader, Store};
+use lsm_store::{Invariant, Reader, Store};
 use lsm_table::{NamedShelf, Shelf, ShelfFault};
 use std::alloc::{AllocError, Global};
 use std::num::NonZeroUsize;
@@ -28,89 +30,75 @@ fn blocks_over<N: Boarded, S: Shelf>(
     Cached::new(alloc, shelf, blocks)
 }
 
-/// A channel for each reader, by forks of the shelf. Their descriptors follow one another. Each
-/// knows what had come in by then.
-fn man<N: Boarded, S: Shelf, R: Wait>(
+/// A session for each reader, by forks of the shelf. Each knows what had come in by then.
+fn man<N: Boarded, S: Shelf, K: Invariant, R: Wait>(
     rt: &R,
     alloc: Global,
-    store: &Store<N, S>,
+    store: &Store<N, S, K>,
     readers: Vec<Reader<N, S>>,
     shelf: &mut NamedShelf<N, S>,
-    first: i32,
-) -> Result<Vec<Channel<N, S>>, ShelfFault> {
-    let mut fd = first;
-    let mut channels = Vec::new(alloc);
+) -> Result<Vec<Session<N, S>>, ShelfFault>
+    requires quiet { IsKeptQuietly S.honest K.keeps }
+    ensures fresh { IfOk result (λ v. All (IsFresh K.keeps) v.items) }
+{
+    let mut sessions = Vec::new(alloc);
     for reader in readers {
         let blocks = blocks_over(alloc, shelf.fork(alloc)?)?;
         let shelf = shelf.fork(alloc)?;
         let session = Session::new(alloc, reader, blocks, shelf, remember(rt, store));
-        channels.push(Channel { session, fd })?;
-        fd = fd.saturating_add(1);
+        sessions.push(session)?;
     }
-    Ok(channels)
+    Ok(sessions)
 }
 
-/// A database that is open: its store, a channel for each reader, and a shelf for each worker.
+/// A database that is open: its store, a session for each reader, and a shelf for each worker.
 #[derive(Drop)]
-pub(crate) struct Opened<N: Boarded, S: Shelf> {
-    pub(crate) store: Store<N, S>,
-    pub(crate) channels: Vec<Channel<N, S>>,
+pub(crate) struct Opened<N: Boarded, S: Shelf, K: Invariant> {
+    pub(crate) store: Store<N, S, K>,
+    pub(crate) sessions: Vec<Session<N, S>>,
     pub(crate) shelves: Vec<NamedShelf<N, S>>,
 }
 
-/// The store of a state, and its channels.
-fn open_store<N: Boarded, S: Shelf, R: Wait>(
+/// The store of a state, and its sessions.
+fn open_store<N: Boarded, S: Shelf, K: Invariant, R: Wait>(
     rt: &R,
     alloc: Global,
     state: State<N, S>,
     shelf: &mut NamedShelf<N, S>,
-    first: i32,
-) -> Result<(Store<N, S>, Vec<Channel<N, S>>), ShelfFault>
-    requires { SeatsPinners state }
+) -> Result<(Store<N, S, K>, Vec<Session<N, S>>), ShelfFault>
+    requires seats { SeatsPinners state }
+    requires kept { (h : Held) → IsSeated state h → K.keeps h }
+    requires quiet { IsKeptQuietly S.honest K.keeps }
+    ensures fresh { IfOk result (λ r. All (IsFresh K.keeps) r.1.items) }
 {
     let reading = shelf.fork(alloc)?;
     match Store::new(alloc, state, reading) {
         Ok((store, readers)) => {
-            let channels = man(rt, alloc, &store, readers, shelf, first)?;
-            Ok((store, channels))
+            let sessions = man(rt, alloc, &store, readers, shelf)?;
+            Ok((store, sessions))
         }
         Err((_state, _shelf, fault)) => Err(fault),
     }
 }
 
-/// The store of a state, its channels, and a shelf for each worker.
-fn open_state<N: Boarded, S: Shelf, R: Wait>(
+/// The store of a state, its sessions, and a shelf for each worker.
+pub(crate) fn open_state<N: Boarded, S: Shelf, K: Invariant, R: Wait>(
     rt: &R,
     alloc: Global,
     state: State<N, S>,
     shelf: &mut NamedShelf<N, S>,
-    plan: Plan,
-) -> Result<Opened<N, S>, ShelfFault>
-    requires { SeatsPinners state }
+    workers: usize,
+) -> Result<Opened<N, S, K>, ShelfFault>
+    requires seats { SeatsPinners state }
+    requires kept { (h : Held) → IsSeated state h → K.keeps h }
+    requires quiet { IsKeptQuietly S.honest K.keeps }
+    ensures fresh { IfOk result (λ o. All (IsFresh K.keeps) o.sessions.items) }
 {
-    let (store, channels) = open_store(rt, alloc, state, shelf, plan.first)?;
-    let shelves = forks(alloc, shelf, plan.workers)?;
+    let (store, sessions) = open_store(rt, alloc, state, shelf)?;
+    let shelves = forks(alloc, shelf, workers)?;
     Ok(Opened {
         store,
-        channels,
+        sessions,
         shelves,
     })
-}
-
-/// The database of a shelf, opened or begun.
-pub(crate) fn open<N: Boarded, S: Shelf, R: Wait>(
-    rt: &R,
-    alloc: Global,
-    shelf: &mut NamedShelf<N, S>,
-    prepared: &Prepared,
-    plan: Plan,
-    parts: NewParts<S>,
-) -> Result<Opened<N, S>, WriterFault>
-    requires parts { AreOf parts.options N.registry N.board N.history parts }
-{
-    let state = start_with(rt, alloc, shelf, prepared, parts)?;
-    match open_state(rt, alloc, state, shelf, plan) {
-        Ok(opened) => Ok(opened),
-        Err(fault) => Err(WriterFault::of_shelf(fault)),
-    }
 }

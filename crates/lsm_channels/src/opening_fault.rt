@@ -25,6 +25,8 @@ fn of_directory(fault: &DirectoryFault) -> (u8, &'static str) {
         DirectoryFault::Read(fault) => (fault.number(), fault.name()),
         DirectoryFault::NumbersSpent => (46, "NumbersSpent"),
         DirectoryFault::Locked => (52, "Locked"),
+        DirectoryFault::UnflushedLog(_) => (51, "UnflushedLog"),
+        DirectoryFault::TornManifest(_) => (61, "TornManifest"),
         DirectoryFault::OutOfMemory | DirectoryFault::Write | DirectoryFault::Absent => {
             (1, "OutOfMemory")
         }

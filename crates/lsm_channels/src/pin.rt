@@ -1,13 +1,15 @@
 //! By whose pin a version is read.
 
 ghost use Rattle.std.specs.Prelude.{◌≡◌, IfErr, IfOk, OnErr};
+ghost use Rattle.lsm_channels.specs.Keeping.{IsKeptQuietly};
+ghost use Rattle.lsm_state.specs.Held.{plain};
 ghost use Rattle.lsm_channels.specs.Pinning.{HasLearnt, IsPinnedBy, IsUnpinned, KnowsSame, seen_by};
 ghost use Rattle.lsm_store.specs.Readers.{unpinned};
 
 use crate::locked_version::LockedVersion;
 use lsm_slots::Boarded;
 use lsm_state::{State, StateFault};
-use lsm_store::{Reader, Store, View};
+use lsm_store::{Invariant, Reader, Store, View};
 use lsm_table::Shelf;
 use std::sync::Wait;
 
@@ -32,6 +34,7 @@ impl<N: Boarded, S: Shelf> Pin<N, S> {
         ensures seen { IfOk result (λ p. KnowsSame reader (seen_by p)) }
         ensures pinned { IfOk result (IsPinnedBy state.old.slots state.new.slots) }
         ensures rest { state.new ≡ record state.old { slots = state.new.slots } }
+        ensures plain { plain state.new ≡ plain state.old }
         ensures err { OnErr result (state.new ≡ state.old) }
         ensures back { IfErr result (λ e. KnowsSame reader e.0) }
         ensures refused { IfErr result (λ e. IsUnpinned state.old e.1) }
@@ -47,7 +50,8 @@ impl<N: Boarded, S: Shelf> Pin<N, S> {
 
     /// Gives the pin back.
     #[tactic(auto, using(crate::proofs::PinLaws::ended_idle))]
-    pub(crate) fn end<R: Wait>(self, rt: &R, store: &Store<N, S>) -> Reader<N, S>
+    pub(crate) fn end<K: Invariant, R: Wait>(self, rt: &R, store: &Store<N, S, K>) -> Reader<N, S>
+        requires quiet { IsKeptQuietly S.honest K.keeps }
         ensures { result ≡ unpinned (seen_by self) }
     {
         match self {

@@ -7,6 +7,7 @@ ghost use Rattle.lsm_frames.specs.Answers.{Found};
 ghost use Rattle.lsm_frames.specs.declared.answer_fault.AnswerFault.TheVariants.{TooLong};
 ghost use Rattle.lsm_history.specs.History.{IsLater};
 ghost use Rattle.lsm_channels.specs.Answered.{done_frame};
+ghost use Rattle.lsm_channels.specs.Keeping.{IsKeptQuietly, IsKnown};
 ghost use Rattle.lsm_channels.specs.Reading.{IsRead, IsReadFault, IsTooLong, IsUnread, values_at};
 ghost use Rattle.lsm_state.specs.declared.state_fault.StateFault.TheVariants.{TooLarge};
 ghost use Rattle.lsm_store.specs.Readers.{IsPromised};
@@ -19,7 +20,7 @@ use lsm_frames::{AnswerFault, Keys, ValuesAnswer, When};
 use lsm_history::Memory;
 use lsm_slots::Boarded;
 use lsm_state::StateFault;
-use lsm_store::Store;
+use lsm_store::{Invariant, Store};
 use lsm_table::Shelf;
 use std::alloc::Global;
 use std::sync::Wait;
@@ -105,21 +106,23 @@ fn values_of<N: Boarded, S: Shelf>(
 
 /// The values of keys in all that has come in, at its last sequence or at a snapshot's.
 #[tactic(auto, using(crate::proofs::SeenLaws::promised))]
-pub(crate) fn read<N: Boarded, S: Shelf, R: Wait>(
+pub(crate) fn read<N: Boarded, S: Shelf, K: Invariant, R: Wait>(
     rt: &R,
     alloc: Global,
-    store: &Store<N, S>,
+    store: &Store<N, S, K>,
     reader: ChannelReader<N, S>,
     memory: &mut Memory<N>,
     taken: &[(u64, u64)],
     when: When,
     keys: Keys<'_>,
 ) -> (ChannelReader<N, S>, Result<Vec<u8>, StateFault>)
-    ensures read { IfOk result.1 (λ v. IsRead S.honest when keys.entry taken.now
+    requires quiet { IsKeptQuietly S.honest K.keeps }
+    ensures read { IfOk result.1 (λ v. IsRead S.honest K.keeps when keys.entry taken.now
         reader result.0 memory.old memory.new v.items) }
     ensures known { IsLater memory.new memory.old }
+    ensures kept { IsKnown K.keeps memory.new }
     ensures later { IsLater result.0.history reader.history }
-    ensures refused { IfErr result.1 (IsReadFault S.honest when keys.entry taken.now
+    ensures refused { IfErr result.1 (IsReadFault S.honest K.keeps when keys.entry taken.now
         reader result.0 memory.old memory.new) }
 {
     match view_at(rt, store, reader, memory, taken, when) {

@@ -8,9 +8,11 @@ ghost use Rattle.lsm_frames.specs.Answers.{Shown};
 ghost use Rattle.lsm_frames.specs.Views.{stretch_of};
 ghost use Rattle.lsm_history.specs.History.{IsLater};
 ghost use Rattle.lsm_model.specs.Scanning.{UsersAscend};
+ghost use Rattle.lsm_channels.specs.Keeping.{IsKeptQuietly, IsKnown};
 ghost use Rattle.lsm_channels.specs.Reading.{IsAnswerFault, IsTooLong, IsUnread};
 ghost use Rattle.lsm_channels.specs.Scanning.{IsFull, IsLongPage, IsPage, IsScanFault, IsScanFrom};
-ghost use Rattle.lsm_channels.specs.Scanning.{IsScanned, IsShown, IsUnshown, below, is_below, pair_of};
+ghost use Rattle.lsm_channels.specs.Scanning.{IsScanned, IsShown, IsUnshown, below, is_below};
+ghost use Rattle.lsm_channels.specs.Scanning.{pair_of};
 ghost use Rattle.lsm_channels.specs.Stepping.{Grows, IsLongTurn, Turns, ahead};
 ghost use Rattle.lsm_state.specs.declared.state_fault.StateFault.TheVariants.{TooLarge};
 ghost use Rattle.lsm_store.specs.Readers.{IsPromised};
@@ -26,7 +28,7 @@ use lsm_history::Memory;
 use lsm_query::{Pair, Scan};
 use lsm_slots::Boarded;
 use lsm_state::StateFault;
-use lsm_store::Store;
+use lsm_store::{Invariant, Store};
 use lsm_table::{ReadFault, Shelf};
 use std::alloc::Global;
 use std::sync::Wait;
@@ -177,21 +179,23 @@ fn page_of<N: Boarded, S: Shelf>(
 
 /// The first pairs of a range in all that has come in, at its last sequence or at a snapshot's.
 #[tactic(auto, using(crate::proofs::SeenLaws::promised))]
-pub(crate) fn scan<N: Boarded, S: Shelf, R: Wait>(
+pub(crate) fn scan<N: Boarded, S: Shelf, K: Invariant, R: Wait>(
     rt: &R,
     alloc: Global,
-    store: &Store<N, S>,
+    store: &Store<N, S, K>,
     reader: ChannelReader<N, S>,
     memory: &mut Memory<N>,
     taken: &[(u64, u64)],
     range: Range<'_>,
 ) -> (ChannelReader<N, S>, Result<Vec<u8>, StateFault>)
-    ensures scanned { IfOk result.1 (λ v. IsScanned S.honest (stretch_of range.entry) taken.now
-        reader result.0 memory.old memory.new v.items) }
+    requires quiet { IsKeptQuietly S.honest K.keeps }
+    ensures scanned { IfOk result.1 (λ v. IsScanned S.honest K.keeps (stretch_of range.entry)
+        taken.now reader result.0 memory.old memory.new v.items) }
     ensures known { IsLater memory.new memory.old }
+    ensures kept { IsKnown K.keeps memory.new }
     ensures later { IsLater result.0.history reader.history }
-    ensures refused { IfErr result.1 (IsScanFault S.honest (stretch_of range.entry) taken.now
-        reader result.0 memory.old memory.new) }
+    ensures refused { IfErr result.1 (IsScanFault S.honest K.keeps (stretch_of range.entry)
+        taken.now reader result.0 memory.old memory.new) }
 {
     match view_at(rt, store, reader, memory, taken, range.when) {
         Ok((mut view, seq)) => {

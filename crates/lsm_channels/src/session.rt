@@ -1,16 +1,19 @@
 //! What a channel is served with.
 
-ghost use Rattle.std.specs.Prelude.{◌≡◌, [], IfOk};
+ghost use Rattle.std.specs.Prelude.{◌≡◌, ℕ, List, [], IfOk, OnErr};
 ghost use Rattle.lsm_frames.specs.Requests.{Collects, Compacts, Reads, Releases, Scans};
 ghost use Rattle.lsm_frames.specs.Requests.{Snapshots, Statistics};
 ghost use Rattle.lsm_frames.specs.Requests.{Writes as AskedWrites};
 ghost use Rattle.lsm_frames.specs.Views.{asked_of, stretch_of};
 ghost use Rattle.lsm_history.specs.History.{IsLater};
 ghost use Rattle.lsm_channels.specs.Answering.{AnswersStatistics, IsAnswered};
+ghost use Rattle.lsm_channels.specs.Keeping.{IsKeptByAsked, IsKeptByRelease, IsKeptByTakes};
+ghost use Rattle.lsm_channels.specs.Keeping.{IsKeptByWrites, IsKeptQuietly, IsKnown};
 
 use crate::channel_reader::ChannelReader;
 use crate::collecting::collect;
 use crate::compacting::compact;
+use crate::knowing::note;
 use crate::reading::read;
 use crate::refusing::refuse;
 use crate::saying::{say_collected, say_compacted, say_released, say_taken, say_written};
@@ -23,7 +26,7 @@ use lsm_history::Memory;
 use lsm_reader::Cached;
 use lsm_slots::Boarded;
 use lsm_state::StateFault;
-use lsm_store::{Background, Reader, Store};
+use lsm_store::{Background, Invariant, Reader, Store};
 use lsm_table::{NamedShelf, Shelf};
 use std::alloc::{AllocError, Global};
 use std::marker::Model;
@@ -31,14 +34,18 @@ use std::sync::Wait;
 use std::thread::Threads;
 
 /// Tells how much the database has.
-fn answer_statistics<N: Boarded, S: Shelf, R: Wait>(
+fn answer_statistics<N: Boarded, S: Shelf, K: Invariant, R: Wait>(
     rt: &R,
     alloc: Global,
-    store: &Store<N, S>,
+    store: &Store<N, S, K>,
     memory: &mut Memory<N>,
 ) -> Result<Vec<u8>, AllocError>
-    ensures answered { IfOk result (λ v. AnswersStatistics memory.old memory.new v.items) }
+    requires quiet { IsKeptQuietly S.honest K.keeps }
+    ensures answered { IfOk result (λ v. AnswersStatistics K.keeps memory.old memory.new v.items) }
+    ensures unanswered { OnErr result ((frame : List ℕ)
+        × AnswersStatistics K.keeps memory.old memory.new frame) }
     ensures known { IsLater memory.new memory.old }
+    ensures kept { IsKnown K.keeps memory.new }
 {
     match list(rt, alloc, store, memory) {
         Ok((last, files)) => {
@@ -99,18 +106,36 @@ impl<N: Boarded, S: Shelf> Session<N, S> {
         }
     }
 
+    /// Knows what is remembered here from then on, with all that it knew. So what is performed then
+    /// is answered by a state that has it, whoever brought it in.
+    pub fn note<K: Invariant, R: Wait>(&mut self, rt: &R, store: &Store<N, S, K>, since: Memory<N>)
+        requires quiet { IsKeptQuietly S.honest K.keeps }
+        ensures since { IsLater self.new.known since }
+        ensures known { IsLater self.new.known self.old.known }
+        ensures kept { IsKnown K.keeps self.new.known }
+        ensures same { self.new ≡ record self.old { known = self.new.known } }
+    {
+        note(rt, store, &mut self.memory, since);
+    }
+
     // Brings writes in.
-    fn write<R: Wait>(
+    fn write<K: Invariant, R: Wait>(
         &mut self,
         rt: &R,
         alloc: Global,
-        store: &Store<N, S>,
+        store: &Store<N, S, K>,
         background: &Background,
         writes: Writes<'_>,
     ) -> Result<Vec<u8>, AllocError>
-        ensures answered { IfOk result (λ v. IsAnswered S.honest (S.refuses N.place)
+        requires quiet { IsKeptQuietly S.honest K.keeps }
+        requires writes { IsKeptByWrites (S.refuses N.place) writes K.keeps }
+        ensures answered { IfOk result (λ v. IsAnswered S.honest (S.refuses N.place) K.keeps
             (AskedWrites writes.entry) self.old self.new v.items) }
+        ensures unanswered { OnErr result ((frame : List ℕ)
+            × IsAnswered S.honest (S.refuses N.place) K.keeps (AskedWrites writes.entry) self.old
+            self.new frame) }
         ensures known { IsLater self.new.known self.old.known }
+        ensures kept { IsKnown K.keeps self.old.known → IsKnown K.keeps self.new.known }
     {
         let done = write(
             rt,
@@ -126,16 +151,20 @@ impl<N: Boarded, S: Shelf> Session<N, S> {
     }
 
     // Sees to it that nothing is left to compact.
-    fn compact<R: Threads + Wait + Sync>(
+    fn compact<K: Invariant, R: Threads + Wait + Sync>(
         &mut self,
         rt: &R,
         alloc: Global,
-        store: &Store<N, S>,
+        store: &Store<N, S, K>,
         background: &Background,
     ) -> Result<Vec<u8>, AllocError>
-        ensures answered { IfOk result (λ v. IsAnswered S.honest (S.refuses N.place) Compacts
-            self.old self.new v.items) }
+        requires quiet { IsKeptQuietly S.honest K.keeps }
+        ensures answered { IfOk result (λ v. IsAnswered S.honest (S.refuses N.place) K.keeps
+            Compacts self.old self.new v.items) }
+        ensures unanswered { OnErr result ((frame : List ℕ)
+            × IsAnswered S.honest (S.refuses N.place) K.keeps Compacts self.old self.new frame) }
         ensures known { IsLater self.new.known self.old.known }
+        ensures kept { IsKnown K.keeps self.old.known → IsKnown K.keeps self.new.known }
     {
         let done = compact(
             rt,
@@ -150,15 +179,19 @@ impl<N: Boarded, S: Shelf> Session<N, S> {
     }
 
     // Removes the tables that nothing needs.
-    fn collect<R: Wait>(
+    fn collect<K: Invariant, R: Wait>(
         &mut self,
         rt: &R,
         alloc: Global,
-        store: &Store<N, S>,
+        store: &Store<N, S, K>,
     ) -> Result<Vec<u8>, AllocError>
-        ensures answered { IfOk result (λ v. IsAnswered S.honest (S.refuses N.place) Collects
-            self.old self.new v.items) }
+        requires quiet { IsKeptQuietly S.honest K.keeps }
+        ensures answered { IfOk result (λ v. IsAnswered S.honest (S.refuses N.place) K.keeps
+            Collects self.old self.new v.items) }
+        ensures unanswered { OnErr result ((frame : List ℕ)
+            × IsAnswered S.honest (S.refuses N.place) K.keeps Collects self.old self.new frame) }
         ensures known { IsLater self.new.known self.old.known }
+        ensures kept { IsKnown K.keeps self.old.known → IsKnown K.keeps self.new.known }
     {
         let done = collect(rt, alloc, store, &mut self.memory, &mut self.shelf);
         let answer = say_collected(alloc, done)?;
@@ -166,15 +199,19 @@ impl<N: Boarded, S: Shelf> Session<N, S> {
     }
 
     // Takes a snapshot.
-    fn take<R: Wait>(
+    fn take<K: Invariant, R: Wait>(
         &mut self,
         rt: &R,
         alloc: Global,
-        store: &Store<N, S>,
+        store: &Store<N, S, K>,
     ) -> Result<Vec<u8>, AllocError>
-        ensures answered { IfOk result (λ v. IsAnswered S.honest (S.refuses N.place) Snapshots
-            self.old self.new v.items) }
+        requires taken { IsKeptByTakes K.keeps }
+        ensures answered { IfOk result (λ v. IsAnswered S.honest (S.refuses N.place) K.keeps
+            Snapshots self.old self.new v.items) }
+        ensures unanswered { OnErr result ((frame : List ℕ)
+            × IsAnswered S.honest (S.refuses N.place) K.keeps Snapshots self.old self.new frame) }
         ensures known { IsLater self.new.known self.old.known }
+        ensures kept { IsKnown K.keeps self.old.known → IsKnown K.keeps self.new.known }
     {
         let done = take(rt, store, &mut self.memory, &mut self.taken);
         let answer = say_taken(alloc, done)?;
@@ -182,16 +219,21 @@ impl<N: Boarded, S: Shelf> Session<N, S> {
     }
 
     // Gives a snapshot up.
-    fn release<R: Wait>(
+    fn release<K: Invariant, R: Wait>(
         &mut self,
         rt: &R,
         alloc: Global,
-        store: &Store<N, S>,
+        store: &Store<N, S, K>,
         number: u64,
     ) -> Result<Vec<u8>, AllocError>
-        ensures answered { IfOk result (λ v. IsAnswered S.honest (S.refuses N.place)
+        requires given_up { IsKeptByRelease number K.keeps }
+        ensures answered { IfOk result (λ v. IsAnswered S.honest (S.refuses N.place) K.keeps
             (Releases number) self.old self.new v.items) }
+        ensures unanswered { OnErr result ((frame : List ℕ)
+            × IsAnswered S.honest (S.refuses N.place) K.keeps (Releases number) self.old self.new
+            frame) }
         ensures known { IsLater self.new.known self.old.known }
+        ensures kept { IsKnown K.keeps self.old.known → IsKnown K.keeps self.new.known }
     {
         let done = release(rt, store, &mut self.memory, &mut self.taken, number);
         let answer = say_released(alloc, done)?;
@@ -199,31 +241,40 @@ impl<N: Boarded, S: Shelf> Session<N, S> {
     }
 
     // Tells how much the database has.
-    fn tell<R: Wait>(
+    fn tell<K: Invariant, R: Wait>(
         &mut self,
         rt: &R,
         alloc: Global,
-        store: &Store<N, S>,
+        store: &Store<N, S, K>,
     ) -> Result<Vec<u8>, AllocError>
-        ensures answered { IfOk result (λ v. IsAnswered S.honest (S.refuses N.place) Statistics
-            self.old self.new v.items) }
+        requires quiet { IsKeptQuietly S.honest K.keeps }
+        ensures answered { IfOk result (λ v. IsAnswered S.honest (S.refuses N.place) K.keeps
+            Statistics self.old self.new v.items) }
+        ensures unanswered { OnErr result ((frame : List ℕ)
+            × IsAnswered S.honest (S.refuses N.place) K.keeps Statistics self.old self.new frame) }
         ensures known { IsLater self.new.known self.old.known }
+        ensures kept { IsKnown K.keeps self.old.known → IsKnown K.keeps self.new.known }
     {
         answer_statistics(rt, alloc, store, &mut self.memory)
     }
 
     // Reads keys.
-    fn read<R: Wait>(
+    fn read<K: Invariant, R: Wait>(
         self,
         rt: &R,
         alloc: Global,
-        store: &Store<N, S>,
+        store: &Store<N, S, K>,
         when: When,
         keys: Keys<'_>,
     ) -> (Session<N, S>, Result<Vec<u8>, AllocError>)
-        ensures answered { IfOk result.1 (λ v. IsAnswered S.honest (S.refuses N.place)
+        requires quiet { IsKeptQuietly S.honest K.keeps }
+        ensures answered { IfOk result.1 (λ v. IsAnswered S.honest (S.refuses N.place) K.keeps
             (Reads when keys.entry) self result.0 v.items) }
+        ensures unanswered { OnErr result.1 ((frame : List ℕ)
+            × IsAnswered S.honest (S.refuses N.place) K.keeps (Reads when keys.entry) self result.0
+            frame) }
         ensures known { IsLater result.0.known self.known }
+        ensures kept { IsKnown K.keeps self.known → IsKnown K.keeps result.0.known }
     {
         let Session {
             reader,
@@ -266,16 +317,21 @@ impl<N: Boarded, S: Shelf> Session<N, S> {
     }
 
     // Shows pairs.
-    fn scan<R: Wait>(
+    fn scan<K: Invariant, R: Wait>(
         self,
         rt: &R,
         alloc: Global,
-        store: &Store<N, S>,
+        store: &Store<N, S, K>,
         range: Range<'_>,
     ) -> (Session<N, S>, Result<Vec<u8>, AllocError>)
-        ensures answered { IfOk result.1 (λ v. IsAnswered S.honest (S.refuses N.place)
+        requires quiet { IsKeptQuietly S.honest K.keeps }
+        ensures answered { IfOk result.1 (λ v. IsAnswered S.honest (S.refuses N.place) K.keeps
             (Scans (stretch_of range.entry)) self result.0 v.items) }
+        ensures unanswered { OnErr result.1 ((frame : List ℕ)
+            × IsAnswered S.honest (S.refuses N.place) K.keeps (Scans (stretch_of range.entry)) self
+            result.0 frame) }
         ensures known { IsLater result.0.known self.known }
+        ensures kept { IsKnown K.keeps self.known → IsKnown K.keeps result.0.known }
     {
         let Session {
             reader,
@@ -321,17 +377,23 @@ impl<N: Boarded, S: Shelf> Session<N, S> {
     /// the store's own (`answered`), of a state that has all that the session knew. What it knows
     /// goes on (`known`). `AllocError` where there is no memory even for a refusal; what was asked
     /// may be done then.
-    pub fn perform<R: Threads + Wait + Sync>(
+    pub fn perform<K: Invariant, R: Threads + Wait + Sync>(
         self,
         rt: &R,
         alloc: Global,
-        store: &Store<N, S>,
+        store: &Store<N, S, K>,
         background: &Background,
         request: Request<'_>,
     ) -> (Session<N, S>, Result<Vec<u8>, AllocError>)
-        ensures answered { IfOk result.1 (λ v. IsAnswered S.honest (S.refuses N.place)
+        requires quiet { IsKeptQuietly S.honest K.keeps }
+        requires asked { IsKeptByAsked (S.refuses N.place) (asked_of request) K.keeps }
+        ensures answered { IfOk result.1 (λ v. IsAnswered S.honest (S.refuses N.place) K.keeps
             (asked_of request.entry) self result.0 v.items) }
+        ensures unanswered { OnErr result.1 ((frame : List ℕ)
+            × IsAnswered S.honest (S.refuses N.place) K.keeps (asked_of request.entry) self
+            result.0 frame) }
         ensures known { IsLater result.0.known self.known }
+        ensures kept { IsKnown K.keeps self.known → IsKnown K.keeps result.0.known }
     {
         let mut session = self;
         let answer = match request {

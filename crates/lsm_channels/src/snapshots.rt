@@ -4,6 +4,7 @@ ghost use Rattle.std.specs.Prelude.{◌≡◌, ◌⊎◌, ◌<◌, IfErr, IfOk, 
 ghost use Rattle.std.specs.List.{filter};
 ghost use Rattle.lsm_history.specs.History.{IsLater};
 ghost use Rattle.lsm_model.specs.Plain.{without_snapshot};
+ghost use Rattle.lsm_channels.specs.Keeping.{IsKeptByRelease, IsKeptByTakes, IsKnown};
 ghost use Rattle.lsm_channels.specs.Served.{IsToldBy};
 ghost use Rattle.lsm_channels.specs.Snapshots.{Forgets, IsReleased, IsTakeFault, IsTaken};
 ghost use Rattle.lsm_channels.specs.Snapshots.{IsUnreleased, IsUntaken, Notes, ReleasesAt, TakesAt};
@@ -15,7 +16,7 @@ use crate::knowing::catch_up;
 use lsm_history::Memory;
 use lsm_slots::Boarded;
 use lsm_state::{State, StateFault};
-use lsm_store::Store;
+use lsm_store::{Invariant, Store};
 use lsm_table::Shelf;
 use std::sync::Wait;
 
@@ -71,17 +72,19 @@ fn take_of<N: Boarded, S: Shelf>(
 
 /// Takes a snapshot: its number, and its sequence, which are noted.
 #[tactic(auto, using(crate::proofs::KnownLaws::told_later))]
-pub(crate) fn take<N: Boarded, S: Shelf, R: Wait>(
+pub(crate) fn take<N: Boarded, S: Shelf, K: Invariant, R: Wait>(
     rt: &R,
-    store: &Store<N, S>,
+    store: &Store<N, S, K>,
     memory: &mut Memory<N>,
     taken: &mut Vec<(u64, u64)>,
 ) -> Result<(u64, u64), StateFault>
+    requires taken { IsKeptByTakes K.keeps }
     ensures ok { IfOk result (λ r.
-        IsTaken r.0 r.1 memory.old memory.new taken.old.items taken.new.items) }
+        IsTaken K.keeps r.0 r.1 memory.old memory.new taken.old.items taken.new.items) }
     ensures refused { IfErr result (λ e.
-        IsUntaken e memory.old memory.new taken.old.items taken.new.items) }
+        IsUntaken K.keeps e memory.old memory.new taken.old.items taken.new.items) }
     ensures known { IsLater memory.new memory.old }
+    ensures kept { IsKnown K.keeps memory.new }
 {
     take_of(&mut store.lock(rt).state, memory, taken)
 }
@@ -104,15 +107,17 @@ fn release_of<N: Boarded, S: Shelf>(
 
 /// Gives a snapshot up under the lock.
 #[tactic(auto, using(crate::proofs::KnownLaws::told_later))]
-fn release_at<N: Boarded, S: Shelf, R: Wait>(
+fn release_at<N: Boarded, S: Shelf, K: Invariant, R: Wait>(
     rt: &R,
-    store: &Store<N, S>,
+    store: &Store<N, S, K>,
     memory: &mut Memory<N>,
     number: u64,
 ) -> Result<(), StateFault>
-    ensures ok { OnOk result (IsReleased number memory.old memory.new) }
-    ensures refused { IfErr result (λ e. IsUnreleased number e memory.old memory.new) }
+    requires given_up { IsKeptByRelease number K.keeps }
+    ensures ok { OnOk result (IsReleased K.keeps number memory.old memory.new) }
+    ensures refused { IfErr result (λ e. IsUnreleased K.keeps number e memory.old memory.new) }
     ensures known { IsLater memory.new memory.old }
+    ensures kept { IsKnown K.keeps memory.new }
 {
     release_of(&mut store.lock(rt).state, memory, number)
 }
@@ -125,18 +130,20 @@ fn take_out(taken: &mut Vec<(u64, u64)>, number: u64)
 }
 
 /// Gives a snapshot up, which is noted no more.
-pub(crate) fn release<N: Boarded, S: Shelf, R: Wait>(
+pub(crate) fn release<N: Boarded, S: Shelf, K: Invariant, R: Wait>(
     rt: &R,
-    store: &Store<N, S>,
+    store: &Store<N, S, K>,
     memory: &mut Memory<N>,
     taken: &mut Vec<(u64, u64)>,
     number: u64,
 ) -> Result<(), StateFault>
-    ensures ok { OnOk result (IsReleased number memory.old memory.new
+    requires given_up { IsKeptByRelease number K.keeps }
+    ensures ok { OnOk result (IsReleased K.keeps number memory.old memory.new
         × (taken.new.items ≡ without_snapshot number taken.old.items)) }
-    ensures refused { IfErr result (λ e. IsUnreleased number e memory.old memory.new
+    ensures refused { IfErr result (λ e. IsUnreleased K.keeps number e memory.old memory.new
         × (taken.new.items ≡ taken.old.items)) }
     ensures known { IsLater memory.new memory.old }
+    ensures kept { IsKnown K.keeps memory.new }
 {
     match release_at(rt, store, memory, number) {
         Ok(()) => {

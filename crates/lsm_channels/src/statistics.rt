@@ -3,6 +3,7 @@
 ghost use Rattle.std.specs.Prelude.{◌≡◌, IfOk, length, sum_by};
 ghost use Rattle.lsm_history.specs.History.{IsLater};
 ghost use Rattle.lsm_channels.specs.Counting.{IsListed, capped, files_at, size_at, sizes_of};
+ghost use Rattle.lsm_channels.specs.Keeping.{IsKeptQuietly, IsKnown};
 ghost use Rattle.lsm_channels.specs.Served.{IsToldBy};
 ghost use Rattle.lsm_state.specs.Listing.{listed_from};
 
@@ -12,7 +13,7 @@ use lsm_history::Memory;
 use lsm_manifest::FileMeta;
 use lsm_slots::Boarded;
 use lsm_state::State;
-use lsm_store::Store;
+use lsm_store::{Invariant, Store};
 use lsm_table::Shelf;
 use std::alloc::{AllocError, Global};
 use std::sync::Wait;
@@ -90,14 +91,16 @@ pub(crate) fn sizes_of(files: &[(u8, FileMeta)]) -> [LevelSize; 7]
 
 /// The last sequence, and the files, each with its level.
 #[tactic(auto, using(crate::proofs::KnownLaws::told_later))]
-pub(crate) fn list<N: Boarded, S: Shelf, R: Wait>(
+pub(crate) fn list<N: Boarded, S: Shelf, K: Invariant, R: Wait>(
     rt: &R,
     alloc: Global,
-    store: &Store<N, S>,
+    store: &Store<N, S, K>,
     memory: &mut Memory<N>,
 ) -> Result<(u64, Vec<(u8, FileMeta)>), AllocError>
-    ensures listed { IfOk result (λ r. IsListed r.0 r.1.items memory.old memory.new) }
+    requires quiet { IsKeptQuietly S.honest K.keeps }
+    ensures listed { IfOk result (λ r. IsListed K.keeps r.0 r.1.items memory.old memory.new) }
     ensures known { IsLater memory.new memory.old }
+    ensures kept { IsKnown K.keeps memory.new }
 {
     files_of(&mut store.lock(rt).state, alloc, memory)
 }

@@ -3,6 +3,7 @@
 ghost use Rattle.std.specs.Prelude.{◌≡◌, ◌⊎◌, Some, IfErr, IfOk, OnErr, OnOk};
 ghost use Rattle.lsm_frames.specs.declared.when.When.TheVariants.{Snapshot};
 ghost use Rattle.lsm_history.specs.History.{IsLater};
+ghost use Rattle.lsm_state.specs.Held.{plain};
 ghost use Rattle.lsm_state.specs.Reading.{IsSequence};
 ghost use Rattle.lsm_state.specs.declared.state_fault.StateFault.TheVariants.{OutOfMemory};
 ghost use Rattle.lsm_channels.specs.Pinning.{HasSameVersions, IsUnpinned};
@@ -10,6 +11,7 @@ ghost use Rattle.lsm_channels.specs.Reading.{IsUnseen};
 ghost use Rattle.lsm_channels.specs.Seen.{IsAsGiven, IsGiven, IsNotLive, Learns, Sees, is_other};
 ghost use Rattle.lsm_channels.specs.Seen.{snapshot_in};
 ghost use Rattle.std.specs.List.{list_any};
+ghost use Rattle.lsm_channels.specs.Keeping.{IsKeptQuietly, IsKnown};
 ghost use Rattle.lsm_channels.specs.Served.{IsToldBy};
 ghost use Rattle.lsm_store.specs.Readers.{refreshed};
 
@@ -21,7 +23,7 @@ use lsm_frames::When;
 use lsm_history::Memory;
 use lsm_slots::Boarded;
 use lsm_state::{State, StateFault};
-use lsm_store::{Reader, Store};
+use lsm_store::{Invariant, Reader, Store};
 use lsm_table::Shelf;
 use std::sync::Wait;
 
@@ -80,6 +82,7 @@ fn learn<N: Boarded, S: Shelf>(
     ensures same { OnOk result (HasSameVersions state.old.slots state.new.slots) }
     ensures rest { state.new ≡ record state.old
         { slots = record state.old.slots { board = state.new.slots.board } } }
+    ensures plain { plain state.new ≡ plain state.old }
     ensures err { OnErr result (reader.new ≡ reader.old) }
     ensures refused { IfErr result (λ e. IsNotLive state.old taken.now when e ⊎ (e ≡ OutOfMemory)) }
 {
@@ -104,6 +107,7 @@ fn view_of<N: Boarded, S: Shelf>(
     ensures given { IfOk result (λ r. IsAsGiven taken.now when r.1) }
     ensures later { IfErr result (λ e. IsLater e.0.history reader.history) }
     ensures rest { state.new ≡ record state.old { slots = state.new.slots } }
+    ensures plain { plain state.new ≡ plain state.old }
     ensures refused { IfErr result (λ e.
         IsNotLive state.old taken.now when e.1 ⊎ IsUnpinned state.old e.1) }
 {
@@ -122,18 +126,21 @@ fn view_of<N: Boarded, S: Shelf>(
 /// A view of all that has come in, and the sequence at which it is read: the last one, or the
 /// snapshot's. The version is pinned under the lock.
 #[tactic(auto, using(crate::proofs::KnownLaws::told_later))]
-pub(crate) fn view_at<N: Boarded, S: Shelf, R: Wait>(
+pub(crate) fn view_at<N: Boarded, S: Shelf, K: Invariant, R: Wait>(
     rt: &R,
-    store: &Store<N, S>,
+    store: &Store<N, S, K>,
     reader: ChannelReader<N, S>,
     memory: &mut Memory<N>,
     taken: &[(u64, u64)],
     when: When,
 ) -> Result<(ChannelView<N, S>, u64), (ChannelReader<N, S>, StateFault)>
-    ensures sees { IfOk result (λ r. Sees when taken.now reader r.0 memory.old memory.new r.1) }
+    requires quiet { IsKeptQuietly S.honest K.keeps }
+    ensures sees { IfOk result (λ r. Sees K.keeps when taken.now reader r.0 memory.old memory.new
+        r.1) }
     ensures known { IsLater memory.new memory.old }
+    ensures kept { IsKnown K.keeps memory.new }
     ensures later { IfErr result (λ e. IsLater e.0.history reader.history) }
-    ensures refused { IfErr result (λ e. IsUnseen when taken.now memory.old memory.new e.1) }
+    ensures refused { IfErr result (λ e. IsUnseen K.keeps when taken.now memory.old memory.new e.1) }
 {
     view_of(&mut store.lock(rt).state, reader, memory, taken, when)
 }

@@ -4,6 +4,8 @@ ghost use Rattle.std.specs.Prelude.{◌≡◌, ◌++◌, ◌∷◌, [], IfErr, I
 ghost use Rattle.lsm_frames.specs.Views.{written_of};
 ghost use Rattle.lsm_history.specs.History.{IsLater};
 ghost use Rattle.lsm_lines.specs.LastWrites.{KeepsLast};
+ghost use Rattle.lsm_channels.specs.Keeping.{IsKeptByWrites, IsKeptQuietly, IsKnown};
+ghost use Rattle.lsm_store.specs.Background.{IsKeptByIngest};
 ghost use Rattle.lsm_channels.specs.Writing.{IsIn, IsOut, IsPutFault, IsUngathered};
 ghost use Rattle.lsm_channels.specs.Writing.{IsWriteFault, IsWritten};
 ghost use Rattle.lsm_channels.specs.Writing.{write_of, writes_of};
@@ -16,7 +18,7 @@ use lsm_history::Memory;
 use lsm_lines::{PutFault, WriteBuffer};
 use lsm_slots::Boarded;
 use lsm_state::{Ingested, StateFault};
-use lsm_store::{Background, Store};
+use lsm_store::{Background, Invariant, Store};
 use lsm_table::{NamedShelf, Shelf};
 use std::alloc::{AllocError, Global};
 use std::sync::Wait;
@@ -81,16 +83,17 @@ fn batch_of(alloc: Global, writes: Writes<'_>) -> Result<Batch, StateFault>
 }
 
 /// Brings a batch in: with it all that had come in then, to be remembered.
-fn bring_in<N: Boarded, S: Shelf, R: Wait>(
+fn bring_in<N: Boarded, S: Shelf, K: Invariant, R: Wait>(
     rt: &R,
     alloc: Global,
-    store: &Store<N, S>,
+    store: &Store<N, S, K>,
     background: &Background,
     shelf: &mut NamedShelf<N, S>,
     batch: &Batch,
 ) -> Result<(Ingested, Memory<N>), StateFault>
-    ensures ok { IfOk result (λ r. IsIn batch.now r.0 r.1 shelf.old shelf.new) }
-    ensures refused { IfErr result (λ e. IsOut (S.refuses N.place) batch.now e
+    requires kept { IsKeptByIngest (S.refuses N.place) batch.now K.keeps }
+    ensures ok { IfOk result (λ r. IsIn K.keeps batch.now r.0 r.1 shelf.old shelf.new) }
+    ensures refused { IfErr result (λ e. IsOut (S.refuses N.place) K.keeps batch.now e
         shelf.old shelf.new) }
 {
     match background.ingest(rt, alloc, store, shelf, batch) {
@@ -102,19 +105,22 @@ fn bring_in<N: Boarded, S: Shelf, R: Wait>(
 /// Brings the last write of each key in, all as one batch, and remembers all that had come in then.
 /// Where level 0 is full it waits for the workers.
 #[tactic(auto, using(crate::proofs::KnownLaws::later_same))]
-pub(crate) fn write<N: Boarded, S: Shelf, R: Wait>(
+pub(crate) fn write<N: Boarded, S: Shelf, K: Invariant, R: Wait>(
     rt: &R,
     alloc: Global,
-    store: &Store<N, S>,
+    store: &Store<N, S, K>,
     background: &Background,
     memory: &mut Memory<N>,
     shelf: &mut NamedShelf<N, S>,
     writes: Writes<'_>,
 ) -> Result<Ingested, StateFault>
-    ensures ok { IfOk result (λ r. IsWritten writes.entry r memory.new shelf.old shelf.new) }
+    requires quiet { IsKeptQuietly S.honest K.keeps }
+    requires writes { IsKeptByWrites (S.refuses N.place) writes K.keeps }
+    ensures ok { IfOk result (λ r. IsWritten K.keeps writes.entry r memory.new shelf.old shelf.new) }
     ensures known { IsLater memory.new memory.old }
     ensures refused { IfErr result (λ e.
-        IsWriteFault (S.refuses N.place) writes.entry e shelf.old shelf.new) }
+        IsWriteFault (S.refuses N.place) K.keeps writes.entry e shelf.old shelf.new) }
+    ensures kept { IsKnown K.keeps memory.old → IsKnown K.keeps memory.new }
 {
     let batch = batch_of(alloc, writes)?;
     match bring_in(rt, alloc, store, background, shelf, &batch) {

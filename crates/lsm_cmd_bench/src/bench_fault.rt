@@ -92,6 +92,10 @@ impl Exit for BenchFault {
 
     fn explain<E: Write>(&self, err: &mut E, writes: &[KeyWrite]) -> io::Result<()> {
         match self {
+            BenchFault::Before(WriterFault::LostCurrent(_)) => writeln!(
+                err,
+                "no CURRENT is there, but files of a database: bench fills a folder that has none"
+            ),
             BenchFault::Before(fault) => fault.explain(err, writes),
             BenchFault::IsThere => writeln!(
                 err,

@@ -20,7 +20,7 @@ use Rattle.lsm_requests.specs.declared.compact_options.CompactOptions.{CompactOp
 use Rattle.lsm_requests.specs.declared.compact_range.CompactRange.{CompactRange}
 use Rattle.lsm_store.specs.declared.picks.Picks.{Picks}
 use Rattle.lsm_store.specs.declared.picks.Picks.TheVariants.{Choice, Joining, Manual}
-use Rattle.lsm_cmd_compact.specs.Compacting.{IsAimed, IsClearedBy, AreEnds, AreFaultless, Clears, Compacts, IsCompactFault, IsNamed, IsOfManning, IsOpened, IsNotCompacted, IsWorkersFault, LeavesAll, StopsSweeping, installed_between}
+use Rattle.lsm_cmd_compact.specs.Compacting.{AreAimed, IsAimed, IsAimedFault, IsClearedBy, AreFaultless, Clears, Compacts, IsCompactFault, IsNamed, IsOfManning, IsOpened, IsNotCompacted, LeavesAll, StopsCompacting, StopsSweeping, installed_between}
 use Rattle.lsm_opening.specs.declared.faults.compact_fault.CompactFault.{CompactFault}
 use Rattle.lsm_opening.specs.declared.faults.compact_fault.CompactFault.TheVariants.{Writer}
 
@@ -45,18 +45,18 @@ opens Honest board found was mid is opened on forked = record { mid = mid; opene
 
 -- no worker began, or one of them has a fault
 pub unfinished : (Stored : ℕ → List ℕ → Type 0) (Refused : Asked → ShelfFault → Type 0) (Honest : Type 0) (board : TableId) (found : Held) (options : CompactOptions) (e : CompactFault) (was is : Told)
-    → IsOpened Honest board found was is → IsOfManning e ⊎ IsWorkersFault Refused Honest (IsLeftByWorkers Honest found) was.place options.workers e
-    → IsCompactFault Stored Refused Honest options e was is
+    → IsOpened Honest board found was is → IsOfManning e ⊎ IsAimedFault Refused Honest (IsLeftByWorkers Honest found) was.place found options e
+    → StopsCompacting Stored Refused Honest options e was is
 unfinished Stored Refused Honest board found options e was is opened stops = elim stops [
-  | inl manning ↦ inr (inl (inr (manning, (board, (found, opened)))))
-  | inr fault ↦ inr (inr (inl record { board = board; found = found; opened = opened; stopped = fault }))
+  | inl manning ↦ inl (inr (manning, (board, (found, opened))))
+  | inr fault ↦ inr (inl record { board = board; found = found; opened = opened; stopped = fault })
 ]
 
 -- nothing, or not all, was removed
 pub unswept : (Stored : ℕ → List ℕ → Type 0) (Refused : Asked → ShelfFault → Type 0) (Honest : Type 0) (board : TableId) (found left : Held) (options : CompactOptions) (returned : List (WorkerEnd × Option Told))
-    (e : CompactFault) (was mid is : Told) → IsOpened Honest board found was mid → AreEnds Refused Honest (IsLeftByWorkers Honest found) was.place options.workers returned → AreFaultless returned
-    → IsLeftByWorkers Honest found left → StopsSweeping Refused Honest board left e mid is → IsCompactFault Stored Refused Honest options e was is
-unswept Stored Refused Honest board found left options returned e was mid is opened each faultless by stops = inr (inr (inr (inl record {
+    (e : CompactFault) (was mid is : Told) → IsOpened Honest board found was mid → AreAimed Refused Honest (IsLeftByWorkers Honest found) was.place found options returned → AreFaultless returned
+    → IsLeftByWorkers Honest found left → StopsSweeping Refused Honest board left e mid is → StopsCompacting Stored Refused Honest options e was is
+unswept Stored Refused Honest board found left options returned e was mid is opened each faultless by stops = inr (inr (inl record {
   board = board;
   found = found;
   left = left;
@@ -67,11 +67,11 @@ unswept Stored Refused Honest board found left options returned e was mid is ope
   faultless = faultless;
   leaves = leaves Honest found left by;
   stops = stops;
-})))
+}))
 
 -- all was done
 pub compacts : (Refused : Asked → ShelfFault → Type 0) (Honest : Type 0) (board : TableId) (found left : Held) (options : CompactOptions) (installed : ℕ) (returned : List (WorkerEnd × Option Told)) (was mid read is : Told)
-    → IsOpened Honest board found was mid → AreEnds Refused Honest (IsLeftByWorkers Honest found) was.place options.workers returned → AreFaultless returned
+    → IsOpened Honest board found was mid → AreAimed Refused Honest (IsLeftByWorkers Honest found) was.place found options returned → AreFaultless returned
     → Clears (IsLeftByWorkers Honest found) found options.range → IsLeftByWorkers Honest found left → installed ≡ installed_between found left → IsNamed left mid read → IsSwept Honest board left read is
     → Compacts Refused Honest options installed was is
 compacts Refused Honest board found left options installed returned was mid read is opened each faultless cleared by count named swept = record {

@@ -5,8 +5,9 @@ pub(crate) mod job_teller;
 pub(crate) mod program;
 pub(crate) mod progress;
 pub(crate) mod tally;
+pub(crate) mod torn;
 
-ghost use Rattle.std.specs.Prelude.{◌≡◌, ◌≢◌, ◌⊎◌, All, IfErr, IfOk, IsFalse, IsTrue, OnOk};
+ghost use Rattle.std.specs.Prelude.{◌≡◌, ◌≢◌, ◌⊎◌, All, IfErr, IfOk, IsFalse, IsTrue, OnOk, true};
 ghost use Rattle.std.specs.Prelude.{replicate, vec_len};
 ghost use Rattle.std.specs.Io.KnownBytes.{Appends, Keeps};
 ghost use Rattle.lsm_shelf.specs.Stored.{Stored};
@@ -17,13 +18,14 @@ ghost use Rattle.lsm_state.specs.Held.{Held};
 ghost use Rattle.lsm_store.specs.Compacting.{IsKeptByCompaction, IsSeated};
 ghost use Rattle.lsm_store.specs.Readers.{SeatsPinners};
 ghost use Rattle.lsm_store.specs.Workers.{IsWorkersEnd};
-ghost use Rattle.lsm_store.specs.Working.{AreReturned};
+ghost use Rattle.lsm_store.specs.Working.{AreReturned, given_each};
 ghost use Rattle.lsm_opening.specs.WriterFault.{of_shelf};
 ghost use Rattle.lsm_opening.specs.Parts.{AreOf, usual};
 ghost use Rattle.lsm_opening.specs.declared.faults.writer_fault.WriterFault.TheVariants.{Write as WriteFault};
-ghost use Rattle.lsm_cmd_compact.specs.Compacting.{AreEnds, AreFaultless, IsCompactFault, IsCompacted};
+ghost use Rattle.lsm_cmd_compact.specs.Compacting.{AreAimed, AreEnds, AreFaultless, IsAimedFault};
+ghost use Rattle.lsm_cmd_compact.specs.Compacting.{IsCompactFault, IsCompacted};
 ghost use Rattle.lsm_cmd_compact.specs.Compacting.{Clears, IsAimed, IsClearedBy, IsOfManning};
-ghost use Rattle.lsm_cmd_compact.specs.Compacting.{IsWorkersFault};
+ghost use Rattle.lsm_cmd_compact.specs.Compacting.{DoesCompact, IsWorkersFault, StopsCompacting};
 ghost use Rattle.lsm_opening.specs.Compactions.{IsSwept, Refuses, installed_text};
 ghost use Rattle.lsm_opening.specs.declared.faults.compact_fault.CompactFault.TheVariants.{Writer as WriterVariant};
 
@@ -31,6 +33,7 @@ use crate::compacting::finding::find_manifest;
 use crate::compacting::job_teller::JobTeller;
 use crate::compacting::progress::{tell_installed, tell_opened, tell_removed};
 use crate::compacting::tally::judge;
+use crate::compacting::torn::refuse_torn;
 use lsm_opening::{CompactFault, Crew, NewParts, WriterFault, forks, open, sweep};
 use lsm_requests::CompactOptions;
 use lsm_slots::Boarded;
@@ -60,7 +63,8 @@ fn run_all<N: Boarded, S: Shelf, K: Invariant, R: Threads + Wait + Sync, E: Writ
     ensures len { IfOk result (λ v. vec_len v ≡ vec_len shelves) }
     ensures ends { IfOk result (λ v. All (λ r. IsWorkersEnd S.honest r.0) v.items) }
     ensures returned { IfOk result (λ v.
-        AreReturned S.honest (S.refuses N.place) K.keeps shelves.items v.items) }
+        AreReturned S.honest (S.refuses N.place) K.keeps (given_each picks.now true shelves.items)
+        v.items) }
     ensures quiet { IsFalse progress → Keeps (E.contents err.old) (E.contents err.new) }
 {
     if progress {
@@ -85,10 +89,12 @@ fn work<N: Boarded, S: Shelf, K: Invariant, R: Threads + Wait + Sync, E: Write +
     requires count { vec_len shelves ≡ options.now.workers }
     requires new { shelves.items ≡ replicate options.now.workers (fresh N.place) }
     ensures ends { IfOk result (λ v.
-        AreEnds (S.refuses N.place) S.honest K.keeps N.place options.now.workers v.items) }
+        AreEnds (S.refuses N.place) S.honest K.keeps N.place options.now.workers picks.now
+        v.items) }
     ensures faultless { IfOk result (λ v. AreFaultless v.items) }
     ensures refused { IfErr result (λ e. (e ≡ WriterVariant (of_shelf OutOfMemory))
-        ⊎ IsWorkersFault (S.refuses N.place) S.honest K.keeps N.place options.now.workers e) }
+        ⊎ IsWorkersFault (S.refuses N.place) S.honest K.keeps N.place options.now.workers picks.now
+        e) }
     ensures quiet { IsFalse options.now.progress → Keeps (E.contents err.old) (E.contents err.new) }
 {
     let Ok(returned) = run_all(rt, alloc, store, shelves, picks, options.progress, err) else {
@@ -128,11 +134,13 @@ fn clear<N: Boarded, S: Shelf, K: Invariant, R: Threads + Wait + Sync, E: Write 
     requires count { vec_len shelves ≡ options.now.workers }
     requires new { shelves.items ≡ replicate options.now.workers (fresh N.place) }
     ensures ends { IfOk result (λ v.
-        AreEnds (S.refuses N.place) S.honest K.keeps N.place options.now.workers v.items) }
+        AreEnds (S.refuses N.place) S.honest K.keeps N.place options.now.workers picks.now
+        v.items) }
     ensures faultless { IfOk result (λ v. AreFaultless v.items) }
     ensures cleared { OnOk result (IsClearedBy K.keeps picks.now) }
     ensures refused { IfErr result (λ e. IsOfManning e
-        ⊎ IsWorkersFault (S.refuses N.place) S.honest K.keeps N.place options.now.workers e) }
+        ⊎ IsWorkersFault (S.refuses N.place) S.honest K.keeps N.place options.now.workers picks.now
+        e) }
     ensures quiet { IsFalse options.now.progress
         → Keeps (E.contents err.old) (E.contents err.new) }
 {
@@ -186,11 +194,11 @@ fn compact_state<N: Boarded, S: Shelf, K: Invariant, R: Threads + Wait + Sync, E
     requires steps { IsKeptByCompaction S.honest K.keeps }
     ensures kept { IfOk result (λ r. ∥ K.keeps r.0 ∥₁) }
     ensures ends { IfOk result (λ r.
-        AreEnds (S.refuses N.place) S.honest K.keeps N.place options.now.workers r.1.items) }
+        AreAimed (S.refuses N.place) S.honest K.keeps N.place state options.now r.1.items) }
     ensures faultless { IfOk result (λ r. AreFaultless r.1.items) }
     ensures cleared { OnOk result (Clears K.keeps state options.now.range) }
     ensures refused { IfErr result (λ e. IsOfManning e
-        ⊎ IsWorkersFault (S.refuses N.place) S.honest K.keeps N.place options.now.workers e) }
+        ⊎ IsAimedFault (S.refuses N.place) S.honest K.keeps N.place state options.now e) }
     ensures told { Forked shelf.old shelf.new }
     ensures quiet { IsFalse options.now.progress → Keeps (E.contents err.old) (E.contents err.new) }
 {
@@ -257,10 +265,10 @@ fn compact_named<N: Boarded, S: Shelf, R: Threads + Wait + Sync, O: Write, E: Wr
 ) -> Result<(), CompactFault>
     requires parts { AreOf usual N.registry N.board N.history parts }
     requires shelf { shelf.old.place ≡ N.place }
-    ensures done { OnOk result (IsCompacted (S.refuses N.place) S.honest options.now shelf.old
+    ensures done { OnOk result (DoesCompact (S.refuses N.place) S.honest options.now shelf.old
         shelf.new (O.contents out.old) (O.contents out.new)) }
     ensures fault { IfErr result (λ e.
-        IsCompactFault (Stored S.Receipt (S.is_of N.place) S.Receipt.number S.Receipt.image)
+        StopsCompacting (Stored S.Receipt (S.is_of N.place) S.Receipt.number S.Receipt.image)
         (S.refuses N.place) S.honest options.now e shelf.old shelf.new) }
     ensures left { IfErr result (λ e. e ≢ WriterVariant WriteFault
         → Keeps (O.contents out.old) (O.contents out.new)) }
@@ -280,6 +288,34 @@ fn compact_named<N: Boarded, S: Shelf, R: Threads + Wait + Sync, O: Write, E: Wr
     match reply(out, installed) {
         Ok(()) => Ok(()),
         Err(_) => Err(CompactFault::Writer(WriterFault::Write)),
+    }
+}
+
+/// The same, once the manifest's end was accepted.
+fn compact_accepted<N: Boarded, S: Shelf, R: Threads + Wait + Sync, O: Write, E: Write + Send>(
+    rt: &R,
+    alloc: Global,
+    shelf: &mut NamedShelf<N, S>,
+    options: &CompactOptions,
+    parts: NewParts<S>,
+    out: &mut O,
+    err: &mut E,
+) -> Result<(), CompactFault>
+    requires parts { AreOf usual N.registry N.board N.history parts }
+    requires shelf { shelf.old.place ≡ N.place }
+    ensures done { OnOk result (IsCompacted (S.refuses N.place) S.honest options.now shelf.old
+        shelf.new (O.contents out.old) (O.contents out.new)) }
+    ensures fault { IfErr result (λ e.
+        IsCompactFault (Stored S.Receipt (S.is_of N.place) S.Receipt.number S.Receipt.image)
+        (S.refuses N.place) S.honest options.now e shelf.old shelf.new) }
+    ensures left { IfErr result (λ e. e ≢ WriterVariant WriteFault
+        → Keeps (O.contents out.old) (O.contents out.new)) }
+    ensures quiet { IsFalse options.now.progress → Keeps (E.contents err.old) (E.contents err.new) }
+{
+    refuse_torn(rt, alloc, shelf, options.accepts_rest)?;
+    match compact_named(rt, alloc, shelf, options, parts, out, err) {
+        Ok(()) => Ok(()),
+        Err(fault) => Err(fault),
     }
 }
 
@@ -305,7 +341,7 @@ fn compact_as<N: Boarded, S: Shelf, R: Threads + Wait + Sync, O: Write, E: Write
     ensures quiet { IsFalse options.now.progress → Keeps (E.contents err.old) (E.contents err.new) }
 {
     let mut shelf: NamedShelf<N, S> = NamedShelf::of(shelf);
-    let done = compact_named(rt, alloc, &mut shelf, options, parts, out, err);
+    let done = compact_accepted(rt, alloc, &mut shelf, options, parts, out, err);
     (done, shelf.into_shelf())
 }
 

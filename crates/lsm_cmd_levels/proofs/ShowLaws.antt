@@ -1,6 +1,6 @@
 -- What a run says, by what reading the manifest and showing its shape say.
-use Rattle.std.proofs.Common.{◌≡◌, ℕ, List, ◌∷◌, Option, IfErr, OnErr, OnOk, arith, inl, inr, refl, sym, subst}
-use Rattle.std.specs.Prelude.{Result, Ok, Err}
+use Rattle.std.proofs.Common.{◌≡◌, ◌⊎◌, ℕ, Bool, List, ◌∷◌, Option, IfErr, OnErr, OnOk, arith, inl, inr, refl, sym, subst}
+use Rattle.std.specs.Prelude.{Result, Ok, Err, IsTrue}
 use Rattle.std.specs.Io.KnownBytes.{Appends, Keeps}
 use Rattle.std.proofs.KnownBytes.{Keeps-refl, Keeps-trans}
 use Rattle.lsm_folder.specs.declared.folder_calls.FolderCalls.{Ghosts}
@@ -19,7 +19,8 @@ use Rattle.lsm_text.specs.Printing.{Begins}
 use Rattle.lsm_text.specs.declared.form.Form.{Form}
 use Rattle.lsm_directory.specs.Folders.{IsShelfAt, told_by}
 use Rattle.lsm_directory.specs.Logs.{IsFirstUnread, NoneUnread}
-use Rattle.lsm_directory.specs.Looking.{TellsBeside}
+use Rattle.lsm_directory.specs.Looking.{TellsLogs}
+use Rattle.lsm_directory.specs.Rest.{IsLeftOut, LeavesNothingOut}
 use Rattle.lsm_directory.specs.declared.faults.directory_fault.DirectoryFault.{DirectoryFault}
 use Rattle.lsm_directory.specs.declared.faults.directory_fault.DirectoryFault.TheVariants as why
 use Rattle.lsm_directory.specs.declared.folder.folder_file.FolderFile.{FolderFile}
@@ -41,19 +42,26 @@ module _ (form : Form) (output : LevelsOutput) where
   pub stops_text : (s : Shape) (rest : ℕ) (text : List ℕ) (old new : Option (List ℕ)) → IsShown form output s rest text → Begins old new text → IsUnshown form output s rest why.Write old new
   stops_text s rest text old new is begun = (text, is, begun)
 
-  pub laid_out : {T : Type 0} (r : Result T DirectoryFault) (others : List FolderFile) (was is : Told) (s : Shape) (rest : ℕ) (old new said_old said_new : Option (List ℕ))
-      → Names was is s rest → OnOk r (Shows form output s rest old new) → (NoneUnread s.log s.prev_log others → Keeps said_old said_new)
-      → OnOk r (IsLaidOut form output others was is old new said_old said_new)
-  laid_out (Ok x) others was is s rest old new said_old said_new named shown quiet = record { shape = s; rest = rest; named = named; shown = shown; quiet = quiet }
-  laid_out (Err e) others was is s rest old new said_old said_new named shown quiet = tt
+  pub laid_out : {T : Type 0} (r : Result T DirectoryFault) (strict : Bool) (others : List FolderFile) (was is : Told) (s : Shape) (rest : ℕ) (old new said_old said_new : Option (List ℕ))
+      → Names was is s rest → OnOk r (IsTrue strict → LeavesNothingOut rest s.log s.prev_log others) → OnOk r (Shows form output s rest old new) → (rest ≡ 0 → NoneUnread s.log s.prev_log others → Keeps said_old said_new)
+      → OnOk r (IsLaidOut form output strict others was is old new said_old said_new)
+  laid_out (Ok x) strict others was is s rest old new said_old said_new named whole shown quiet = record { shape = s; rest = rest; named = named; whole = whole; shown = shown; quiet = quiet }
+  laid_out (Err e) strict others was is s rest old new said_old said_new named whole shown quiet = tt
 
-  pub not_shown : {T : Type 0} (r : Result T DirectoryFault) (Refused : Asked → ShelfFault → Type 0) (was is : Told) (s : Shape) (rest : ℕ) (old new : Option (List ℕ))
-      → Names was is s rest → IfErr r (λ e. IsUnshown form output s rest e old new) → IfErr r (λ e. IsLayoutFault Refused form output e was is old new)
-  not_shown (Ok x) Refused was is s rest old new named fault = tt
-  not_shown (Err e) Refused was is s rest old new named fault = inr (s, rest, named, fault)
+  pub not_shown : {T : Type 0} (r : Result T DirectoryFault) (Refused : Asked → ShelfFault → Type 0) (strict : Bool) (others : List FolderFile) (was is : Told) (s : Shape) (rest : ℕ) (old new : Option (List ℕ))
+      → Names was is s rest → IfErr r (λ e. (IsTrue strict × IsLeftOut rest s.log s.prev_log others e × Keeps old new) ⊎ IsUnshown form output s rest e old new)
+      → IfErr r (λ e. IsLayoutFault Refused form output strict others e was is old new)
+  not_shown (Ok x) Refused strict others was is s rest old new named fault = tt
+  not_shown (Err e) Refused strict others was is s rest old new named fault = inr (s, rest, named, fault)
 
-  pub not_named : (e : DirectoryFault) (Refused : Asked → ShelfFault → Type 0) (was is : Told) (old : Option (List ℕ)) → IsNotNamed Refused e was is → IsLayoutFault Refused form output e was is old old
-  not_named e Refused was is old fault = inl (fault, Keeps-refl old)
+  -- a refusal of what is left out, before anything is written
+  pub not_left_out : (strict : Bool) (others : List FolderFile) (s : Shape) (rest : ℕ) (e : DirectoryFault) (old : Option (List ℕ)) → IsTrue strict × IsLeftOut rest s.log s.prev_log others e
+      → (IsTrue strict × IsLeftOut rest s.log s.prev_log others e × Keeps old old) ⊎ IsUnshown form output s rest e old old
+  not_left_out strict others s rest e old l = inl (l.0, l.1, Keeps-refl old)
+
+  pub not_named : (e : DirectoryFault) (Refused : Asked → ShelfFault → Type 0) (strict : Bool) (others : List FolderFile) (was is : Told) (old : Option (List ℕ)) → IsNotNamed Refused e was is
+      → IsLayoutFault Refused form output strict others e was is old old
+  not_named e Refused strict others was is old fault = inl (fault, Keeps-refl old)
 
 pub named_reads : (was is : Told) (s : Shape) (rest : ℕ) → Names was is s rest → ReadsManifest was is
 named_reads was is s rest n = inr (n.held.number, n.held.bytes, n.told)
@@ -73,6 +81,8 @@ fault_reads Refused (why.Tables e) was is h = absurd h
 fault_reads Refused (why.Read e) was is h = absurd h
 fault_reads Refused why.NumbersSpent was is h = absurd h
 fault_reads Refused why.Locked was is h = absurd h
+fault_reads Refused (why.UnflushedLog number) was is h = absurd h
+fault_reads Refused (why.TornManifest rest) was is h = absurd h
 fault_reads Refused why.Absent was is h = absurd h
 
 -- a log was found that is to be noted
@@ -84,15 +94,15 @@ noted log prev files n first none =
 
 module _ {C M : Type 0} (folders : Ghosts C M) where
   pub lays_out : {T : Type 0} (r : Result T DirectoryFault) (line : LevelsLine) (others : List FolderFile) (begun ended : FileShelf C M) (old new said_old said_new : Option (List ℕ))
-      → IsShelfAt folders line.path.now (TellsBeside others) begun
-      → OnOk r (IsLaidOut line.form line.output others (told_by folders begun) (told_by folders ended) old new said_old said_new)
+      → IsShelfAt folders line.path.now (TellsLogs others) begun
+      → OnOk r (IsLaidOut line.form line.output line.strict others (told_by folders begun) (told_by folders ended) old new said_old said_new)
       → OnOk r (LaysOutAt folders line old new said_old said_new)
   lays_out (Ok x) line others begun ended old new said_old said_new on done = record { others = others; begun = begun; on = on; ended = ended; done = done }
   lays_out (Err e) line others begun ended old new said_old said_new on done = tt
 
   pub fails : {T : Type 0} (r : Result T DirectoryFault) (line : LevelsLine) (others : List FolderFile) (begun ended : FileShelf C M) (old new : Option (List ℕ))
-      → IsShelfAt folders line.path.now (TellsBeside others) begun
-      → IfErr r (λ e. IsLayoutFault MayRefuse line.form line.output e (told_by folders begun) (told_by folders ended) old new)
+      → IsShelfAt folders line.path.now (TellsLogs others) begun
+      → IfErr r (λ e. IsLayoutFault MayRefuse line.form line.output line.strict others e (told_by folders begun) (told_by folders ended) old new)
       → ReadsManifest (told_by folders begun) (told_by folders ended) → IfErr r (λ e. FailsToLayOut folders line e old new)
   fails (Ok x) line others begun ended old new on says reads = tt
   fails (Err e) line others begun ended old new on says reads = inr record { others = others; begun = begun; on = on; ended = ended; says = says; reads = reads }
@@ -108,8 +118,9 @@ module _ {C M : Type 0} (folders : Ghosts C M) where
       shape = done.done.shape;
       rest = done.done.rest;
       named = done.done.named;
+      whole = done.done.whole;
       shown = done.done.shown;
-      quiet = λ none. Keeps-trans said told last (done.done.quiet none) (kept zero);
+      quiet = λ whole none. Keeps-trans said told last (done.done.quiet whole none) (kept zero);
     };
   }
   laid_on (Err e) status line old new said told last err done kept zero = absurd (omega (arith, err, zero))

@@ -1,7 +1,7 @@
 -- What a run of `levels` comes to, for the words of its command line: this project's rule. It is
 -- about a folder that was opened at the path of these words, and about a shelf on its place; that
 -- such a shelf is the run's own is to be read.
-use Rattle.std.specs.Prelude.{◌≡◌, ◌⊎◌, ℕ, List, Option, ⊤}
+use Rattle.std.specs.Prelude.{◌≡◌, ◌⊎◌, ℕ, Bool, IsTrue, List, Option, ⊤}
 use Rattle.std.specs.Io.KnownBytes.{Appends, Keeps}
 use Rattle.lsm_folder.specs.declared.folder_calls.FolderCalls.{Ghosts}
 use Rattle.lsm_manifest.specs.declared.shape.Shape.{Shape}
@@ -17,7 +17,8 @@ use Rattle.lsm_text.specs.declared.form.Form.{Form}
 use Rattle.lsm_directory.specs.Folders.{IsShelfAt, told_by}
 use Rattle.lsm_directory.specs.Holding.{IsFolderFault}
 use Rattle.lsm_directory.specs.Logs.{NoneUnread}
-use Rattle.lsm_directory.specs.Looking.{TellsBeside}
+use Rattle.lsm_directory.specs.Looking.{TellsLogs}
+use Rattle.lsm_directory.specs.Rest.{IsLeftOut, LeavesNothingOut}
 use Rattle.lsm_directory.specs.declared.faults.directory_fault.DirectoryFault.{DirectoryFault}
 use Rattle.lsm_directory.specs.declared.faults.directory_fault.DirectoryFault.TheVariants as why
 use Rattle.lsm_directory.specs.declared.folder.folder_file.FolderFile.{FolderFile}
@@ -58,6 +59,8 @@ IsUnshown form output s rest (why.Tables fault) old new = ⊥
 IsUnshown form output s rest (why.Read fault) old new = ⊥
 IsUnshown form output s rest why.NumbersSpent old new = ⊥
 IsUnshown form output s rest why.Locked old new = ⊥
+IsUnshown form output s rest (why.UnflushedLog number) old new = ⊥
+IsUnshown form output s rest (why.TornManifest torn) old new = ⊥
 IsUnshown form output s rest why.Absent old new = ⊥
 
 -- ---- a shelf
@@ -79,24 +82,32 @@ IsNotNamed Refused (why.Tables fault) was is = ⊥
 IsNotNamed Refused (why.Read fault) was is = ⊥
 IsNotNamed Refused why.NumbersSpent was is = ⊥
 IsNotNamed Refused why.Locked was is = ⊥
+IsNotNamed Refused (why.UnflushedLog number) was is = ⊥
+IsNotNamed Refused (why.TornManifest rest) was is = ⊥
 IsNotNamed Refused why.Absent was is = ⊥
 
--- That shape was shown; and where there is no log to note, standard error is as it was.
-pub record IsLaidOut (form : Form) (output : LevelsOutput) (others : List FolderFile)
-    (was is : Told) (old new said_old said_new : Option (List ℕ)) : Type 0 where
+-- That shape was shown, and nothing is left out where that is asked for; and where the manifest
+-- ends with a whole record and there is no log to note, standard error is as it was.
+pub record IsLaidOut (form : Form) (output : LevelsOutput) (strict : Bool)
+    (others : List FolderFile) (was is : Told) (old new said_old said_new : Option (List ℕ))
+    : Type 0 where
   pub shape : Shape
   pub rest : ℕ
   pub named : Names was is shape rest
+  pub whole : IsTrue strict → LeavesNothingOut rest shape.log shape.prev_log others
   pub shown : Shows form output shape rest old new
-  pub quiet : NoneUnread shape.log shape.prev_log others → Keeps said_old said_new
+  pub quiet : rest ≡ 0 → NoneUnread shape.log shape.prev_log others → Keeps said_old said_new
 
 -- What a fault says: the manifest could not be read, and nothing was written; or it was read, and
--- its shape could not be shown.
-abbrev pub IsLayoutFault : (Asked → ShelfFault → Type 0) → Form → LevelsOutput → DirectoryFault
-    → Told → Told → Option (List ℕ) → Option (List ℕ) → Type 0
-IsLayoutFault Refused form output fault was is old new =
+-- something is left out that is not to be, and nothing was written, or its shape could not be
+-- shown.
+abbrev pub IsLayoutFault : (Asked → ShelfFault → Type 0) → Form → LevelsOutput → Bool
+    → List FolderFile → DirectoryFault → Told → Told → Option (List ℕ) → Option (List ℕ) → Type 0
+IsLayoutFault Refused form output strict others fault was is old new =
     (IsNotNamed Refused fault was is × Keeps old new)
-    ⊎ ((s : Shape) × (rest : ℕ) × Names was is s rest × IsUnshown form output s rest fault old new)
+    ⊎ ((s : Shape) × (rest : ℕ) × Names was is s rest
+    × ((IsTrue strict × IsLeftOut rest s.log s.prev_log others fault × Keeps old new)
+    ⊎ IsUnshown form output s rest fault old new))
 
 -- Between these moments the shelf was asked for its manifest at most.
 abbrev pub ReadsManifest : Told → Told → Type 0
@@ -106,15 +117,15 @@ ReadsManifest was is = Becomes was is
 -- ---- a folder
 
 module _ {C M : Type 0} (folders : Ghosts C M) where
-  -- The lock of the folder at the path was held, and these files were found beside its tables. On a
-  -- shelf of it the command was done.
+  -- These files were found beside the tables of the folder at the path, and no lock was asked for.
+  -- On a shelf of it the command was done.
   pub record LaysOutAt (line : LevelsLine) (old new said_old said_new : Option (List ℕ))
       : Type 0 where
     pub others : List FolderFile
     pub begun : FileShelf C M
-    pub on : IsShelfAt folders line.path.now (TellsBeside others) begun
+    pub on : IsShelfAt folders line.path.now (TellsLogs others) begun
     pub ended : FileShelf C M
-    pub done : IsLaidOut line.form line.output others (told_by folders begun)
+    pub done : IsLaidOut line.form line.output line.strict others (told_by folders begun)
         (told_by folders ended) old new said_old said_new
 
   -- That was so, and on the shelf this fault was met.
@@ -122,14 +133,14 @@ module _ {C M : Type 0} (folders : Ghosts C M) where
       : Type 0 where
     pub others : List FolderFile
     pub begun : FileShelf C M
-    pub on : IsShelfAt folders line.path.now (TellsBeside others) begun
+    pub on : IsShelfAt folders line.path.now (TellsLogs others) begun
     pub ended : FileShelf C M
-    pub says : IsLayoutFault MayRefuse line.form line.output fault (told_by folders begun)
-        (told_by folders ended) old new
+    pub says : IsLayoutFault MayRefuse line.form line.output line.strict others fault
+        (told_by folders begun) (told_by folders ended) old new
     pub reads : ReadsManifest (told_by folders begun) (told_by folders ended)
 
-  -- memory ran out, or the folder was not opened, locked or looked at, and nothing was written; or
-  -- what is above
+  -- memory ran out, or the folder was not opened or looked at, and nothing was written; or what is
+  -- above
   abbrev pub FailsToLayOut : LevelsLine → DirectoryFault → (old new : Option (List ℕ)) → Type 0
   FailsToLayOut line fault old new =
       ((IsFolderFault fault ⊎ (fault ≡ why.OutOfMemory)) × Keeps old new)

@@ -3,13 +3,13 @@
 ghost use Rattle.std.specs.Prelude.{◌≡◌, ◌≢◌, IfErr, IfOk, OnOk};
 ghost use Rattle.lsm_directory.specs.Folders.{IsShelfAt};
 ghost use Rattle.lsm_directory.specs.Holding.{IsFolderFault};
-ghost use Rattle.lsm_directory.specs.Looking.{TellsBeside};
+ghost use Rattle.lsm_directory.specs.Looking.{TellsLogs};
 ghost use Rattle.lsm_directory.specs.declared.faults.directory_fault.DirectoryFault.{DirectoryFault};
 ghost use Rattle.lsm_cmd_levels.specs.Layout.{FailsToLayOut, LaysOutAt};
 
 use crate::showing::lay_out;
 use lsm_directory::{
-    DirectoryFault, FolderFile, Known, Paths, files_beside, open_at, refuse, status_of,
+    DirectoryFault, FolderFile, Known, Paths, log_files, open_at, refuse, status_of,
 };
 use lsm_folder::{FolderCalls, Reasons};
 use lsm_requests::LevelsLine;
@@ -17,8 +17,9 @@ use lsm_storage::FileShelf;
 use std::io::Write;
 use std::sync::Wait;
 
-/// Opens the folder at a path to read: a shelf on it, whose lock is held as long as the shelf is,
-/// and the files that `files_beside` finds there.
+/// Opens the folder at a path to read: a shelf on it, and the files that `log_files` finds there.
+/// No lock is asked for: a manifest only grows, and `CURRENT` is replaced in one step, so what is
+/// read beside a program that writes has stood there.
 fn open_shelf<C: FolderCalls, P: Paths<C>, R: Wait>(
     rt: &R,
     paths: &P,
@@ -26,13 +27,13 @@ fn open_shelf<C: FolderCalls, P: Paths<C>, R: Wait>(
     reasons: &Reasons,
 ) -> Result<(FileShelf<C>, Vec<FolderFile>), DirectoryFault>
     ensures found { IfOk result (λ o.
-        IsShelfAt C.FolderCalls path.now (TellsBeside o.1.items) o.0) }
+        IsShelfAt C.FolderCalls path.now (TellsLogs o.1.items) o.0) }
     ensures fault { IfErr result IsFolderFault }
 {
     let mut folder = open_at(paths, path, reasons)?;
-    let files = files_beside(rt, paths.alloc(), &mut folder)?;
+    let files = log_files(rt, paths.alloc(), &mut folder)?;
 
-    // That a file was not there to be locked, or is gone, is no reason of a later refusal.
+    // That a log is gone is no reason of a later refusal.
     reasons.forget();
     Ok((FileShelf::over(folder), files))
 }
@@ -55,17 +56,29 @@ where
 {
     let (shelf, files) = open_shelf(rt, paths, line.path, reasons)?;
     let alloc = paths.alloc();
-    let (done, _shelf) = lay_out(rt, alloc, shelf, line.form, line.output, &files, out, err);
+    let (done, _shelf) = lay_out(
+        rt,
+        alloc,
+        shelf,
+        line.form,
+        line.output,
+        line.strict,
+        &files,
+        out,
+        err,
+    );
     done
 }
 
 /// Shows the levels of the folder at a path by its manifest alone, and answers the exit status: 0
-/// where that is done, and 1 where it is refused. Each log that is not read is noted on `err`. A
-/// fault is one line on `err`; where it is `9 Device` or `10 Missing`, what the system answered
-/// stands behind it. Nothing is written in the folder.
+/// where that is done, and 1 where it is refused. Each log that is not read is noted on `err`, and
+/// bytes at the manifest's end that are no whole record; with `--strict` it is refused by either. A
+/// fault is one line on `err`; what it
+/// means, and where it is `9 Device` or `10 Missing` what the system answered, stand behind it.
+/// Nothing is written in the folder, and no lock is asked for.
 ///
 /// The refusals of `Journal::recover`; `Shelf` of `Device` where it is no folder that can be
-/// opened; the refusals of `files_beside`.
+/// opened; the refusals of `log_files`, as `Shelf`.
 pub fn run_levels<C: FolderCalls + Send + Sync, P: Paths<C>, R: Wait, O: Write, E: Write>(
     rt: &R,
     paths: &P,

@@ -1,15 +1,19 @@
 //! What is shown of a folder's manifest.
 
-ghost use Rattle.std.specs.Prelude.{◌≡◌, IfErr, IfOk, OnOk};
+ghost use Rattle.std.specs.Prelude.{◌≡◌, ◌⊎◌, IfErr, IfOk, IsTrue, OnOk, true};
 ghost use Rattle.std.specs.Io.KnownBytes.{Keeps};
 ghost use Rattle.lsm_directory.specs.Logs.{NoneUnread};
+ghost use Rattle.lsm_directory.specs.Rest.{IsLeftOut, LeavesNothingOut};
 ghost use Rattle.lsm_cmd_levels.specs.Layout.{IsLaidOut, IsLayoutFault, IsNotNamed, IsShown, IsUnshown};
 ghost use Rattle.lsm_cmd_levels.specs.Layout.{Names, ReadsManifest, Shows, text_of};
 
 use crate::drawing::{Sheet, picture_text};
 use crate::due::{Due, due_next};
 use crate::lines::{files_text, levels_text};
-use lsm_directory::{DirectoryFault, FolderFile, Wording, first_unread, push_logs, write_output};
+use lsm_directory::{
+    DirectoryFault, FolderFile, Wording, first_unread, push_logs, push_rest, refuse_left_out,
+    write_output,
+};
 use lsm_journal::{Journal, Recovered};
 use lsm_manifest::Shape;
 use lsm_requests::LevelsOutput;
@@ -55,29 +59,49 @@ pub fn text_of(
     Ok(text)
 }
 
-/// Writes a note for each log that is not read.
+/// Writes a note of the manifest's end, where that is no whole record, and one for each log that is
+/// not read.
 fn write_notes<E: Write>(
     alloc: Global,
     files: &[FolderFile],
-    shape: &Shape,
+    recovered: &Recovered,
     err: &mut E,
 ) -> io::Result<()> {
+    let shape = &recovered.shape;
     let mut text = Vec::new(alloc);
+    if recovered.rest > 0 {
+        push_rest(&mut text, recovered.rest)?;
+    }
     push_logs(&mut text, Wording::Noted, files, shape.log, shape.prev_log)?;
     err.write_all(text.as_slice())?;
     err.flush()
 }
 
-/// Notes each log that is not read. What can't be written is left out.
-fn tell_notes<E: Write>(alloc: Global, files: &[FolderFile], shape: &Shape, err: &mut E)
-    ensures { NoneUnread shape.now.log shape.now.prev_log files.now
+/// Whether there is anything to note: the manifest's end is no whole record, or a log is not read.
+#[tactic(auto, using(crate::proofs::ShowLaws::noted))]
+fn has_note(files: &[FolderFile], recovered: &Recovered) -> bool
+    ensures { result ≡ true → recovered.now.rest ≡ 0
+        → NoneUnread recovered.now.shape.log recovered.now.shape.prev_log files.now → ⊥ }
+{
+    if recovered.rest > 0 {
+        return true;
+    }
+    let shape = &recovered.shape;
+    match first_unread(files, shape.log, shape.prev_log) {
+        Some(_) => true,
+        None => false,
+    }
+}
+
+/// Notes the manifest's end, where that is no whole record, and each log that is not read. What
+/// can't be written is left out.
+fn tell_notes<E: Write>(alloc: Global, files: &[FolderFile], recovered: &Recovered, err: &mut E)
+    ensures { recovered.now.rest ≡ 0
+        → NoneUnread recovered.now.shape.log recovered.now.shape.prev_log files.now
         → Keeps (E.contents err.old) (E.contents err.new) }
 {
-    match first_unread(files, shape.log, shape.prev_log) {
-        None => {}
-        Some(_) => {
-            let _ = write_notes(alloc, files, shape, err);
-        }
+    if has_note(files, recovered) {
+        let _ = write_notes(alloc, files, recovered, err);
     }
 }
 
@@ -137,8 +161,44 @@ fn read_as<N: Naming, S: Shelf, R: Wait>(
     (read, shelf.into_shelf())
 }
 
+/// Notes on `err` what is not read of a manifest and beside it, or is refused by that, and writes
+/// on `out` what is shown.
+#[tactic(auto, using(crate::proofs::ShowLaws::not_left_out))]
+fn show_noted<O: Write, E: Write>(
+    alloc: Global,
+    form: Form,
+    output: LevelsOutput,
+    strict: bool,
+    files: &[FolderFile],
+    recovered: &Recovered,
+    out: &mut O,
+    err: &mut E,
+) -> Result<(), DirectoryFault>
+    ensures whole { OnOk result (IsTrue strict → LeavesNothingOut recovered.now.rest
+        recovered.now.shape.log recovered.now.shape.prev_log files.now) }
+    ensures shown { OnOk result (Shows form output recovered.now.shape recovered.now.rest
+        (O.contents out.old) (O.contents out.new)) }
+    ensures fault { IfErr result (λ e. (IsTrue strict × IsLeftOut recovered.now.rest
+        recovered.now.shape.log recovered.now.shape.prev_log files.now e
+        × Keeps (O.contents out.old) (O.contents out.new))
+        ⊎ IsUnshown form output recovered.now.shape recovered.now.rest e
+        (O.contents out.old) (O.contents out.new)) }
+    ensures quiet { recovered.now.rest ≡ 0
+        → NoneUnread recovered.now.shape.log recovered.now.shape.prev_log files.now
+        → Keeps (E.contents err.old) (E.contents err.new) }
+{
+    let shape = &recovered.shape;
+    refuse_left_out(strict, recovered.rest, files, shape.log, shape.prev_log)?;
+    tell_notes(alloc, files, recovered, err);
+    match show(alloc, form, output, recovered, out) {
+        Ok(()) => Ok(()),
+        Err(fault) => Err(fault),
+    }
+}
+
 /// Reads the manifest that the directory of a shelf names, and writes what is shown of it on
-/// `out`; notes on `err` each log that is not read. The shelf is given back.
+/// `out`; notes on `err` what is not read, or where it is strict is refused by that. The shelf is
+/// given back.
 #[tactic(auto, using(crate::proofs::ShowLaws::laid_out, crate::proofs::ShowLaws::not_shown, crate::proofs::ShowLaws::not_named, crate::proofs::ShowLaws::named_reads, crate::proofs::ShowLaws::fault_reads))]
 pub fn lay_out<S: Shelf, R: Wait, O: Write, E: Write>(
     rt: &R,
@@ -146,21 +206,24 @@ pub fn lay_out<S: Shelf, R: Wait, O: Write, E: Write>(
     shelf: S,
     form: Form,
     output: LevelsOutput,
+    strict: bool,
     files: &[FolderFile],
     out: &mut O,
     err: &mut E,
 ) -> (Result<(), DirectoryFault>, S)
-    ensures done { OnOk result.0 (IsLaidOut form output files.now (S.told shelf) (S.told result.1)
-        (O.contents out.old) (O.contents out.new) (E.contents err.old) (E.contents err.new)) }
+    ensures done { OnOk result.0 (IsLaidOut form output strict files.now (S.told shelf)
+        (S.told result.1) (O.contents out.old) (O.contents out.new) (E.contents err.old)
+        (E.contents err.new)) }
     ensures fault { IfErr result.0 (λ e. IsLayoutFault (S.refuses (S.told shelf).place) form output
-        e (S.told shelf) (S.told result.1) (O.contents out.old) (O.contents out.new)) }
+        strict files.now e (S.told shelf) (S.told result.1) (O.contents out.old)
+        (O.contents out.new)) }
     ensures reads { ReadsManifest (S.told shelf) (S.told result.1) }
 {
     let (read, shelf) = read_as::<Brand, S, R>(rt, alloc, shelf);
     match read {
         Ok(recovered) => {
-            tell_notes(alloc, files, &recovered.shape, err);
-            (show(alloc, form, output, &recovered, out), shelf)
+            let shown = show_noted(alloc, form, output, strict, files, &recovered, out, err);
+            (shown, shelf)
         }
         Err(fault) => (Err(fault), shelf),
     }

@@ -21,29 +21,30 @@ use Rattle.lsm_directory.specs.declared.faults.directory_fault.DirectoryFault.{D
 use Rattle.lsm_directory.specs.declared.folder.folder_file.FolderFile.{FolderFile}
 
 module _ (Honest : Type 0) where
-  abbrev then_quiet : (form : Form) (command : DirectoryCommand) (others : List FolderFile) (progress : Bool) (was is : Told) (old new said told last : Option (List ℕ))
-      → IsLookedInto form command others progress Honest was is old new said told → Keeps told last → IsLookedInto form command others progress Honest was is old new said last
-  then_quiet form command others progress was is old new said told last done kept = record {
+  abbrev then_quiet : (form : Form) (command : DirectoryCommand) (others : List FolderFile) (strict progress : Bool) (was is : Told) (old new said told last : Option (List ℕ))
+      → IsLookedInto form command others strict progress Honest was is old new said told → Keeps told last → IsLookedInto form command others strict progress Honest was is old new said last
+  then_quiet form command others strict progress was is old new said told last done kept = record {
     version = done.version;
     rest = done.rest;
     log = done.log;
     prev = done.prev;
     holds = done.holds;
+    whole = done.whole;
     printed = done.printed;
     quiet = λ asked none. Keeps-trans said told last (done.quiet asked none) kept;
   }
 
-  pub done_on : {T F : Type 0} (r : Result T F) (status : ℕ) (form : Form) (command : DirectoryCommand) (others : List FolderFile) (progress : Bool) (Stored : ℕ → List ℕ → Type 0) (was is : Told)
-      (old new said told last : Option (List ℕ)) → OnErr r (status ≡ 1) → OnOk r (IsLookedIntoAsGiven form command others progress Stored Honest was is old new said told)
-      → (status ≡ 0 → Keeps told last) → status ≡ 0 → IsLookedIntoAsGiven form command others progress Stored Honest was is old new said last
-  done_on (Ok x) status form command others progress Stored was is old new said told last err done kept zero =
-      record { looked = then_quiet form command others progress was is old new said told last done.looked (kept zero); given = done.given }
-  done_on (Err e) status form command others progress Stored was is old new said told last err done kept zero = absurd (omega (arith, err, zero))
+  pub done_on : {T F : Type 0} (r : Result T F) (status : ℕ) (form : Form) (command : DirectoryCommand) (others : List FolderFile) (strict progress : Bool) (Stored : ℕ → List ℕ → Type 0) (was is : Told)
+      (old new said told last : Option (List ℕ)) → OnErr r (status ≡ 1) → OnOk r (IsLookedIntoAsGiven form command others strict progress Stored Honest was is old new said told)
+      → (status ≡ 0 → Keeps told last) → status ≡ 0 → IsLookedIntoAsGiven form command others strict progress Stored Honest was is old new said last
+  done_on (Ok x) status form command others strict progress Stored was is old new said told last err done kept zero =
+      record { looked = then_quiet form command others strict progress was is old new said told last done.looked (kept zero); given = done.given }
+  done_on (Err e) status form command others strict progress Stored was is old new said told last err done kept zero = absurd (omega (arith, err, zero))
 
 module _ {C M : Type 0} (folders : Ghosts C M) (marks : mark.Ghosts M) where
   pub looks_at : {T F : Type 0} (r : Result T F) (line : DirectoryLine) (others : List FolderFile) (begun ended : FileShelf C M) (old new said told : Option (List ℕ))
       → IsShelfAt folders line.path.now (TellsBeside others) begun
-      → OnOk r (IsLookedIntoAsGiven line.form line.command others line.progress (stored_at folders marks (told_by folders begun).place) (AreHonest folders.calls) (told_by folders begun) (told_by folders ended) old new said told)
+      → OnOk r (IsLookedIntoAsGiven line.form line.command others line.strict line.progress (stored_at folders marks (told_by folders begun).place) (AreHonest folders.calls) (told_by folders begun) (told_by folders ended) old new said told)
       → OnlyReads (told_by folders begun) (told_by folders ended) → OnOk r (LooksAtGiven folders marks line old new said told)
   looks_at (Ok x) line others begun ended old new said told on done reads =
       record { looks = record { others = others; begun = begun; on = on; ended = ended; done = done.looked; reads = reads }; given = done.given }
@@ -55,7 +56,7 @@ module _ {C M : Type 0} (folders : Ghosts C M) (marks : mark.Ghosts M) where
     begun = looked.begun;
     on = looked.on;
     ended = looked.ended;
-    done = then_quiet (AreHonest folders.calls) line.form line.command looked.others line.progress (told_by folders looked.begun) (told_by folders looked.ended) old new said told last looked.done kept;
+    done = then_quiet (AreHonest folders.calls) line.form line.command looked.others line.strict line.progress (told_by folders looked.begun) (told_by folders looked.ended) old new said told last looked.done kept;
     reads = looked.reads;
   }
 
@@ -72,7 +73,7 @@ module _ {C M : Type 0} (folders : Ghosts C M) (marks : mark.Ghosts M) where
 module _ {C M : Type 0} (folders : Ghosts C M) (marks : mark.Ghosts M) where
   pub fails_at : {T : Type 0} (r : Result T DirectoryFault) (line : DirectoryLine) (others : List FolderFile) (begun ended : FileShelf C M) (old new : Option (List ℕ))
       → IsShelfAt folders line.path.now (TellsBeside others) begun
-      → IfErr r (λ e. IsNotLookedInto line.form line.command e (stored_at folders marks (told_by folders begun).place) MayRefuse (AreHonest folders.calls) (told_by folders begun) (told_by folders ended) old new)
+      → IfErr r (λ e. IsNotLookedInto line.form line.command line.strict others e (stored_at folders marks (told_by folders begun).place) MayRefuse (AreHonest folders.calls) (told_by folders begun) (told_by folders ended) old new)
       → OnlyReads (told_by folders begun) (told_by folders ended) → IfErr r (λ e. FailsToLook folders marks line e old new)
   fails_at (Ok x) line others begun ended old new on refused reads = tt
   fails_at (Err e) line others begun ended old new on refused reads = inr record { others = others; begun = begun; on = on; ended = ended; refused = refused; reads = reads }

@@ -1,6 +1,6 @@
 -- What a command answers, by what opening the directory and asking it answer.
 use Rattle.std.proofs.Common.{◌≢◌, ℕ, List, Bool, Option, IfErr, OnOk, ◌≡◌, inl, inr, sym}
-use Rattle.std.specs.Prelude.{Result, Ok, Err, IsFalse}
+use Rattle.std.specs.Prelude.{Result, Ok, Err, IsFalse, IsTrue}
 use Rattle.std.specs.Io.KnownBytes.{Keeps}
 use Rattle.std.proofs.KnownBytes.{Keeps-refl, Keeps-trans}
 use Rattle.lsm_shelf.specs.Asked.{Asked}
@@ -23,13 +23,14 @@ use Rattle.lsm_version.specs.Versions.{Levels}
 use Rattle.lsm_requests.specs.declared.directory_command.DirectoryCommand.{DirectoryCommand}
 use Rattle.lsm_requests.specs.declared.directory_command.DirectoryCommand.TheVariants.{Check, List as ListFiles, Get, Scan}
 use Rattle.lsm_directory.specs.DirectoryFault.{of_open}
+use Rattle.lsm_directory.specs.Rest.{IsLeftOut, LeavesNothingOut}
 use Rattle.lsm_cmd_read.specs.Answers.{HasNoNote, IsLookedIntoAsGiven, IsLookFault, IsNotLookedInto, IsPerformFault, Leaves, Prints, PrintsBefore, ReliesOn, SaysAbsent}
 use Rattle.lsm_text.specs.declared.form.Form.{Form}
 use Rattle.lsm_cmd_read.specs.Directory.{AreGiven, Holds, OnlyReads}
 use Rattle.lsm_cmd_read.specs.Opening.{IsOpenRefusal}
 use Rattle.lsm_directory.specs.declared.folder.folder_file.FolderFile.{FolderFile}
 use Rattle.lsm_directory.specs.declared.faults.directory_fault.DirectoryFault.{DirectoryFault}
-use Rattle.lsm_directory.specs.declared.faults.directory_fault.DirectoryFault.TheVariants.{OutOfMemory, Write, Shelf, Manifest, Tables, Read, NumbersSpent, Locked, Absent}
+use Rattle.lsm_directory.specs.declared.faults.directory_fault.DirectoryFault.TheVariants.{OutOfMemory, Write, Shelf, Manifest, Tables, Read, NumbersSpent, Locked, UnflushedLog, TornManifest, Absent}
 
 -- after later reads of tables
 pub holds_later : (Honest : Type 0) (was mid is : Told) (v : Levels) (rest log prev : ℕ) → Becomes mid is → Holds Honest was mid v rest log prev → Holds Honest was is v rest log prev
@@ -75,17 +76,19 @@ module _ (Stored : ℕ → List ℕ → Type 0) (Refused : Asked → ShelfFault 
   open_refused (open_faults.Check e) was is h = h
   open_refused open_faults.NumbersSpent was is h = h
 
-  pub fault_from_open : (command : DirectoryCommand) (e : DirectoryFault) (was is : Told) → IsOpenRefusal Stored Refused Honest e was is
-      → IsLookFault Stored Refused Honest command e was is
-  fault_from_open command OutOfMemory was is h = tt
-  fault_from_open command Write was is h = absurd h
-  fault_from_open command (Shelf e) was is h = h
-  fault_from_open command (Manifest e) was is h = h
-  fault_from_open command (Tables e) was is h = h
-  fault_from_open command (Read e) was is h = absurd h
-  fault_from_open command NumbersSpent was is h = h
-  fault_from_open command Locked was is h = absurd h
-  fault_from_open command Absent was is h = absurd h
+  pub fault_from_open : (strict : Bool) (others : List FolderFile) (command : DirectoryCommand) (e : DirectoryFault) (was is : Told) → IsOpenRefusal Stored Refused Honest e was is
+      → IsLookFault Stored Refused Honest strict others command e was is
+  fault_from_open strict others command OutOfMemory was is h = tt
+  fault_from_open strict others command Write was is h = absurd h
+  fault_from_open strict others command (Shelf e) was is h = h
+  fault_from_open strict others command (Manifest e) was is h = h
+  fault_from_open strict others command (Tables e) was is h = h
+  fault_from_open strict others command (Read e) was is h = absurd h
+  fault_from_open strict others command NumbersSpent was is h = h
+  fault_from_open strict others command Locked was is h = absurd h
+  fault_from_open strict others command (UnflushedLog number) was is h = absurd h
+  fault_from_open strict others command (TornManifest rest) was is h = absurd h
+  fault_from_open strict others command Absent was is h = absurd h
 
   -- where nothing was written, a refusal to open leaves what it may
   pub keeps_leaves : (form : Form) (command : DirectoryCommand) (fault : DirectoryFault) (was is : Told) (old : Option (List ℕ))
@@ -98,45 +101,80 @@ module _ (Stored : ℕ → List ℕ → Type 0) (Refused : Asked → ShelfFault 
   keeps_leaves form command (Read fault) was is old f = absurd f
   keeps_leaves form command NumbersSpent was is old f = Keeps-refl old
   keeps_leaves form command Locked was is old f = absurd f
+  keeps_leaves form command (UnflushedLog number) was is old f = absurd f
+  keeps_leaves form command (TornManifest rest) was is old f = absurd f
   keeps_leaves form command Absent was is old f = absurd f
+
+  -- ---- something is left out
+
+  pub left_out : (strict : Bool) (others : List FolderFile) (command : DirectoryCommand) (e : DirectoryFault) (was is : Told) (v : Levels) (rest log prev : ℕ) → Holds Honest was is v rest log prev → AreGiven Stored v
+      → IsTrue strict × IsLeftOut rest log prev others e → IsLookFault Stored Refused Honest strict others command e was is
+  left_out strict others command OutOfMemory was is v rest log prev h given l = absurd l.1
+  left_out strict others command Write was is v rest log prev h given l = absurd l.1
+  left_out strict others command (Shelf e) was is v rest log prev h given l = absurd l.1
+  left_out strict others command (Manifest e) was is v rest log prev h given l = absurd l.1
+  left_out strict others command (Tables e) was is v rest log prev h given l = absurd l.1
+  left_out strict others command (Read e) was is v rest log prev h given l = absurd l.1
+  left_out strict others command NumbersSpent was is v rest log prev h given l = absurd l.1
+  left_out strict others command Locked was is v rest log prev h given l = absurd l.1
+  left_out strict others command (UnflushedLog number) was is v rest log prev h given l = (l.0, (v, rest, log, prev, h, given, l.1))
+  left_out strict others command (TornManifest torn) was is v rest log prev h given l = (l.0, (v, rest, log, prev, h, given, l.1))
+  left_out strict others command Absent was is v rest log prev h given l = absurd l.1
+
+  pub left_out_leaves : (form : Form) (command : DirectoryCommand) (e : DirectoryFault) (was is : Told) (rest log prev : ℕ) (others : List FolderFile) (old : Option (List ℕ)) → IsLeftOut rest log prev others e
+      → Leaves form command Stored Honest e was is old old
+  left_out_leaves form command OutOfMemory was is rest log prev others old l = absurd l
+  left_out_leaves form command Write was is rest log prev others old l = absurd l
+  left_out_leaves form command (Shelf e) was is rest log prev others old l = absurd l
+  left_out_leaves form command (Manifest e) was is rest log prev others old l = absurd l
+  left_out_leaves form command (Tables e) was is rest log prev others old l = absurd l
+  left_out_leaves form command (Read e) was is rest log prev others old l = absurd l
+  left_out_leaves form command NumbersSpent was is rest log prev others old l = absurd l
+  left_out_leaves form command Locked was is rest log prev others old l = absurd l
+  left_out_leaves form command (UnflushedLog number) was is rest log prev others old l = Keeps-refl old
+  left_out_leaves form command (TornManifest torn) was is rest log prev others old l = Keeps-refl old
+  left_out_leaves form command Absent was is rest log prev others old l = absurd l
 
   -- ---- an open directory
 
-  fault_later : (command : DirectoryCommand) (was mid is : Told) (v : Levels) (rest log prev : ℕ) (fault : DirectoryFault)
-      → Becomes mid is → Holds Honest was mid v rest log prev → AreGiven Stored v → IsPerformFault Honest command v fault mid is → IsLookFault Stored Refused Honest command fault was is
-  fault_later command was mid is v rest log prev OutOfMemory b h given f = f
-  fault_later command was mid is v rest log prev Write b h given f = (v, (rest, log, prev, holds_later Honest was mid is v rest log prev b h, given))
-  fault_later command was mid is v rest log prev (Shelf fault) b h given f = absurd f
-  fault_later command was mid is v rest log prev (Manifest fault) b h given f = absurd f
-  fault_later command was mid is v rest log prev (Tables fault) b h given f = absurd f
-  fault_later command was mid is v rest log prev (Read fault) b h given f =
+  fault_later : (strict : Bool) (others : List FolderFile) (command : DirectoryCommand) (was mid is : Told) (v : Levels) (rest log prev : ℕ) (fault : DirectoryFault)
+      → Becomes mid is → Holds Honest was mid v rest log prev → AreGiven Stored v → IsPerformFault Honest command v fault mid is → IsLookFault Stored Refused Honest strict others command fault was is
+  fault_later strict others command was mid is v rest log prev OutOfMemory b h given f = f
+  fault_later strict others command was mid is v rest log prev Write b h given f = (v, (rest, log, prev, holds_later Honest was mid is v rest log prev b h, given))
+  fault_later strict others command was mid is v rest log prev (Shelf fault) b h given f = absurd f
+  fault_later strict others command was mid is v rest log prev (Manifest fault) b h given f = absurd f
+  fault_later strict others command was mid is v rest log prev (Tables fault) b h given f = absurd f
+  fault_later strict others command was mid is v rest log prev (Read fault) b h given f =
       (v, (rest, log, prev, holds_later Honest was mid is v rest log prev b h, given), f.0, read_counted_from Honest fault was mid is v rest log prev h f.1)
-  fault_later command was mid is v rest log prev NumbersSpent b h given f = absurd f
-  fault_later command was mid is v rest log prev Locked b h given f = absurd f
-  fault_later command was mid is v rest log prev Absent b h given f = (v, (rest, log, prev, holds_later Honest was mid is v rest log prev b h, given), f)
+  fault_later strict others command was mid is v rest log prev NumbersSpent b h given f = absurd f
+  fault_later strict others command was mid is v rest log prev Locked b h given f = absurd f
+  fault_later strict others command was mid is v rest log prev (UnflushedLog number) b h given f = absurd f
+  fault_later strict others command was mid is v rest log prev (TornManifest torn) b h given f = absurd f
+  fault_later strict others command was mid is v rest log prev Absent b h given f = (v, (rest, log, prev, holds_later Honest was mid is v rest log prev b h, given), f)
 
-  pub is_fault : {T : Type 0} (r : Result T DirectoryFault) (command : DirectoryCommand) (was mid is : Told) (v : Levels) (rest log prev : ℕ)
+  pub is_fault : {T : Type 0} (r : Result T DirectoryFault) (strict : Bool) (others : List FolderFile) (command : DirectoryCommand) (was mid is : Told) (v : Levels) (rest log prev : ℕ)
       → Becomes mid is → Holds Honest was mid v rest log prev → AreGiven Stored v → IfErr r (λ e. IsPerformFault Honest command v e mid is)
-      → IfErr r (λ e. IsLookFault Stored Refused Honest command e was is)
-  is_fault (Ok x) command was mid is v rest log prev b h given f = search
-  is_fault (Err e) command was mid is v rest log prev b h given f = fault_later command was mid is v rest log prev e b h given f
+      → IfErr r (λ e. IsLookFault Stored Refused Honest strict others command e was is)
+  is_fault (Ok x) strict others command was mid is v rest log prev b h given f = search
+  is_fault (Err e) strict others command was mid is v rest log prev b h given f = fault_later strict others command was mid is v rest log prev e b h given f
 
-pub is_done : {T : Type 0} (r : Result T DirectoryFault) (form : Form) (command : DirectoryCommand) (others : List FolderFile) (progress : Bool) (Stored : ℕ → List ℕ → Type 0) (Honest : Type 0) (was mid is : Told) (v : Levels) (rest log prev : ℕ)
-    (old new said judged noted told : Option (List ℕ)) → Becomes mid is → Holds Honest was mid v rest log prev → AreGiven Stored v → (ReliesOn Honest command → OnOk r (Prints form command v rest log prev others old new))
-    → (IsFalse progress → Keeps said judged) → (HasNoNote command log prev others → Keeps judged noted) → (IsFalse progress → Keeps noted told) → OnOk r (IsLookedIntoAsGiven form command others progress Stored Honest was is old new said told)
-is_done (Ok x) form command others progress Stored Honest was mid is v rest log prev old new said judged noted told b h given w j q k = record {
+pub is_done : {T : Type 0} (r : Result T DirectoryFault) (form : Form) (command : DirectoryCommand) (others : List FolderFile) (strict progress : Bool) (Stored : ℕ → List ℕ → Type 0) (Honest : Type 0) (was mid is : Told) (v : Levels) (rest log prev : ℕ)
+    (old new said judged noted told : Option (List ℕ)) → Becomes mid is → Holds Honest was mid v rest log prev → (IsTrue strict → LeavesNothingOut rest log prev others) → AreGiven Stored v → (ReliesOn Honest command → OnOk r (Prints form command v rest log prev others old new))
+    → (IsFalse progress → Keeps said judged) → (HasNoNote command rest log prev others → Keeps judged noted) → (IsFalse progress → Keeps noted told) → OnOk r (IsLookedIntoAsGiven form command others strict progress Stored Honest was is old new said told)
+is_done (Ok x) form command others strict progress Stored Honest was mid is v rest log prev old new said judged noted told b h all given w j q k = record {
   looked = record {
     version = v;
     rest = rest;
     log = log;
     prev = prev;
     holds = holds_later Honest was mid is v rest log prev b h;
+    whole = all;
     printed = w;
     quiet = λ asked none. Keeps-trans said noted told (Keeps-trans said judged noted (j asked) (q none)) (k asked);
   };
   given = given;
 }
-is_done (Err e) form command others progress Stored Honest was mid is v rest log prev old new said judged noted told b h given w j q k = search
+is_done (Err e) form command others strict progress Stored Honest was mid is v rest log prev old new said judged noted told b h all given w j q k = search
 
 -- an absent key leaves what is written before a fault by a read of a key: nothing
 absent_leaves : (form : Form) (command : DirectoryCommand) (Honest : Type 0) (v : Levels) (old new : Option (List ℕ)) → SaysAbsent Honest command v
@@ -157,6 +195,8 @@ leaves_later form command Stored Honest (Tables fault) was mid is v rest log pre
 leaves_later form command Stored Honest (Read fault) was mid is v rest log prev old new b h given f p = (v, (rest, log, prev, holds_later Honest was mid is v rest log prev b h, given), p (λ e. cc))
 leaves_later form command Stored Honest NumbersSpent was mid is v rest log prev old new b h given f p = absurd f
 leaves_later form command Stored Honest Locked was mid is v rest log prev old new b h given f p = absurd f
+leaves_later form command Stored Honest (UnflushedLog number) was mid is v rest log prev old new b h given f p = absurd f
+leaves_later form command Stored Honest (TornManifest torn) was mid is v rest log prev old new b h given f p = absurd f
 leaves_later form command Stored Honest Absent was mid is v rest log prev old new b h given f p = absent_leaves form command Honest v old new f (p (λ e. cc))
 
 pub is_left : {T : Type 0} (r : Result T DirectoryFault) (form : Form) (command : DirectoryCommand) (Stored : ℕ → List ℕ → Type 0) (Honest : Type 0) (was mid is : Told) (v : Levels) (rest log prev : ℕ) (old new : Option (List ℕ))
@@ -165,15 +205,15 @@ pub is_left : {T : Type 0} (r : Result T DirectoryFault) (form : Form) (command 
 is_left (Ok x) form command Stored Honest was mid is v rest log prev old new b h given f p = search
 is_left (Err e) form command Stored Honest was mid is v rest log prev old new b h given f p = leaves_later form command Stored Honest e was mid is v rest log prev old new b h given f p
 
-pub is_refused : {T : Type 0} (r : Result T DirectoryFault) (form : Form) (command : DirectoryCommand) (Stored : ℕ → List ℕ → Type 0) (Refused : Asked → ShelfFault → Type 0) (Honest : Type 0) (was is : Told) (old new : Option (List ℕ))
-    → IfErr r (λ e. IsLookFault Stored Refused Honest command e was is) → IfErr r (λ e. Leaves form command Stored Honest e was is old new) → IfErr r (λ e. IsNotLookedInto form command e Stored Refused Honest was is old new)
-is_refused (Ok x) form command Stored Refused Honest was is old new f k = search
-is_refused (Err e) form command Stored Refused Honest was is old new f k = record { says = f; left = k }
+pub is_refused : {T : Type 0} (r : Result T DirectoryFault) (form : Form) (command : DirectoryCommand) (strict : Bool) (others : List FolderFile) (Stored : ℕ → List ℕ → Type 0) (Refused : Asked → ShelfFault → Type 0) (Honest : Type 0) (was is : Told) (old new : Option (List ℕ))
+    → IfErr r (λ e. IsLookFault Stored Refused Honest strict others command e was is) → IfErr r (λ e. Leaves form command Stored Honest e was is old new) → IfErr r (λ e. IsNotLookedInto form command strict others e Stored Refused Honest was is old new)
+is_refused (Ok x) form command strict others Stored Refused Honest was is old new f k = search
+is_refused (Err e) form command strict others Stored Refused Honest was is old new f k = record { says = f; left = k }
 
 -- memory ran out before anything was written
-pub memory_refused : (form : Form) (command : DirectoryCommand) (Stored : ℕ → List ℕ → Type 0) (Refused : Asked → ShelfFault → Type 0) (Honest : Type 0) (was is : Told) (old : Option (List ℕ))
-    → IsNotLookedInto form command OutOfMemory Stored Refused Honest was is old old
-memory_refused form command Stored Refused Honest was is old = record { says = tt; left = inl (Keeps-refl old) }
+pub memory_refused : (form : Form) (command : DirectoryCommand) (strict : Bool) (others : List FolderFile) (Stored : ℕ → List ℕ → Type 0) (Refused : Asked → ShelfFault → Type 0) (Honest : Type 0) (was is : Told) (old : Option (List ℕ))
+    → IsNotLookedInto form command strict others OutOfMemory Stored Refused Honest was is old old
+memory_refused form command strict others Stored Refused Honest was is old = record { says = tt; left = inl (Keeps-refl old) }
 
 -- ---- nothing but reads
 

@@ -28,8 +28,8 @@ module _ {C M : Type 0} (folders : Ghosts C M) where
     pub on : IsShelfAt folders line.path.now (TellsBeside others) begun
     pub ended : FileShelf C M
     pub done :
-        IsLookedInto line.form line.command others line.progress (AreHonest folders.calls)
-        (told_by folders begun) (told_by folders ended)
+        IsLookedInto line.form line.command others line.strict line.progress
+        (AreHonest folders.calls) (told_by folders begun) (told_by folders ended)
         old new said_old said_new
     pub reads : OnlyReads (told_by folders begun) (told_by folders ended)
 
@@ -51,7 +51,7 @@ module _ {C M : Type 0} (folders : Ghosts C M) (marks : mark.Ghosts M) where
     pub on : IsShelfAt folders line.path.now (TellsBeside others) begun
     pub ended : FileShelf C M
     pub refused :
-        IsNotLookedInto line.form line.command fault
+        IsNotLookedInto line.form line.command line.strict others fault
         (stored_at folders marks (told_by folders begun).place) MayRefuse
         (AreHonest folders.calls) (told_by folders begun) (told_by folders ended) old new
     pub reads : OnlyReads (told_by folders begun) (told_by folders ended)

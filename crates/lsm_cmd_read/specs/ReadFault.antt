@@ -3,7 +3,7 @@ use Rattle.std.specs.Prelude.{⊤}
 use Rattle.lsm_shelf.specs.Told.{Told}
 use Rattle.lsm_table.specs.ReadFault.{IsMemoryOrShelf, ReadCounted}
 use Rattle.lsm_directory.specs.declared.faults.directory_fault.DirectoryFault.{DirectoryFault}
-use Rattle.lsm_directory.specs.declared.faults.directory_fault.DirectoryFault.TheVariants.{OutOfMemory, Write, Shelf, Manifest, Tables, Read, NumbersSpent, Locked, Absent}
+use Rattle.lsm_directory.specs.declared.faults.directory_fault.DirectoryFault.TheVariants.{OutOfMemory, Write, Shelf, Manifest, Tables, Read, NumbersSpent, Locked, UnflushedLog, TornManifest, Absent}
 
 -- Memory ran out, or a write failed; or, over an honest shelf, the shelf refused: a refusal of it
 -- comes with a count that rose.
@@ -17,6 +17,8 @@ IsAnswerFault Honest (Read fault) was is =
     (Honest → IsMemoryOrShelf fault) × ReadCounted fault was is
 IsAnswerFault Honest NumbersSpent was is = ⊥
 IsAnswerFault Honest Locked was is = ⊥
+IsAnswerFault Honest (UnflushedLog number) was is = ⊥
+IsAnswerFault Honest (TornManifest rest) was is = ⊥
 IsAnswerFault Honest Absent was is = ⊥
 
 -- memory ran out, or a write failed
@@ -29,4 +31,6 @@ IsOutputFault (Tables fault) = ⊥
 IsOutputFault (Read fault) = ⊥
 IsOutputFault NumbersSpent = ⊥
 IsOutputFault Locked = ⊥
+IsOutputFault (UnflushedLog number) = ⊥
+IsOutputFault (TornManifest rest) = ⊥
 IsOutputFault Absent = ⊥

@@ -23,7 +23,7 @@ use crate::opened::{Opened, open};
 use crate::progress::FileTeller;
 use crate::scanning::print_scan;
 use lsm_codec::Bytes;
-use lsm_directory::{DirectoryFault, Wording, push_logs, write_output};
+use lsm_directory::{DirectoryFault, Wording, push_logs, write_output, refuse_left_out};
 use lsm_requests::{DirectoryCommand, GetOutput};
 use lsm_table::{NamedShelf, Naming, Records, Registry, Shelf};
 use lsm_text::Form;
@@ -178,8 +178,8 @@ fn named<N: Naming, S: Shelf>(
     Ok(named)
 }
 
-/// Opens the directory of a shelf to read, by a thread for each of the other ones, notes the logs
-/// that are not read, and does what a command asks of it. Nothing is written there.
+/// Opens the directory of a shelf to read, by a thread for each of the other ones, notes what is
+/// not read, or is refused by that, and does what a command asks of it. Nothing is written there.
 #[tactic(auto, using(crate::proofs::ReadingOutcomes::reads_none, crate::proofs::ReadingOutcomes::reads_later, lsm_directory::proofs::CallerLemmas::keeps_same))]
 fn perform<N: Naming, S: Shelf, R: Threads + Wait + Sync, O: Write, E: Write + Send>(
     rt: &R,
@@ -194,12 +194,12 @@ fn perform<N: Naming, S: Shelf, R: Threads + Wait + Sync, O: Write, E: Write + S
     requires named { records ≡ N.registry }
     requires shelves { All (λ s. (S.told s).place ≡ N.place) shelves.items }
     ensures done { OnOk result (IsLookedIntoAsGiven inquiry.now.form inquiry.now.command.now
-        inquiry.now.files.now inquiry.now.progress (Stored S.Receipt (S.is_of N.place)
-        S.Receipt.number S.Receipt.image) S.honest shelf.old shelf.new (O.contents out.old)
-        (O.contents out.new) (E.contents err.old) (E.contents err.new)) }
+        inquiry.now.files.now inquiry.now.strict inquiry.now.progress (Stored S.Receipt
+        (S.is_of N.place) S.Receipt.number S.Receipt.image) S.honest shelf.old shelf.new
+        (O.contents out.old) (O.contents out.new) (E.contents err.old) (E.contents err.new)) }
     ensures fault { IfErr result (λ e. IsLookFault (Stored S.Receipt (S.is_of N.place)
-        S.Receipt.number S.Receipt.image) (S.refuses N.place) S.honest inquiry.now.command.now e
-        shelf.old shelf.new) }
+        S.Receipt.number S.Receipt.image) (S.refuses N.place) S.honest inquiry.now.strict
+        inquiry.now.files.now inquiry.now.command.now e shelf.old shelf.new) }
     ensures left { IfErr result (λ e. Leaves inquiry.now.form inquiry.now.command.now
         (Stored S.Receipt (S.is_of N.place) S.Receipt.number S.Receipt.image) S.honest e
         shelf.old shelf.new (O.contents out.old) (O.contents out.new)) }
@@ -209,9 +209,17 @@ fn perform<N: Naming, S: Shelf, R: Threads + Wait + Sync, O: Write, E: Write + S
     let shelves = named(alloc, shelves)?;
     let progress = tells_files(inquiry);
     let opened = open_told(rt, alloc, shelf, &registry, shelves, progress, err)?;
+    refuse_left_out(
+        inquiry.strict,
+        opened.rest,
+        inquiry.files,
+        opened.log,
+        opened.prev_log,
+    )?;
     tell_notes(
         alloc,
         inquiry.command,
+        opened.rest,
         inquiry.files,
         opened.log,
         opened.prev_log,
@@ -236,12 +244,13 @@ pub(crate) fn perform_as<N: Naming, S: Shelf, R: Threads + Wait + Sync, O: Write
     requires shelf { (S.told shelf).place ≡ N.place }
     requires shelves { All (λ s. (S.told s).place ≡ N.place) shelves.items }
     ensures done { OnOk result.0 (IsLookedIntoAsGiven inquiry.now.form inquiry.now.command.now
-        inquiry.now.files.now inquiry.now.progress (Stored S.Receipt (S.is_of N.place)
-        S.Receipt.number S.Receipt.image) S.honest (S.told shelf) (S.told result.1)
-        (O.contents out.old) (O.contents out.new) (E.contents err.old) (E.contents err.new)) }
+        inquiry.now.files.now inquiry.now.strict inquiry.now.progress (Stored S.Receipt
+        (S.is_of N.place) S.Receipt.number S.Receipt.image) S.honest (S.told shelf)
+        (S.told result.1) (O.contents out.old) (O.contents out.new) (E.contents err.old)
+        (E.contents err.new)) }
     ensures fault { IfErr result.0 (λ e. IsLookFault (Stored S.Receipt (S.is_of N.place)
-        S.Receipt.number S.Receipt.image) (S.refuses N.place) S.honest inquiry.now.command.now e
-        (S.told shelf) (S.told result.1)) }
+        S.Receipt.number S.Receipt.image) (S.refuses N.place) S.honest inquiry.now.strict
+        inquiry.now.files.now inquiry.now.command.now e (S.told shelf) (S.told result.1)) }
     ensures left { IfErr result.0 (λ e. Leaves inquiry.now.form inquiry.now.command.now
         (Stored S.Receipt (S.is_of N.place) S.Receipt.number S.Receipt.image) S.honest e
         (S.told shelf) (S.told result.1) (O.contents out.old) (O.contents out.new)) }

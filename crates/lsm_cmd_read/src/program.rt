@@ -51,12 +51,14 @@ fn begin<S: Shelf, R: Threads + Wait + Sync, O: Write, E: Write + Send>(
 ) -> (Result<(), DirectoryFault>, S)
     requires shelves { All (λ s. (S.told s).place ≡ (S.told shelf).place) shelves.items }
     ensures done { OnOk result.0 (IsLookedIntoAsGiven inquiry.now.form inquiry.now.command.now
-        inquiry.now.files.now inquiry.now.progress (Stored S.Receipt (S.is_of (S.told shelf).place)
-        S.Receipt.number S.Receipt.image) S.honest (S.told shelf) (S.told result.1)
-        (O.contents out.old) (O.contents out.new) (E.contents err.old) (E.contents err.new)) }
+        inquiry.now.files.now inquiry.now.strict inquiry.now.progress (Stored S.Receipt
+        (S.is_of (S.told shelf).place) S.Receipt.number S.Receipt.image) S.honest (S.told shelf)
+        (S.told result.1) (O.contents out.old) (O.contents out.new) (E.contents err.old)
+        (E.contents err.new)) }
     ensures refused { IfErr result.0 (λ e. IsNotLookedInto inquiry.now.form
-        inquiry.now.command.now e (Stored S.Receipt (S.is_of (S.told shelf).place) S.Receipt.number
-        S.Receipt.image) (S.refuses (S.told shelf).place) S.honest (S.told shelf) (S.told result.1)
+        inquiry.now.command.now inquiry.now.strict inquiry.now.files.now e (Stored S.Receipt
+        (S.is_of (S.told shelf).place) S.Receipt.number S.Receipt.image)
+        (S.refuses (S.told shelf).place) S.honest (S.told shelf) (S.told result.1)
         (O.contents out.old) (O.contents out.new)) }
     ensures reads { OnlyReads (S.told shelf) (S.told result.1) }
 {
@@ -69,12 +71,14 @@ fn begin<S: Shelf, R: Threads + Wait + Sync, O: Write, E: Write + Send>(
 }
 
 /// Opens the directory of a shelf to read, does what is asked of it, and answers the exit status: 0
-/// where it is done, and 1 where it is refused. `list`, `get` and `scan` note on `err` each log
-/// that is not read. A fault is one line on `err`; `check` and `scan` name in it the file of which
-/// a table is refused, and `list` and `get` in a second one. Where it is `9 Device` or
-/// `10 Missing`, what the system answered stands behind it. A `get` that prints no line of its
-/// answer is `absent` where the key has none. Nothing is written in the directory. The shelf is
-/// given back. A thread for each of the other shelves, forks of it, reads and judges tables.
+/// where it is done, and 1 where it is refused. Each notes on `err` bytes at the manifest's end
+/// that are no whole record, and `list`, `get` and `scan` each log that is not read; where it is
+/// strict, all four are refused by either. A fault is one line on `err`; `check` and `scan` name in
+/// it the file of which a table is refused, and `list` and `get` in a second one. What it means, and
+/// where it is `9 Device` or `10 Missing` what the system answered, stand behind it. A `get` that
+/// prints no line of its answer is `absent` where the key has none. Nothing is written in the
+/// directory. The shelf is given back. A thread for each of the other shelves, forks of it, reads
+/// and judges tables.
 pub fn look<S: Shelf, R: Threads + Wait + Sync, O: Write, E: Write + Send>(
     rt: &R,
     alloc: Global,
@@ -86,11 +90,13 @@ pub fn look<S: Shelf, R: Threads + Wait + Sync, O: Write, E: Write + Send>(
 ) -> (u8, S)
     requires shelves { All (λ s. (S.told s).place ≡ (S.told shelf).place) shelves.items }
     ensures done { result.0 ≡ 0 → IsLookedIntoAsGiven inquiry.now.form inquiry.now.command.now
-        inquiry.now.files.now inquiry.now.progress (Stored S.Receipt (S.is_of (S.told shelf).place)
-        S.Receipt.number S.Receipt.image) S.honest (S.told shelf) (S.told result.1)
-        (O.contents out.old) (O.contents out.new) (E.contents err.old) (E.contents err.new) }
+        inquiry.now.files.now inquiry.now.strict inquiry.now.progress (Stored S.Receipt
+        (S.is_of (S.told shelf).place) S.Receipt.number S.Receipt.image) S.honest (S.told shelf)
+        (S.told result.1) (O.contents out.old) (O.contents out.new) (E.contents err.old)
+        (E.contents err.new) }
     ensures refused { result.0 ≢ 0 → (result.0 ≡ 1)
-        × ((fault : DirectoryFault) × IsNotLookedInto inquiry.now.form inquiry.now.command.now fault
+        × ((fault : DirectoryFault) × IsNotLookedInto inquiry.now.form inquiry.now.command.now
+        inquiry.now.strict inquiry.now.files.now fault
         (Stored S.Receipt (S.is_of (S.told shelf).place) S.Receipt.number S.Receipt.image)
         (S.refuses (S.told shelf).place) S.honest (S.told shelf) (S.told result.1)
         (O.contents out.old) (O.contents out.new)) }
@@ -195,6 +201,7 @@ where
         command: &line.command,
         form: line.form,
         files: &files,
+        strict: line.strict,
         progress: line.progress,
         reasons: Some(reasons),
     };

@@ -1,5 +1,5 @@
 -- A conversation beside workers.
-use Rattle.std.proofs.Common.{◌≡◌, ℕ, List, All, length, Option, None, IfErr, OnOk, refl, sym, subst, inr}
+use Rattle.std.proofs.Common.{◌≡◌, ℕ, List, All, length, Option, None, IfErr, OnOk, refl, sym, subst, inl, inr}
 use Rattle.std.specs.Prelude.{Result, Ok, Err}
 use Rattle.lsm_codec.specs.Entries.{Entry}
 use Rattle.lsm_shelf.specs.Asked.{Asked}
@@ -19,29 +19,28 @@ use Rattle.lsm_opening.specs.Starting.{IsStarted}
 use Rattle.lsm_opening.specs.declared.faults.compact_fault.CompactFault.{CompactFault}
 use Rattle.lsm_opening.specs.declared.prepared.Start.{Start}
 use Rattle.lsm_cmd_shell.specs.Beside.{IsLent, IsTalkedBeside, waiting}
-use Rattle.lsm_cmd_shell.specs.Conversing.{ConversesBeside, IsBesideFault, IsConversedBeside, IsOfEnds}
+use Rattle.lsm_cmd_shell.specs.Conversing.{ConversesBeside, IsBesideFault, IsConversedBeside, IsForking, IsOfEnds, IsUnmanned}
+use Rattle.lsm_cmd_shell.specs.Keeping.{HasComeTo}
 use Rattle.lsm_cmd_shell.specs.declared.talk_fault.TalkFault.{TalkFault}
 
 -- a state that was only looked at since
 pub lent : (honest : Type 0) (known : List Entry) (h k : Held) → k ≡ h → IsLater h.history known → (honest → ReadsAs (plain k) k.history) → IsLent honest known h
 lent honest known h k same later reads = record { later = later; reads = subst (λ (x : Held). honest → ReadsAs (plain x) x.history) same reads }
 
-is_fresh : (t : Told) (p : Place) → t ≡ fresh p → t ≡ fresh t.place
-is_fresh t p e = subst (λ (x : Told). x ≡ fresh x.place) (sym e) refl
-
 pub conversed : (honest : Type 0) (start : Start) (logs : List FolderFile) (form : Form) (workers : ℕ) (input : Option (List ℕ)) (r : Result (Unit {0}) TalkFault) (ends items : List WorkerEnd)
-    (was mid is own : Told) (old : Option (List ℕ)) (state : Held) (known : List Entry) (desk : OnDesk) (place : Place) → IsStarted honest start logs state was mid → Forked mid is → own ≡ fresh place
-    → known ≡ state.history → desk ≡ clear → IsTalkedBeside honest form input r (waiting known own desk None) old → ends ≡ items → length ends ≡ workers → All (IsWorkersEnd honest) items
-    → ConversesBeside honest start logs form workers input r ends was is old
-conversed honest start logs form workers input r ends items was mid is own old state known desk place started forked own_is known_is desk_is talk same count each = record {
+    (was mid is : Told) (old : Option (List ℕ)) (state left : Held) (desk : OnDesk) (place : Place) → IsStarted honest start logs state was mid → Forked mid is → desk ≡ clear
+    → IsTalkedBeside honest (HasComeTo honest form input state) form input r (waiting state.history (fresh place) desk None) old → ∥ HasComeTo honest form input state left ∥₁ → ends ≡ items → length ends ≡ workers
+    → All (IsWorkersEnd honest) items → ConversesBeside honest start logs form workers input r ends was is old
+conversed honest start logs form workers input r ends items was mid is old state left desk place started forked desk_is talk come same count each = record {
   state = state;
   mid = mid;
   started = started;
   forked = forked;
-  own = own;
-  unasked = is_fresh own place own_is;
-  talk = subst (λ (d : OnDesk). IsTalkedBeside honest form input r (waiting state.history own d None) old) desk_is
-      (subst (λ (k : List Entry). IsTalkedBeside honest form input r (waiting k own desk None) old) known_is talk);
+  own = fresh place;
+  unasked = refl;
+  talk = subst (λ (d : OnDesk). IsTalkedBeside honest (HasComeTo honest form input state) form input r (waiting state.history (fresh place) d None) old) desk_is talk;
+  left = left;
+  come = come;
   count = count;
   each = subst (λ (es : List WorkerEnd). All (IsWorkersEnd honest) es) (sym same) each;
 }
@@ -59,6 +58,12 @@ pub judged_fault : (Stored : ℕ → List ℕ → Type 0) (Refused : Asked → S
     → IfErr done (IsOfEnds r ends) → IfErr done (λ e. IsBesideFault Stored Refused honest start logs form workers input e was is old new)
 judged_fault Stored Refused honest start logs form workers input r ends was is old new (Ok x) c judged = tt
 judged_fault Stored Refused honest start logs form workers input r ends was is old new (Err e) c judged = inr (inr (inr (r, ends, judged, c)))
+
+-- no worker began
+pub unmanned : (Stored : ℕ → List ℕ → Type 0) (Refused : Asked → ShelfFault → Type 0) (honest : Type 0) (start : Start) (logs : List FolderFile) (form : Form) (workers : ℕ) (input : Option (List ℕ))
+    (e : CompactFault) (was is : Told) (old new : Option (List ℕ)) → IsForking honest start logs was is → IsUnmanned e old new → IsBesideFault Stored Refused honest start logs form workers input e was is old new
+unmanned Stored Refused honest start logs form workers input e was is old new forking (inl (fault, cause, named, kept)) = inl (inr (fault, cause, named, forking), kept)
+unmanned Stored Refused honest start logs form workers input e was is old new forking (inr spent) = inr (inr (inl (spent, forking)))
 
 -- the same said of equal things
 pub fault_same : (Stored : ℕ → List ℕ → Type 0) (Refused : Asked → ShelfFault → Type 0) (honest : Type 0) (start : Start) (logs : List FolderFile) (form : Form) (workers : ℕ) (i j : Option (List ℕ))

@@ -164,7 +164,7 @@ as_asked honest form line a s t ask (cs, rs, inr makes, leads) = (cs, rs, inr (a
 nothing_done : (honest : Type 0) (form : Form) (line : List ℕ) (s t : Standing) → t ≡ s → LineDid honest form line s t
 nothing_done honest form line s t same = ([], [], inl (refl, ap (λ (x : Standing). x.begun) same), no_step honest s.stage t.stage (ap (λ (x : Standing). x.stage) same))
 
-one_line : (honest : Type 0) (form : Form) (line said : List ℕ) (s t : Standing) → IsReplied honest form line said s t → LineDid honest form line s t
+pub one_line : (honest : Type 0) (form : Form) (line said : List ℕ) (s t : Standing) → IsReplied honest form line said s t → LineDid honest form line s t
 one_line honest form line said s t (Obeyed a ask h) = as_asked honest form line a s t ask (did honest form a said s t h)
 one_line honest form line said s t (Bad none other e same) = nothing_done honest form line s t same
 one_line honest form line said s t (Long over e same) = nothing_done honest form line s t same

@@ -10,4 +10,5 @@ mod TalkLaws
 mod HistoryLaws
 mod RunLaws
 mod EndsLaws
+mod KeepingLaws
 mod BesideLaws

@@ -34,25 +34,26 @@ pub record IsLent (honest : Type 0) (known : List Entry) (h : Held) : Type 0 whe
   pub later : IsLater h.history known
   pub reads : honest → ReadsAs (plain h) h.history
 
--- A line was replied to on a state that was lent, as without workers; and all that had come in then
--- is known.
-pub record IsRepliedBeside (honest : Type 0) (form : Form) (line said : List ℕ) (s t : Waiting)
-    : Type 0 where
+-- A line was replied to on a state that was lent, of which the lock's fact held, as without
+-- workers; and all that had come in then is known.
+pub record IsRepliedBeside (honest : Type 0) (keeps : Held → Type 0) (form : Form)
+    (line said : List ℕ) (s t : Waiting) : Type 0 where
   pub lent : Held
   pub back : Held
+  pub kept : ∥ keeps lent ∥₁
   pub has : IsLent honest s.known lent
   pub replied : IsReplied honest form line said (on lent s) (on back t)
   pub known : t.known ≡ back.history
 
 -- Such a conversation. No batch was begun before it, and one that is begun at its end is let go.
-abbrev pub IsTalkBeside : Type 0 → Form → Option (List ℕ) → Result (Unit {0}) TalkFault → Waiting
-    → Waiting → Option (List ℕ) → Option (List ℕ) → Type 0
-IsTalkBeside honest form input r s t old new =
+abbrev pub IsTalkBeside : Type 0 → (Held → Type 0) → Form → Option (List ℕ)
+    → Result (Unit {0}) TalkFault → Waiting → Waiting → Option (List ℕ) → Option (List ℕ) → Type 0
+IsTalkBeside honest keeps form input r s t old new =
     (begun : Option (List Write))
-    × IsTalkOf (IsRepliedBeside honest form) input r s (record t { begun = begun }) old new
+    × IsTalkOf (IsRepliedBeside honest keeps form) input r s (record t { begun = begun }) old new
 
 -- So it was, and it was said of an output that had this much.
-abbrev pub IsTalkedBeside : Type 0 → Form → Option (List ℕ) → Result (Unit {0}) TalkFault → Waiting
-    → Option (List ℕ) → Type 0
-IsTalkedBeside honest form input r s old =
-    (t : Waiting) × (new : Option (List ℕ)) × IsTalkBeside honest form input r s t old new
+abbrev pub IsTalkedBeside : Type 0 → (Held → Type 0) → Form → Option (List ℕ)
+    → Result (Unit {0}) TalkFault → Waiting → Option (List ℕ) → Type 0
+IsTalkedBeside honest keeps form input r s old =
+    (t : Waiting) × (new : Option (List ℕ)) × IsTalkBeside honest keeps form input r s t old new

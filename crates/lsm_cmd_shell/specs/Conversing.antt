@@ -21,6 +21,7 @@ use Rattle.lsm_opening.specs.declared.faults.writer_fault.WriterFault.TheVariant
 use Rattle.lsm_opening.specs.declared.faults.writer_fault.WriterFault.TheVariants.{Write as WriteFault}
 use Rattle.lsm_opening.specs.declared.prepared.Start.{Start}
 use Rattle.lsm_cmd_shell.specs.Beside.{IsTalkedBeside, waiting}
+use Rattle.lsm_cmd_shell.specs.Keeping.{HasComeTo}
 use Rattle.lsm_cmd_shell.specs.Talk.{IsTalk}
 use Rattle.lsm_cmd_shell.specs.declared.talk_fault.TalkFault.{TalkFault}
 use Rattle.lsm_cmd_shell.specs.declared.talk_fault.TalkFault.TheVariants.{Read, Write}
@@ -52,8 +53,10 @@ IsConverseFault Stored Refused honest start logs form input e was is old new =
 -- ---- beside workers
 
 -- The directory was begun or opened, and its shelf gave forks. With one of them a conversation went
--- on with its state, and ended so, while so many workers compacted, which ended so. It was said of
--- an output that had this much; that it is the caller's is to be read.
+-- on with its state, and ended so, while so many workers compacted, which ended so. Whenever the
+-- state was lent, and when it was left, it had come from the one that was begun or opened by steps
+-- of workers and by replies to lines of the input alone. It was said of an output that had this
+-- much; that it is the caller's is to be read.
 pub record ConversesBeside (honest : Type 0) (start : Start) (logs : List FolderFile) (form : Form)
     (workers : ℕ) (input : Option (List ℕ)) (r : Result (Unit {0}) TalkFault)
     (ends : List WorkerEnd) (was is : Told) (old : Option (List ℕ)) : Type 0 where
@@ -63,7 +66,10 @@ pub record ConversesBeside (honest : Type 0) (start : Start) (logs : List Folder
   pub forked : Forked mid is
   pub own : Told
   pub unasked : own ≡ fresh own.place
-  pub talk : IsTalkedBeside honest form input r (waiting state.history own clear None) old
+  pub talk : IsTalkedBeside honest (HasComeTo honest form input state) form input r
+      (waiting state.history own clear None) old
+  pub left : Held
+  pub come : ∥ HasComeTo honest form input state left ∥₁
   pub count : length ends ≡ workers
   pub each : All (IsWorkersEnd honest) ends
 
@@ -93,6 +99,13 @@ IsUnforked honest start logs e was is =
     ((e ≡ Writer OutOfMemory) × ((is ≡ was) ⊎ IsForking honest start logs was is))
     ⊎ ((fault : ShelfFault) × NotNamed fault × (e ≡ Writer (of_shelf fault))
     × IsForking honest start logs was is)
+
+-- No worker began: the shelf gave no fork, or a store could not be made, and nothing was said; or
+-- there was no memory for workers.
+abbrev pub IsUnmanned : CompactFault → Option (List ℕ) → Option (List ℕ) → Type 0
+IsUnmanned e old new =
+    ((fault : ShelfFault) × NotNamed fault × (e ≡ Writer (of_shelf fault)) × Keeps old new)
+    ⊎ (e ≡ Writer OutOfMemory)
 
 -- Why a conversation beside workers did not come to such an end. Nothing was said: memory ran out,
 -- or the shelf gave no fork; or the directory was not begun or opened. Or there was no memory for

@@ -5,6 +5,7 @@ pub mod Batching
 pub mod Rounds
 pub mod Statistics
 pub mod Talk
+pub mod Keeping
 pub mod Beside
 pub mod Asked
 pub mod Conversing

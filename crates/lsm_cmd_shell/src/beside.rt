@@ -5,6 +5,7 @@ ghost use Rattle.std.specs.Io.KnownBytes.{Appends};
 ghost use Rattle.lsm_script.specs.Steps.{stage};
 ghost use Rattle.lsm_cmd_shell.specs.Batching.{standing};
 ghost use Rattle.lsm_cmd_shell.specs.Beside.{IsLent, IsRepliedBeside, IsTalkBeside, waiting};
+ghost use Rattle.lsm_cmd_shell.specs.Keeping.{IsKeptByNext, IsKeptByReplies, IsKeptByReply};
 ghost use Rattle.lsm_cmd_shell.specs.Talk.{IsHeld, IsLineOf, IsReplied, IsTurnOf};
 
 use crate::saying::Unsaid;
@@ -15,7 +16,7 @@ use lsm_lines::{LineReader, NextLine, WriteBuffer};
 use lsm_script::Desk;
 use lsm_slots::Boarded;
 use lsm_state::State;
-use lsm_store::{Background, Store};
+use lsm_store::{Background, Invariant, Store};
 use lsm_table::{NamedShelf, Shelf};
 use lsm_text::Form;
 use std::alloc::Global;
@@ -69,11 +70,11 @@ fn reply_lent<N: Boarded, S: Shelf, R: Wait, I: Read + Drop, O: Write>(
     said
 }
 
-/// The same, on the state that the store lends for it.
-fn reply_under_lock<N: Boarded, S: Shelf, R: Wait, I: Read + Drop, O: Write>(
+/// The same, on the state that the store lends for it. The reply keeps the fact of the lock.
+fn reply_under_lock<N: Boarded, S: Shelf, K: Invariant, R: Wait, I: Read + Drop, O: Write>(
     rt: &R,
     alloc: Global,
-    store: &Store<N, S>,
+    store: &Store<N, S, K>,
     memory: &mut Memory<N>,
     desk: &mut Desk<N, S>,
     begun: &mut Option<WriteBuffer>,
@@ -84,9 +85,11 @@ fn reply_under_lock<N: Boarded, S: Shelf, R: Wait, I: Read + Drop, O: Write>(
     text: &mut Vec<u8>,
     out: &mut O,
 ) -> Result<(), Unsaid>
-    requires { IsHeld next lines.now.line }
+    requires held { IsHeld next lines.now.line }
+    requires kept { (line : List ℕ) × IsLineOf next lines.now.line line
+        × IsKeptByReply S.honest form line begun.old K.keeps }
     ensures replied { (line : List ℕ) → IsLineOf next lines.now.line line → (said : List ℕ)
-        × IsRepliedBeside S.honest form line said
+        × IsRepliedBeside S.honest K.keeps form line said
         (waiting memory.old shelf.old desk.old begun.old)
         (waiting memory.new shelf.new desk.new begun.new)
         × OnOk result (Appends (O.contents out.old) (O.contents out.new) said) }
@@ -109,10 +112,10 @@ fn reply_under_lock<N: Boarded, S: Shelf, R: Wait, I: Read + Drop, O: Write>(
 
 /// Reads the next line, and replies to it. `false` at the end of the input, and at `quit`. The
 /// store lends its state once the line is there.
-fn take_turn<N: Boarded, S: Shelf, R: Wait, I: Read + Drop, O: Write>(
+fn take_turn<N: Boarded, S: Shelf, K: Invariant, R: Wait, I: Read + Drop, O: Write>(
     rt: &R,
     alloc: Global,
-    store: &Store<N, S>,
+    store: &Store<N, S, K>,
     memory: &mut Memory<N>,
     desk: &mut Desk<N, S>,
     begun: &mut Option<WriteBuffer>,
@@ -122,7 +125,8 @@ fn take_turn<N: Boarded, S: Shelf, R: Wait, I: Read + Drop, O: Write>(
     text: &mut Vec<u8>,
     out: &mut O,
 ) -> Result<bool, TalkFault>
-    ensures turn { IsTurnOf (IsRepliedBeside S.honest form) result lines.old lines.new
+    requires kept { IsKeptByNext S.honest form lines.old.left begun.old K.keeps }
+    ensures turn { IsTurnOf (IsRepliedBeside S.honest K.keeps form) result lines.old lines.new
         (waiting memory.old shelf.old desk.old begun.old)
         (waiting memory.new shelf.new desk.new begun.new)
         (O.contents out.old) (O.contents out.new) }
@@ -141,14 +145,15 @@ fn take_turn<N: Boarded, S: Shelf, R: Wait, I: Read + Drop, O: Write>(
 
 /// Replies to lines as `talk` does, on the state of a store, whose workers compact beside: it is
 /// locked for each line, and not while the next one is waited for. Behind each reply the workers
-/// look again. What is remembered when it begins has come in before.
+/// look again. What is remembered when it begins has come in before. The fact of the lock is one
+/// that each reply to a line of the input keeps.
 ///
 /// # Errors
 /// Those of `talk`.
-pub fn talk_beside<N: Boarded, S: Shelf, R: Wait, I: Read + Drop, O: Write>(
+pub fn talk_beside<N: Boarded, S: Shelf, K: Invariant, R: Wait, I: Read + Drop, O: Write>(
     rt: &R,
     alloc: Global,
-    store: &Store<N, S>,
+    store: &Store<N, S, K>,
     background: &Background,
     memory: &mut Memory<N>,
     desk: &mut Desk<N, S>,
@@ -157,7 +162,8 @@ pub fn talk_beside<N: Boarded, S: Shelf, R: Wait, I: Read + Drop, O: Write>(
     lines: &mut LineReader<I>,
     out: &mut O,
 ) -> Result<(), TalkFault>
-    ensures talk { IsTalkBeside S.honest form lines.old.left result
+    requires asked { IsKeptByReplies S.honest form lines.old.left K.keeps }
+    ensures talk { IsTalkBeside S.honest K.keeps form lines.old.left result
         (waiting memory.old shelf.old desk.old None) (waiting memory.new shelf.new desk.new None)
         (O.contents out.old) (O.contents out.new) }
 {

@@ -1,13 +1,19 @@
 //! A conversation with the database on a shelf, while workers compact beside.
 
-ghost use Rattle.std.specs.Prelude.{◌≡◌, All, IfErr, IfNone, IfSome, None, Ok, OnOk};
+ghost use Rattle.std.specs.Prelude.{◌≡◌, All, IfErr, IfNone, IfOk, IfSome, None, Ok, OnOk};
 ghost use Rattle.std.specs.Prelude.{vec_len};
 ghost use Rattle.lsm_shelf.specs.Stored.{Stored};
+ghost use Rattle.lsm_shelf.specs.Told.{Forked, fresh};
+ghost use Rattle.lsm_state.specs.Held.{Held};
+ghost use Rattle.lsm_store.specs.Compacting.{IsKeptByCompaction, IsSeated};
+ghost use Rattle.lsm_store.specs.Readers.{SeatsPinners};
 ghost use Rattle.lsm_store.specs.Workers.{IsWorkersEnd};
 ghost use Rattle.lsm_opening.specs.Parts.{AreOf, usual};
 ghost use Rattle.lsm_cmd_shell.specs.Beside.{IsTalkedBeside, waiting};
 ghost use Rattle.lsm_bulk_load.specs.Ending.{IsFaultless, IsFirstFault};
 ghost use Rattle.lsm_cmd_shell.specs.Conversing.{IsBesideFault, IsConversedBeside, IsOfEnds};
+ghost use Rattle.lsm_cmd_shell.specs.Conversing.{IsUnmanned};
+ghost use Rattle.lsm_cmd_shell.specs.Keeping.{IsKeptByReplies};
 
 use crate::beside::talk_beside;
 use crate::talk_fault::TalkFault;
@@ -17,7 +23,7 @@ use lsm_opening::{CompactFault, Crew, NewParts, Prepared, WriterFault, start};
 use lsm_script::Desk;
 use lsm_slots::Boarded;
 use lsm_state::State;
-use lsm_store::{Background, NoGate, Store, WorkerEnd, WorkerFault, with_workers};
+use lsm_store::{Background, Invariant, NoGate, Store, WorkerEnd, WorkerFault, with_workers};
 use lsm_table::{NamedShelf, Shelf};
 use lsm_text::Form;
 use std::alloc::Global;
@@ -26,16 +32,19 @@ use std::marker::Brand;
 use std::sync::Wait;
 use std::thread::Threads;
 
+/// How a conversation ended, and how its workers did.
+type Ended = (Result<(), TalkFault>, Vec<WorkerEnd>);
+
 /// Replies to lines on the state of a store, while a worker for each shelf compacts: how that
 /// ended, and the workers' ends. None where there was no memory for the workers; then no line was
-/// read.
+/// read. The fact of the lock is one that workers keep, and each reply to a line of the input.
 ///
 /// What is said is said of an output that begins as this one does. The toolchain tells nothing of
 /// what a closure that is handed on leaves of what it borrowed.
-fn talk_in_store<N, S, R, I, O>(
+fn talk_in_store<N, S, K, R, I, O>(
     rt: &R,
     alloc: Global,
-    store: &Store<N, S>,
+    store: &Store<N, S, K>,
     shelves: Vec<NamedShelf<N, S>>,
     memory: Memory<N>,
     desk: Desk<N, S>,
@@ -43,14 +52,17 @@ fn talk_in_store<N, S, R, I, O>(
     form: Form,
     lines: LineReader<I>,
     out: &mut O,
-) -> Option<(Result<(), TalkFault>, Vec<WorkerEnd>)>
+) -> Option<Ended>
 where
     N: Boarded,
     S: Shelf,
+    K: Invariant,
     R: Threads + Wait + Sync,
     I: Read + Drop,
     O: Write,
-    ensures talked { IfSome result (λ r. IsTalkedBeside S.honest form lines.left r.0
+    requires workers { IsKeptByCompaction S.honest K.keeps }
+    requires asked { IsKeptByReplies S.honest form lines.left K.keeps }
+    ensures talked { IfSome result (λ r. IsTalkedBeside S.honest K.keeps form lines.left r.0
         (waiting memory own desk None) (O.contents out.old)) }
     ensures count { IfSome result (λ r. vec_len r.1 ≡ vec_len shelves) }
     ensures ends { IfSome result (λ r. All (IsWorkersEnd S.honest) r.1.items) }
@@ -63,8 +75,9 @@ where
         shelves,
         &NoGate,
         move |background: &Background| -> Result<(), TalkFault>
-            ensures { IsTalkedBeside S.honest form lines.left result (waiting memory own desk None)
-                (O.contents told.entry.now) }
+            requires asked { IsKeptByReplies S.honest form lines.left K.keeps }
+            ensures { IsTalkedBeside S.honest K.keeps form lines.left result
+                (waiting memory own desk None) (O.contents told.entry.now) }
         {
             let mut memory = memory;
             let mut desk = desk;
@@ -129,6 +142,59 @@ fn judge(talked: Result<(), TalkFault>, ends: &[WorkerEnd]) -> Result<(), Compac
     }
 }
 
+/// Puts a state behind a lock that keeps a fact, and replies to lines on it while so many workers
+/// compact: how that ended, and the state, of which the fact holds. The shelf is asked for forks
+/// alone.
+fn converse_on<N, S, K, R, I, O>(
+    rt: &R,
+    alloc: Global,
+    state: State<N, S>,
+    desk: Desk<N, S>,
+    shelf: &mut NamedShelf<N, S>,
+    form: Form,
+    workers: usize,
+    lines: LineReader<I>,
+    out: &mut O,
+) -> Result<(Ended, State<N, S>), CompactFault>
+where
+    N: Boarded,
+    S: Shelf,
+    K: Invariant,
+    R: Threads + Wait + Sync,
+    I: Read + Drop,
+    O: Write,
+    requires seats { SeatsPinners state }
+    requires found { (h : Held) → IsSeated state h → K.keeps h }
+    requires workers { IsKeptByCompaction S.honest K.keeps }
+    requires asked { IsKeptByReplies S.honest form lines.left K.keeps }
+    ensures talked { IfOk result (λ r. IsTalkedBeside S.honest K.keeps form lines.left r.0.0
+        (waiting state.history (fresh N.place) desk None) (O.contents out.old)) }
+    ensures count { IfOk result (λ r. vec_len r.0.1 ≡ workers) }
+    ensures ends { IfOk result (λ r. All (IsWorkersEnd S.honest) r.0.1.items) }
+    ensures kept { IfOk result (λ r. ∥ K.keeps r.1 ∥₁) }
+    ensures refused { IfErr result (λ e.
+        IsUnmanned e (O.contents out.old) (O.contents out.new)) }
+    ensures told { Forked shelf.old shelf.new }
+{
+    let mut state = state;
+    let memory = state.remember();
+    let made: Crew<N, S, K> = match Crew::new(alloc, state, shelf, workers) {
+        Ok(crew) => crew,
+        Err((_state, fault)) => return Err(CompactFault::of_shelf(fault)),
+    };
+    let Crew {
+        store,
+        shelves,
+        own,
+    } = made;
+    match talk_in_store(
+        rt, alloc, &store, shelves, memory, desk, own, form, lines, out,
+    ) {
+        Some(ended) => Ok((ended, store.into_state())),
+        None => Err(CompactFault::Writer(WriterFault::OutOfMemory)),
+    }
+}
+
 /// Begins or opens the directory of a shelf, and replies to lines while so many workers compact.
 /// Once it is begun or opened the shelf is asked for forks alone.
 fn converse_named<N, S, R, I, O>(
@@ -157,7 +223,7 @@ where
         prepared.now.logs.items form workers lines.left e shelf.old shelf.new
         (O.contents out.old) (O.contents out.new)) }
 {
-    let mut state: State<N, S> = match start(rt, alloc, shelf, prepared, parts) {
+    let state: State<N, S> = match start(rt, alloc, shelf, prepared, parts) {
         Ok(state) => state,
         Err(fault) => return Err(CompactFault::Writer(fault)),
     };
@@ -165,21 +231,15 @@ where
         Ok(desk) => desk,
         Err(_) => return Err(CompactFault::Writer(WriterFault::OutOfMemory)),
     };
-    let memory = state.remember();
-    let Crew {
-        store,
-        shelves,
-        own,
-    } = match Crew::new(alloc, state, shelf, workers) {
-        Ok(crew) => crew,
-        Err((_state, fault)) => return Err(CompactFault::of_shelf(fault)),
-    };
-    let Some((talked, ends)) = talk_in_store(
-        rt, alloc, &store, shelves, memory, desk, own, form, lines, out,
-    ) else {
-        return Err(CompactFault::Writer(WriterFault::OutOfMemory));
-    };
-    judge(talked, &ends)
+    match converse_on::<N, S, Brand, R, I, O>(
+        rt, alloc, state, desk, shelf, form, workers, lines, out,
+    ) {
+        Ok((ended, _left)) => {
+            let (talked, ends) = ended;
+            judge(talked, &ends)
+        }
+        Err(fault) => Err(fault),
+    }
 }
 
 /// The same under the name that was picked for the parts and the shelf, which is given back.

@@ -10,6 +10,7 @@ use Rattle.lsm_shelf.specs.Refusals.{MayRefuse}
 use Rattle.lsm_shelf.specs.Place.{IsAtPath, Place}
 use Rattle.lsm_shelf.specs.Told.{Told, fresh}
 use Rattle.lsm_storage.specs.declared.file.file_shelf.FileShelf.{FileShelf}
+use Rattle.lsm_requests.specs.declared.clean_options.CleanOptions.{CleanOptions}
 use Rattle.lsm_requests.specs.declared.ingest_options.IngestOptions.{IngestOptions}
 use Rattle.lsm_cmd_write.specs.Cleaning.{HasNone, IsCleaned, IsKept, IsUncleaned, IsUnkept, Needs}
 use Rattle.lsm_directory.specs.Folders.{IsShelfAt, stored_at, told_by}
@@ -32,17 +33,17 @@ module _ {C M : Type 0} (folders : Ghosts C M) where
   comes_in_at (Ok x) path options ws start logs begun ended old new on done = record { start = start; logs = logs; begun = begun; on = on; ended = ended; done = done }
   comes_in_at (Err e) path options ws start logs begun ended old new on done = tt
 
-  pub cleans_at : {T F : Type 0} (r : Result T F) (path : List ℕ) (begun ended : C) (old new : Option (List ℕ)) → IsAtPath path (folders.place begun)
+  pub cleans_at : {T F : Type 0} (r : Result T F) (path : List ℕ) (options : CleanOptions) (begun ended : C) (old new : Option (List ℕ)) → IsAtPath path (folders.place begun)
       → folders.calls begun ≡ opened ∷ [] → folders.place ended ≡ folders.place begun
-      → OnOk r (IsCleaned folders (folders.place begun) (folders.calls begun) (folders.calls ended) old new) → OnOk r (IsCleanedAt folders path old new)
-  cleans_at (Ok x) path begun ended old new at none same done = record { begun = begun; on = record { at = at; called = none }; ended = ended; same = same; done = done }
-  cleans_at (Err e) path begun ended old new at none same done = tt
+      → OnOk r (IsCleaned folders options (folders.place begun) (folders.calls begun) (folders.calls ended) old new) → OnOk r (IsCleanedAt folders path options old new)
+  cleans_at (Ok x) path options begun ended old new at none same done = record { begun = begun; on = record { at = at; called = none }; ended = ended; same = same; done = done }
+  cleans_at (Err e) path options begun ended old new at none same done = tt
 
   -- ---- what its database needs
 
   pub needs : {E : Type 0} (r : Result Kept E) (place : Place) (was : Told) (shelf : FileShelf C M) → was ≡ fresh place
-      → IfOk r (λ k. IsKept (AreHonest folders.calls) k.manifest k.tables.items was (told_by folders shelf)) → IfOk r (λ k. Needs folders place k.manifest k.tables.items)
-  needs (Ok k) place was shelf new kept = (shelf, subst (λ (t : Told). IsKept (AreHonest folders.calls) k.manifest k.tables.items t (told_by folders shelf)) new kept)
+      → IfOk r (λ k. IsKept (AreHonest folders.calls) k.manifest k.rest k.tables.items was (told_by folders shelf)) → IfOk r (λ k. Needs folders place k.manifest k.rest k.tables.items)
+  needs (Ok k) place was shelf new kept = (shelf, subst (λ (t : Told). IsKept (AreHonest folders.calls) k.manifest k.rest k.tables.items t (told_by folders shelf)) new kept)
   needs (Err e) place was shelf new kept = tt
 
 module _ {C M : Type 0} (folders : Ghosts C M) (marks : mark.Ghosts M) where
@@ -62,10 +63,10 @@ module _ {C M : Type 0} (folders : Ghosts C M) (marks : mark.Ghosts M) where
   fails_to_bring_in (Err e) path options ws start logs begun ended old new on says left =
       inr (e, record { start = start; logs = logs; begun = begun; on = on; ended = ended; refused = record { says = says; left = left } })
 
-  pub fails_to_clean : {T : Type 0} (r : Result T WriterFault) (path : List ℕ) (begun ended : C) (old new : Option (List ℕ)) → IsAtPath path (folders.place begun)
+  pub fails_to_clean : {T : Type 0} (r : Result T WriterFault) (path : List ℕ) (options : CleanOptions) (begun ended : C) (old new : Option (List ℕ)) → IsAtPath path (folders.place begun)
       → folders.calls begun ≡ opened ∷ [] → folders.place ended ≡ folders.place begun
-      → IfErr r (λ e. IsUncleaned folders marks (folders.place begun) e (folders.calls begun) (folders.calls ended) old new)
-      → IfErr r (λ e. FailsToClean folders marks path e old new)
-  fails_to_clean (Ok x) path begun ended old new at none same stopped = tt
-  fails_to_clean (Err e) path begun ended old new at none same stopped =
+      → IfErr r (λ e. IsUncleaned folders marks options (folders.place begun) e (folders.calls begun) (folders.calls ended) old new)
+      → IfErr r (λ e. FailsToClean folders marks path options e old new)
+  fails_to_clean (Ok x) path options begun ended old new at none same stopped = tt
+  fails_to_clean (Err e) path options begun ended old new at none same stopped =
       inr record { begun = begun; on = record { at = at; called = none }; ended = ended; same = same; stopped = stopped }

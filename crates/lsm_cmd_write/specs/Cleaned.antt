@@ -4,6 +4,7 @@ use Rattle.std.specs.Prelude.{◌≡◌, ◌⊎◌, ℕ, List, Option}
 use Rattle.std.specs.Io.KnownBytes.{Keeps}
 use Rattle.lsm_folder.specs.declared.folder_calls.FolderCalls.{Ghosts}
 use Rattle.lsm_folder.specs.declared.mark.Mark as mark
+use Rattle.lsm_requests.specs.declared.clean_options.CleanOptions.{CleanOptions}
 use Rattle.lsm_cmd_write.specs.Cleaning.{IsCleaned, IsUncleaned}
 use Rattle.lsm_directory.specs.Folders.{IsFolderAt}
 use Rattle.lsm_directory.specs.Holding.{IsFolderFault}
@@ -14,13 +15,14 @@ use Rattle.lsm_opening.specs.declared.faults.writer_fault.WriterFault.TheVariant
 
 module _ {C M : Type 0} (folders : Ghosts C M) where
   -- The folder at the path was cleaned, between the moment when it was opened and this one.
-  pub record IsCleanedAt (path : List ℕ) (old new : Option (List ℕ)) : Type 0 where
+  pub record IsCleanedAt (path : List ℕ) (options : CleanOptions) (old new : Option (List ℕ))
+      : Type 0 where
     pub begun : C
     pub on : IsFolderAt folders path (λ first now. now ≡ first) begun
     pub ended : C
     pub same : folders.place ended ≡ folders.place begun
-    pub done : IsCleaned folders (folders.place begun) (folders.calls begun) (folders.calls ended)
-        old new
+    pub done : IsCleaned folders options (folders.place begun) (folders.calls begun)
+        (folders.calls ended) old new
 
 -- the folder was not opened
 abbrev pub IsUnopenedBy : WriterFault → Type 0
@@ -28,16 +30,18 @@ IsUnopenedBy e = (fault : DirectoryFault) × (e ≡ Directory fault) × IsFolder
 
 module _ {C M : Type 0} (folders : Ghosts C M) (marks : mark.Ghosts M) where
   -- This stopped the cleaning of the folder at the path.
-  pub record StopsAt (path : List ℕ) (fault : WriterFault) (old new : Option (List ℕ))
-      : Type 0 where
+  pub record StopsAt (path : List ℕ) (options : CleanOptions) (fault : WriterFault)
+      (old new : Option (List ℕ)) : Type 0 where
     pub begun : C
     pub on : IsFolderAt folders path (λ first now. now ≡ first) begun
     pub ended : C
     pub same : folders.place ended ≡ folders.place begun
-    pub stopped : IsUncleaned folders marks (folders.place begun) fault (folders.calls begun)
-        (folders.calls ended) old new
+    pub stopped : IsUncleaned folders marks options (folders.place begun) fault
+        (folders.calls begun) (folders.calls ended) old new
 
   -- memory ran out, or the folder was not opened, and nothing was written; or that
-  abbrev pub FailsToClean : List ℕ → WriterFault → (old new : Option (List ℕ)) → Type 0
-  FailsToClean path fault old new =
-      ((IsUnopenedBy fault ⊎ (fault ≡ NoMemory)) × Keeps old new) ⊎ StopsAt path fault old new
+  abbrev pub FailsToClean : List ℕ → CleanOptions → WriterFault → (old new : Option (List ℕ))
+      → Type 0
+  FailsToClean path options fault old new =
+      ((IsUnopenedBy fault ⊎ (fault ≡ NoMemory)) × Keeps old new)
+      ⊎ StopsAt path options fault old new

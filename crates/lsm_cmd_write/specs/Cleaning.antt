@@ -1,7 +1,7 @@
 -- What a `clean` removes, and why it stops (this project's rule; which files are obsolete is
 -- LevelDB's `DBImpl::RemoveObsoleteFiles`).
-use Rattle.std.specs.Prelude.{◌≡◌, ◌≢◌, ◌↔◌, ◌⊎◌, ℕ, ◌-◌, ◌^◌, List, [], ◌∷◌, ◌++◌, Ok, Err, Option}
-use Rattle.std.specs.Prelude.{map, reverse}
+use Rattle.std.specs.Prelude.{◌≡◌, ◌≢◌, ◌<◌, ◌↔◌, ◌⊎◌, ℕ, ◌-◌, ◌^◌, List, [], ◌∷◌, ◌++◌, Ok, Err}
+use Rattle.std.specs.Prelude.{Option, IsFalse, IsTrue, map, reverse}
 use Rattle.std.specs.Io.KnownBytes.{Appends, Keeps}
 use Rattle.std.specs.List.{flat_map}
 use Rattle.std.specs.List.Sorted.{IsPermutation, IsSorted}
@@ -29,7 +29,9 @@ use Rattle.lsm_directory.specs.Folders.{stored_at, told_by}
 use Rattle.lsm_directory.specs.Holding.{IsHeld, IsUnheld}
 use Rattle.lsm_directory.specs.Logs.{AreThose}
 use Rattle.lsm_directory.specs.Looking.{LooksStopped}
+use Rattle.lsm_requests.specs.declared.clean_options.CleanOptions.{CleanOptions}
 use Rattle.lsm_directory.specs.declared.faults.directory_fault.DirectoryFault.{DirectoryFault}
+use Rattle.lsm_directory.specs.declared.faults.directory_fault.DirectoryFault.TheVariants.{TornManifest}
 use Rattle.lsm_directory.specs.declared.folder.file_kind.FileKind.TheVariants.{Table, Manifest}
 use Rattle.lsm_directory.specs.declared.folder.file_kind.FileKind.TheVariants.{Temporary}
 use Rattle.lsm_opening.specs.WriterFault.{of_open, of_shelf}
@@ -40,11 +42,12 @@ use Rattle.lsm_opening.specs.declared.faults.writer_fault.WriterFault.TheVariant
 
 -- ---- what a database needs
 
--- A database was found, whose manifest has this number, and whose version has just these tables.
-pub record IsKept (Honest : Type 0) (manifest : ℕ) (tables : List ℕ) (was is : Told) : Type 0 where
+-- A database was found, whose manifest has this number, and so many bytes at its end that hold no
+-- whole record, and whose version has just these tables.
+pub record IsKept (Honest : Type 0) (manifest rest : ℕ) (tables : List ℕ) (was is : Told)
+    : Type 0 where
   pub held : HeldManifest
   pub version : Levels
-  pub rest : ℕ
   pub next : ℕ
   pub found : IsFound Honest (2 ^ 64 - 1) held version rest next was is
   pub its : manifest ≡ held.number
@@ -56,6 +59,16 @@ abbrev pub IsUnkept : (ℕ → List ℕ → Type 0) → (Asked → ShelfFault �
 IsUnkept Stored Refused Honest e was is =
     (e ≡ OutOfMemory) ⊎ ((fault : OpenFault) × (e ≡ of_open fault)
     × IsFindRefusal Stored Refused Honest fault was is)
+
+-- The manifest ends with a whole record, or that it does not is accepted: a longer manifest may
+-- name tables that this version does not have.
+abbrev pub IsAccepted : CleanOptions → ℕ → Type 0
+IsAccepted options rest = (rest ≡ 0) ⊎ IsTrue options.accepts_rest
+
+-- So many bytes at its end hold no whole record, and that is not accepted.
+abbrev pub IsTorn : CleanOptions → ℕ → WriterFault → Type 0
+IsTorn options rest e =
+    (0 < rest) × IsFalse options.accepts_rest × (e ≡ Directory (TornManifest rest))
 
 -- The name is of another manifest, of a temporary file, or of a table that is none of these.
 abbrev pub IsSpare : ℕ → List ℕ → List ℕ → Type 0
@@ -177,22 +190,24 @@ IsUncleared manifest tables e old new before after =
 
 module _ {C M : Type 0} (folders : Ghosts C M) where
   -- On a shelf of the folder of this place a database was found, which needs this manifest and
-  -- these tables.
-  abbrev pub Needs : Place → ℕ → List ℕ → Type 0
-  Needs place manifest tables = (shelf : FileShelf C M)
-      × IsKept (AreHonest folders.calls) manifest tables (fresh place) (told_by folders shelf)
+  -- these tables; so many bytes at the manifest's end hold no whole record.
+  abbrev pub Needs : Place → (manifest rest : ℕ) → (tables : List ℕ) → Type 0
+  Needs place manifest rest tables = (shelf : FileShelf C M)
+      × IsKept (AreHonest folders.calls) manifest rest tables (fresh place) (told_by folders shelf)
 
-  -- What the database in the folder needs was made durable, and what it does not need was removed.
-  abbrev pub AreSparesGone : Place → List Call → List Call → Option (List ℕ) → Option (List ℕ)
-      → Type 0
-  AreSparesGone place old new before after =
-      (manifest : ℕ) × (tables : List ℕ) × Needs place manifest tables
-      × IsCleared manifest tables old new before after
+  -- The manifest's end is accepted; what the database in the folder needs was made durable, and
+  -- what it does not need was removed.
+  abbrev pub AreSparesGone : CleanOptions → Place → List Call → List Call → Option (List ℕ)
+      → Option (List ℕ) → Type 0
+  AreSparesGone options place old new before after =
+      (manifest : ℕ) × (rest : ℕ) × (tables : List ℕ) × Needs place manifest rest tables
+      × IsAccepted options rest × IsCleared manifest tables old new before after
 
   -- The lock was held, and then this was done.
-  abbrev pub IsCleaned : Place → List Call → List Call → Option (List ℕ) → Option (List ℕ) → Type 0
-  IsCleaned place old new before after =
-      (held : List Call) × IsHeld Exclusive old held × AreSparesGone place held new before after
+  abbrev pub IsCleaned : CleanOptions → Place → List Call → List Call → Option (List ℕ)
+      → Option (List ℕ) → Type 0
+  IsCleaned options place old new before after = (held : List Call) × IsHeld Exclusive old held
+      × AreSparesGone options place held new before after
 
 module _ {C M : Type 0} (folders : Ghosts C M) (marks : mark.Ghosts M) where
   -- Memory ran out; or on a shelf of the folder of this place there was no database to be found.
@@ -202,20 +217,29 @@ module _ {C M : Type 0} (folders : Ghosts C M) (marks : mark.Ghosts M) where
       ⊎ ((shelf : FileShelf C M) × IsUnkept (stored_at folders marks place) MayRefuse
       (AreHonest folders.calls) e (fresh place) (told_by folders shelf))
 
-  -- Behind the lock: no database was found, and nothing was asked for; or what it does not need was
-  -- not removed.
-  abbrev pub StopsCleaning : Place → WriterFault → List Call → List Call → Option (List ℕ)
-      → Option (List ℕ) → Type 0
-  StopsCleaning place e old new before after =
+  -- What a database was found for that needs these: its manifest's end is not accepted, and nothing
+  -- was asked for; or it is, and what the database does not need was not removed.
+  abbrev pub StopsClearing : CleanOptions → (manifest rest : ℕ) → (tables : List ℕ) → WriterFault
+      → List Call → List Call → Option (List ℕ) → Option (List ℕ) → Type 0
+  StopsClearing options manifest rest tables e old new before after =
+      (IsTorn options rest e × (new ≡ old) × Keeps before after)
+      ⊎ (IsAccepted options rest × IsUncleared manifest tables e old new before after)
+
+  -- Behind the lock: no database was found, and nothing was asked for; or one was, and this stopped
+  -- its clearing.
+  abbrev pub StopsCleaning : CleanOptions → Place → WriterFault → List Call → List Call
+      → Option (List ℕ) → Option (List ℕ) → Type 0
+  StopsCleaning options place e old new before after =
       (HasNone place e × (new ≡ old) × Keeps before after)
-      ⊎ ((manifest : ℕ) × (tables : List ℕ) × Needs folders place manifest tables
-      × IsUncleared manifest tables e old new before after)
+      ⊎ ((manifest : ℕ) × (rest : ℕ) × (tables : List ℕ)
+      × Needs folders place manifest rest tables
+      × StopsClearing options manifest rest tables e old new before after)
 
   -- Why a folder is not cleaned: its lock was not held; or what follows.
-  abbrev pub IsUncleaned : Place → WriterFault → List Call → List Call → Option (List ℕ)
-      → Option (List ℕ) → Type 0
-  IsUncleaned place e old new before after =
+  abbrev pub IsUncleaned : CleanOptions → Place → WriterFault → List Call → List Call
+      → Option (List ℕ) → Option (List ℕ) → Type 0
+  IsUncleaned options place e old new before after =
       ((fault : DirectoryFault) × (e ≡ Directory fault) × IsUnheld Exclusive fault old new
       × Keeps before after)
       ⊎ ((held : List Call) × IsHeld Exclusive old held
-      × StopsCleaning place e held new before after)
+      × StopsCleaning options place e held new before after)

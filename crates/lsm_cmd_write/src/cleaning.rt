@@ -9,7 +9,8 @@ ghost use Rattle.std.specs.Io.KnownBytes.{Appends};
 ghost use Rattle.lsm_folder.specs.Calls.{removed};
 ghost use Rattle.lsm_storage.specs.FolderFault.{device_of};
 ghost use Rattle.lsm_shelf.specs.Told.{NotNamed};
-ghost use Rattle.lsm_cmd_write.specs.Cleaning.{AreRemoved, AreSparesGone, IsCleaned, IsCleared};
+ghost use Rattle.lsm_cmd_write.specs.Cleaning.{AreRemoved, AreSparesGone, IsAccepted, IsCleaned};
+ghost use Rattle.lsm_cmd_write.specs.Cleaning.{IsCleared, IsTorn};
 ghost use Rattle.lsm_cmd_write.specs.Cleaning.{IsTidied, IsUncleared};
 ghost use Rattle.lsm_cmd_write.specs.Cleaning.{IsSpare, IsUncleaned, IsUnremoved, IsUntidied};
 ghost use Rattle.lsm_cmd_write.specs.Cleaning.{Removes, StopsCleaning, StopsRemoving};
@@ -17,9 +18,10 @@ ghost use Rattle.lsm_opening.specs.WriterFault.{of_shelf};
 
 use crate::cleaning::durable::make_durable;
 use crate::cleaning::kept::{Kept, kept_in};
-use lsm_directory::{folder_names, hold};
+use lsm_directory::{DirectoryFault, folder_names, hold};
 use lsm_folder::{FolderCalls, FolderFault, LockKind};
 use lsm_opening::WriterFault;
+use lsm_requests::CleanOptions;
 use lsm_table::ShelfFault;
 use std::alloc::Global;
 use std::io::{self, Write};
@@ -158,23 +160,37 @@ fn clear<C: FolderCalls, R: Wait, O: Write>(
     tidy(rt, alloc, folder, kept, out)
 }
 
+/// Refuses a manifest with so many bytes at its end that hold no whole record, unless that is
+/// accepted.
+fn refuse_torn(rest: u64, options: CleanOptions) -> Result<(), WriterFault>
+    ensures accepted { OnOk result (IsAccepted options rest) }
+    ensures torn { IfErr result (IsTorn options rest) }
+{
+    if rest == 0 || options.accepts_rest {
+        return Ok(());
+    }
+    Err(WriterFault::Directory(DirectoryFault::TornManifest(rest)))
+}
+
 /// Opens the database in a folder to read, and removes the files that it does not need.
 fn clean_held<C: FolderCalls + Send + Sync, R: Wait, O: Write>(
     rt: &R,
     alloc: Global,
     folder: &mut C,
+    options: CleanOptions,
     out: &mut O,
 ) -> Result<(), WriterFault>
 where
     C::Mark: Send + Sync,
-    ensures cleaned { OnOk result (AreSparesGone C.FolderCalls (C.place folder.old)
+    ensures cleaned { OnOk result (AreSparesGone C.FolderCalls options (C.place folder.old)
         (C.calls folder.old) (C.calls folder.new) (O.contents out.old) (O.contents out.new)) }
-    ensures refused { IfErr result (λ e. StopsCleaning C.FolderCalls C.Mark.Mark
+    ensures refused { IfErr result (λ e. StopsCleaning C.FolderCalls C.Mark.Mark options
         (C.place folder.old) e (C.calls folder.old) (C.calls folder.new) (O.contents out.old)
         (O.contents out.new)) }
     ensures place { C.place folder.new ≡ C.place folder.old }
 {
     let kept = kept_in(rt, alloc, &*folder)?;
+    refuse_torn(kept.rest, options)?;
     match clear(rt, alloc, folder, &kept, out) {
         Ok(()) => Ok(()),
         Err(fault) => Err(fault),
@@ -187,19 +203,20 @@ pub(crate) fn clean_folder<C: FolderCalls + Send + Sync, R: Wait, O: Write>(
     rt: &R,
     alloc: Global,
     folder: &mut C,
+    options: CleanOptions,
     out: &mut O,
 ) -> Result<(), WriterFault>
 where
     C::Mark: Send + Sync,
-    ensures cleaned { OnOk result (IsCleaned C.FolderCalls (C.place folder.old)
+    ensures cleaned { OnOk result (IsCleaned C.FolderCalls options (C.place folder.old)
         (C.calls folder.old) (C.calls folder.new) (O.contents out.old) (O.contents out.new)) }
-    ensures refused { IfErr result (λ e. IsUncleaned C.FolderCalls C.Mark.Mark
+    ensures refused { IfErr result (λ e. IsUncleaned C.FolderCalls C.Mark.Mark options
         (C.place folder.old) e (C.calls folder.old) (C.calls folder.new) (O.contents out.old)
         (O.contents out.new)) }
     ensures place { C.place folder.new ≡ C.place folder.old }
 {
     hold(rt, folder, LockKind::Exclusive)?;
-    match clean_held(rt, alloc, folder, out) {
+    match clean_held(rt, alloc, folder, options, out) {
         Ok(()) => Ok(()),
         Err(fault) => Err(fault),
     }

@@ -40,7 +40,7 @@ module _ {C M : Type 0} (folders : Ghosts C M) where
   IsWritten text path (Ingest input options) old new =
       IsIngested folders path options (text input) old new
   IsWritten text path (WriteKey w options) old new = ComesInAt folders path options (w ∷ []) old new
-  IsWritten text path Clean old new = IsCleanedAt folders path old new
+  IsWritten text path (Clean options) old new = IsCleanedAt folders path options old new
 
 module _ {C M : Type 0} (folders : Ghosts C M) (marks : mark.Ghosts M) where
   -- ---- what status 0 means
@@ -88,8 +88,8 @@ module _ {C M : Type 0} (folders : Ghosts C M) (marks : mark.Ghosts M) where
       IsUningested folders marks path options (text input) old new
   IsUnwritten text path (WriteKey w options) old new =
       FailsToBringIn folders marks path options (w ∷ []) old new
-  IsUnwritten text path Clean old new =
-      (fault : WriterFault) × FailsToClean folders marks path fault old new
+  IsUnwritten text path (Clean options) old new =
+      (fault : WriterFault) × FailsToClean folders marks path options fault old new
 
   -- why it was not done, and what stands on standard output
   abbrev pub IsUndone : (Input → Option (List ℕ)) → Request → (old new : Option (List ℕ)) → Type 0

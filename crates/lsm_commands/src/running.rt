@@ -95,7 +95,7 @@ where
         WritingCommand::WriteKey(write, options) => {
             run_write(rt, paths, line.path, *options, write, out, err)
         }
-        WritingCommand::Clean => run_clean(rt, paths, line.path, out, err),
+        WritingCommand::Clean(options) => run_clean(rt, paths, line.path, *options, out, err),
     }
 }
 

@@ -214,6 +214,18 @@ Follows honest old new (Builds number image) = Unit {0}
 Follows honest old new Looks = (events : List Event) × IsQuiet events
     × Run honest (plain old) events (plain new)
 
+-- A batch of these writes came in and was answered so: by the contract of `ingest`, and on the
+-- plain machine.
+pub record IsIngestOf (honest : Type 0) (board : TableId) (old new : Held) (ws : List Write)
+    (r : Ingested) : Type 0 where
+  pub was : Told
+  pub is : Told
+  pub before : IsState honest board old
+  pub after : IsState honest board new
+  pub welcome : IsWelcome old ws
+  pub ingests : Ingests old new ws r was is
+  pub event : machine.Ingests (plain old) (entries_of old ws) (plain new)
+
 -- turns one after another
 abbrev pub Works : Type 0 → TableId → (old new : Held) → List Turn → (w u : World) → (d e : Disk)
     → Type 0

@@ -35,7 +35,8 @@ ghost use Rattle.lsm_crash.specs.Known.{current_name, nothing};
 ghost use Rattle.lsm_crash.specs.Operations.{Operation, started};
 ghost use Rattle.lsm_crash.specs.Among.{CutAmong, DoneAmong, counting};
 ghost use Rattle.lsm_crash.specs.States.{Describes, Finds, IsWorldOf, Shown};
-ghost use Rattle.lsm_crash.specs.Database.{AllowsAll, Asks, Deed, IsCut, IsReady, IsState, Turn};
+ghost use Rattle.lsm_crash.specs.Database.{AllowsAll, Asks, Deed, IsIngestOf, IsCut, IsReady};
+ghost use Rattle.lsm_crash.specs.Database.{IsState, Turn};
 ghost use Rattle.lsm_crash.specs.Database.{Answered, Follows, HasMade, IsMade, Opens};
 ghost use Rattle.lsm_crash.specs.Database.{Ingest, SmallRun, Works, after_all, opened_world};
 ghost use Rattle.lsm_crash.specs.Database.{plans_of};
@@ -355,19 +356,13 @@ pub fn premises_of_runs_are_met<P: Premise>()
         × IsCut P.holds board old new (Ingest ws r) w known d d
         × IsCut P.holds board old new (Ingest ws r) w all d e }
     ensures ages { (board : TableId) (limit : ℕ) (h now new : Held) (ws xs : List Write)
-        (r s : Ingested) (w : World) (d : Disk) (was is then so : Told)
-        → IsState P.holds board h → IsState P.holds board now → IsState P.holds board new
-        → IsSettled d w → d.names (table_name h.next) ≡ None → Opens P.holds limit h d
-        → IsWelcome h ws → Ingests h now ws r was is
-        → machine.Ingests (plain h) (entries_of h ws) (plain now)
-        → IsWelcome now xs → Ingests now new xs s then so
-        → machine.Ingests (plain now) (entries_of now xs) (plain new)
+        (r s : Ingested) (w : World) (d : Disk) → IsIngestOf P.holds board h now ws r
+        → IsIngestOf P.holds board now new xs s → IsSettled d w
+        → d.names (table_name h.next) ≡ None → Opens P.holds limit h d
         → SmallAges P.holds board limit
         (Struck h now new (Answered (Ingest ws r) ∷ []) (Ingest xs s)) w d }
-    ensures new { (board : TableId) (h new : Held) (ws : List Write) (r : Ingested)
-        (was is : Told) → IsState P.holds board h → IsState P.holds board new → IsMade h
-        → IsWelcome h ws → Ingests h new ws r was is
-        → machine.Ingests (plain h) (entries_of h ws) (plain new)
+    ensures new { (board : TableId) (h new : Held) (ws : List Write) (r : Ingested) → IsMade h
+        → IsIngestOf P.holds board h new ws r
         → (u : World) × (e : Disk) × FromNothing P.holds (h ∷ [])
         (Worked h new (Answered (Ingest ws r) ∷ []) ∷ []) empty_disk (Some u) e }
     ensures given { (v : Levels) (d : Disk) (was : Told) → (s : Shown v d)

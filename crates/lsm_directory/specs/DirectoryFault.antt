@@ -28,7 +28,7 @@ use Rattle.lsm_verify.specs.declared.check_fault.CheckFault.TheVariants as check
 use Rattle.lsm_text.specs.FaultText.{edit_field, log_field, read_field, refusal_text, replay_field}
 use Rattle.lsm_text.specs.FaultText.{shelf_field}
 use Rattle.lsm_directory.specs.declared.faults.directory_fault.DirectoryFault.{DirectoryFault}
-use Rattle.lsm_directory.specs.declared.faults.directory_fault.DirectoryFault.TheVariants.{OutOfMemory, Write, Shelf, Manifest, Tables, Read, NumbersSpent, Locked, Absent}
+use Rattle.lsm_directory.specs.declared.faults.directory_fault.DirectoryFault.TheVariants.{OutOfMemory, Write, Shelf, Manifest, Tables, Read, NumbersSpent, Locked, UnflushedLog, TornManifest, Absent}
 
 -- a directory that could not be opened
 abbrev pub of_open : OpenFault → DirectoryFault
@@ -75,6 +75,9 @@ fault_text (Tables fault) = check_text fault
 fault_text (Read fault) = Some (read_text fault)
 fault_text NumbersSpent = Some (refusal_text 46 (codes "NumbersSpent") None)
 fault_text Locked = Some (refusal_text 52 (codes "Locked") None)
+fault_text (UnflushedLog number) =
+    Some (refusal_text 51 (codes "UnflushedLog") (Some number))
+fault_text (TornManifest rest) = Some (refusal_text 61 (codes "TornManifest") (Some rest))
 fault_text Absent = Some (codes "absent")
 
 -- the number of a refusal; none of a write that failed, and of a key that is absent
@@ -87,6 +90,8 @@ number_of (Tables fault) = Some (check.number_of fault)
 number_of (Read fault) = Some (read.number_of fault)
 number_of NumbersSpent = Some 46
 number_of Locked = Some 52
+number_of (UnflushedLog number) = Some 51
+number_of (TornManifest rest) = Some 61
 number_of Absent = None
 
 -- the number of the file that a refusal of its table names
@@ -106,6 +111,8 @@ file_of (Tables fault) = file_in fault
 file_of (Read fault) = None
 file_of NumbersSpent = None
 file_of Locked = None
+file_of (UnflushedLog number) = None
+file_of (TornManifest rest) = None
 file_of Absent = None
 
 -- ---- what a fault means, on a line of its own
@@ -191,4 +198,8 @@ meaning_of (Tables fault) = check_meaning fault
 meaning_of (Read fault) = read_meaning fault
 meaning_of NumbersSpent = []
 meaning_of Locked = codes "another program has the folder open\n"
+meaning_of (UnflushedLog number) =
+    codes "the log is not read: open the folder with the program that wrote it, and close it\n"
+meaning_of (TornManifest rest) =
+    codes "the manifest's cut end may name tables; --accept-rest, or no --strict, lets them go\n"
 meaning_of Absent = []

@@ -9,7 +9,7 @@ use Rattle.lsm_folder.specs.declared.lock_kind.LockKind.TheVariants.{Shared, Exc
 use Rattle.lsm_storage.specs.FolderFault.{device_of}
 use Rattle.lsm_shelf.specs.Told.{NotNamed}
 use Rattle.lsm_directory.specs.declared.faults.directory_fault.DirectoryFault.{DirectoryFault}
-use Rattle.lsm_directory.specs.declared.faults.directory_fault.DirectoryFault.TheVariants.{OutOfMemory, Write, Shelf, Manifest, Tables, Read, NumbersSpent, Locked, Absent}
+use Rattle.lsm_directory.specs.declared.faults.directory_fault.DirectoryFault.TheVariants.{OutOfMemory, Write, Shelf, Manifest, Tables, Read, NumbersSpent, Locked, UnflushedLog, TornManifest, Absent}
 
 -- With this answer a command goes on: the lock is held; or the command only reads, and there is no
 -- file to lock.
@@ -35,6 +35,8 @@ IsUnheld kind (Manifest fault) old new = ⊥
 IsUnheld kind (Tables fault) old new = ⊥
 IsUnheld kind (Read fault) old new = ⊥
 IsUnheld kind NumbersSpent old new = ⊥
+IsUnheld kind (UnflushedLog number) old new = ⊥
+IsUnheld kind (TornManifest rest) old new = ⊥
 IsUnheld kind Absent old new = ⊥
 
 -- a refusal before a directory is read: another has the lock, or the folder refused
@@ -47,4 +49,6 @@ IsFolderFault (Manifest fault) = ⊥
 IsFolderFault (Tables fault) = ⊥
 IsFolderFault (Read fault) = ⊥
 IsFolderFault NumbersSpent = ⊥
+IsFolderFault (UnflushedLog number) = ⊥
+IsFolderFault (TornManifest rest) = ⊥
 IsFolderFault Absent = ⊥

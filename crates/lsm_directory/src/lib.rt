@@ -23,7 +23,7 @@ pub use folder::folder_file::FolderFile;
 pub use folder::holding::hold;
 pub use folder::logs::{first_unread, push_logs};
 pub use folder::looking::{files_beside, folder_names, log_files, logs_among};
-pub use folder::rest::push_rest;
+pub use folder::rest::{push_rest, refuse_left_out};
 pub use folder::wording::Wording;
 pub use paths::{Paths, SystemPaths, open_at};
 pub use telling::output::{OutputFault, flush, write_bytes, write_output};

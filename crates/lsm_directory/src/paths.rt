@@ -14,6 +14,9 @@ use std::fs::{self, File};
 use std::io::{self, Read};
 use std::marker::PhantomData;
 
+/// What the system answers to who reads a folder as a file (EISDIR of Linux).
+const IS_A_DIRECTORY: i32 = 21;
+
 /// Where the words of a command line find files and folders: in the system, or elsewhere.
 pub trait Paths<C: FolderCalls> {
     ghost use Rattle.std.specs.Prelude.{◌≡◌, ◌∷◌, [], ℕ, List, Option, IfOk};
@@ -64,8 +67,13 @@ impl<W: Witness> Paths<SystemFolder<HostRuntime, W>> for SystemPaths<W> {
         self.files.alloc()
     }
 
+    // A folder is refused here, and not when it is read: then the reason is told.
     fn open_file(&self, path: &str) -> io::Result<File> {
-        fs::open(&self.files, path)
+        let file = fs::open(&self.files, path)?;
+        if file.metadata()?.is_dir() {
+            return Err(io::Error::from_raw_os_error(IS_A_DIRECTORY));
+        }
+        Ok(file)
     }
 
     fn open_folder(

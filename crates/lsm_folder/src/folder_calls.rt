@@ -14,6 +14,9 @@ use crate::mark::Mark;
 use std::alloc::Global;
 use std::sync::Wait;
 
+/// The most bytes that `load` reads: 1 GiB.
+pub(crate) const MAX_LOAD: usize = 1 << 30;
+
 /// The calls on one folder. Files are named by their names in it.
 ///
 /// Each method that takes `&mut self` makes one call and notes it with its answer, the fault where
@@ -135,6 +138,7 @@ pub trait FolderCalls: Drop {
         ensures fault { IfErr result NotExists };
 
     /// Reads a file whole. `Missing` where there is none, `Failed` where it has more than 1 GiB.
+    /// Here and in `load_short` no byte is read of a file that has more.
     fn load<R: Wait>(
         &mut self,
         rt: &R,
@@ -148,6 +152,22 @@ pub trait FolderCalls: Drop {
         ensures mark { IfOk result (λ r. (Self.Mark.name r.0 ≡ name.now)
             × (Self.Mark.image r.0 ≡ r.1.items) × is_of (place self.old) r.0) }
         ensures limit { IfOk result (λ r. length r.1.items ≤ 2 ^ 30) }
+        ensures fault { IfErr result NotExists };
+
+    /// Reads a file whole that has at most `most` bytes. It gives no mark. `Missing` where there is
+    /// none, or it has more.
+    fn load_short<R: Wait>(
+        &mut self,
+        rt: &R,
+        alloc: Global,
+        name: &str,
+        most: usize,
+    ) -> Result<Vec<u8>, FolderFault>
+        ensures noted { MatchResult result
+            (λ v. calls self.new ≡ loaded name.now (Ok v.items) ∷ calls self.old)
+            (λ e. calls self.new ≡ loaded name.now (Err e) ∷ calls self.old) }
+        ensures place { place self.new ≡ place self.old }
+        ensures short { IfOk result (λ v. length v.items ≤ most) }
         ensures fault { IfErr result NotExists };
 
     /// The names of the folder's files, in no order. A folder in it, and a name that is no text, is

@@ -36,6 +36,7 @@ mod witness;
 
 // A folder of the system.
 mod open_files;
+mod opened_folder;
 mod reasons;
 mod seen_log;
 mod system_calls;

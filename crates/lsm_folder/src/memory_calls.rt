@@ -6,7 +6,7 @@ ghost use Rattle.lsm_folder.specs.FolderFault.{NotNamed};
 ghost use Rattle.lsm_folder.specs.MemoryFolder.{memory_calls, memory_mark_image};
 ghost use Rattle.lsm_folder.specs.Calls.{AreHonest};
 
-use crate::folder_calls::FolderCalls;
+use crate::folder_calls::{FolderCalls, MAX_LOAD};
 use crate::folder_fault::FolderFault;
 use crate::image::Image;
 use crate::lock_kind::LockKind;
@@ -191,10 +191,25 @@ impl FolderCalls for MemoryFolder {
         alloc: Global,
         name: &str,
     ) -> Result<(MemoryMark, Vec<u8>), FolderFault> {
-        let answer = self.files.load(rt, alloc, name);
+        let answer = self
+            .files
+            .load(rt, alloc, name, MAX_LOAD, FolderFault::Failed);
         self.log.add_load(name.as_bytes(), &answer);
         let (token, bytes) = answer?;
         Ok((mark_of(name, token), bytes))
+    }
+
+    fn load_short<R: Wait>(
+        &mut self,
+        rt: &R,
+        alloc: Global,
+        name: &str,
+        most: usize,
+    ) -> Result<Vec<u8>, FolderFault> {
+        let answer = self.files.load(rt, alloc, name, most, FolderFault::Missing);
+        self.log.add_load(name.as_bytes(), &answer);
+        let (_, bytes) = answer?;
+        Ok(bytes)
     }
 
     fn list<R: Wait>(&mut self, rt: &R, alloc: Global) -> Result<Vec<String>, FolderFault> {

@@ -1,6 +1,6 @@
 //! The files of a folder in memory.
 
-ghost use Rattle.std.specs.Prelude.{◌≡◌, ◌+◌, ◌≤◌, ◌^◌, ◌++◌, length, take, drop, IfOk, IfErr};
+ghost use Rattle.std.specs.Prelude.{◌≡◌, ◌+◌, ◌≤◌, ◌++◌, length, take, drop, IfOk, IfErr};
 ghost use Rattle.std.specs.Prelude.{OnOk, Some, None, IsSome, MatchBool};
 ghost use Rattle.std.specs.Vec.{vec_len};
 ghost use Rattle.boxcar.specs.Table.{Shows};
@@ -18,9 +18,6 @@ use boxcar::Pushed;
 use std::alloc::{AllocError, Global};
 use std::sync::atomic::Ordering;
 use std::sync::{Arc, Mutex, Wait};
-
-/// The most bytes that a file may have to be read whole: 1 GiB.
-const MAX_LOAD: usize = 1 << 30;
 
 /// What forks share: images, to which images are only added; the files and their names, under a
 /// lock; and at which call the folder stops.
@@ -400,19 +397,23 @@ impl MemoryFiles {
         Ok(Vec::from_slice(alloc, &image.bytes[offset..offset + len])?)
     }
 
+    /// Reads a file whole that has at most `most` bytes. One that has more is refused by this fault.
     pub(crate) fn load<R: Wait>(
         &self,
         rt: &R,
         alloc: Global,
         name: &str,
+        most: usize,
+        larger: FolderFault,
     ) -> Result<(Pushed<Image>, Vec<u8>), FolderFault>
+        requires { NotExists larger }
         ensures ok { IfOk result (λ r. (r.0.value.bytes.items ≡ r.1.items)
             × Shows self.now.images r.0) }
-        ensures limit { IfOk result (λ r. length r.1.items ≤ 2 ^ 30) }
+        ensures limit { IfOk result (λ r. length r.1.items ≤ most) }
         ensures err { IfErr result NotExists }
     {
         let turn = self.stops.begin()?;
-        turn.end(self.load_in(alloc, &self.directory.lock(rt), name))
+        turn.end(self.load_in(alloc, &self.directory.lock(rt), name, most, larger))
     }
 
     fn load_in(
@@ -420,16 +421,19 @@ impl MemoryFiles {
         alloc: Global,
         directory: &Directory,
         name: &str,
+        most: usize,
+        larger: FolderFault,
     ) -> Result<(Pushed<Image>, Vec<u8>), FolderFault>
+        requires { NotExists larger }
         ensures ok { IfOk result (λ r. (r.0.value.bytes.items ≡ r.1.items)
             × Shows self.now.images r.0) }
-        ensures limit { IfOk result (λ r. length r.1.items ≤ 2 ^ 30) }
+        ensures limit { IfOk result (λ r. length r.1.items ≤ most) }
         ensures err { IfErr result NotExists }
     {
         let (_, token) = self.found(directory, name)?;
         let image = self.images.value(&token);
-        if image.bytes.len() > MAX_LOAD {
-            return Err(FolderFault::Failed);
+        if image.bytes.len() > most {
+            return Err(larger);
         }
         let bytes = Vec::from_slice(alloc, image.bytes.as_slice())?;
         Ok((token, bytes))

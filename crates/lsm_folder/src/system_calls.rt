@@ -10,7 +10,7 @@ ghost use Rattle.lsm_shelf.specs.Place.{IsAtPath};
 ghost use Rattle.lsm_folder.specs.SystemFolder.{system_calls, system_place, system_mark_name};
 ghost use Rattle.lsm_folder.specs.SystemFolder.{system_mark_image};
 
-use crate::folder_calls::FolderCalls;
+use crate::folder_calls::{FolderCalls, MAX_LOAD};
 use crate::folder_fault::FolderFault;
 use crate::lock_kind::LockKind;
 use crate::log::{Appended, FolderSynced, Made, Removed, Renamed, Synced, Wrote, answered};
@@ -105,7 +105,7 @@ fn make_marked<R: Files<File = File> + AllocGlobal + Clone + Drop, W: Witness, T
     ensures err { IfErr result NotMissing }
 {
     let mark = marked(rt, files.rt.alloc(), marks, name, bytes)?;
-    let made = files.make(folder, name, bytes);
+    let made = files.make(name, bytes);
     match files.exists("make", folder, name, made) {
         Ok(()) => Ok(mark),
         Err(fault) => Err(fault),
@@ -127,12 +127,28 @@ fn load_marked<R: Files<File = File> + AllocGlobal + Clone + Drop, W: Witness, T
     ensures limit { IfOk result (λ r. length r.1.items ≤ 2 ^ 30) }
     ensures err { IfErr result NotExists }
 {
-    let loaded = files.load(alloc, folder, name);
+    let loaded = files.load(alloc, name, MAX_LOAD, ErrorKind::Other);
     let bytes = files.missing("read", folder, name, loaded)?;
     match marked(rt, alloc, marks, name, bytes.as_slice()) {
         Ok(mark) => Ok((mark, bytes)),
         Err(fault) => Err(fault),
     }
+}
+
+/// Reads a file whole that has at most `most` bytes.
+fn load_unmarked<R: Files<File = File> + AllocGlobal + Clone + Drop>(
+    files: &mut SystemFiles<R>,
+    alloc: Global,
+    folder: &str,
+    name: &str,
+    most: usize,
+) -> Result<((), Vec<u8>), FolderFault>
+    ensures short { IfOk result (λ r. length r.1.items ≤ most) }
+    ensures err { IfErr result NotExists }
+{
+    let loaded = files.load(alloc, name, most, ErrorKind::NotFound);
+    let bytes = files.missing("read", folder, name, loaded)?;
+    Ok(((), bytes))
 }
 
 impl<R: Files<File = File> + AllocGlobal + Clone + Drop, W: Witness> SystemFolder<R, W> {
@@ -229,7 +245,7 @@ impl<R: Files<File = File> + AllocGlobal + Clone + Drop, W: Witness> FolderCalls
 
     fn write<T: Wait>(&mut self, _rt: &T, name: &str, bytes: &[u8]) -> Result<(), FolderFault> {
         let folder = self.path.as_str();
-        let outcome = self.files.write(folder, name, bytes);
+        let outcome = self.files.write(name, bytes);
         let answer = self.files.failed("write", folder, name, outcome);
         self.seen.add::<Wrote>(name.as_bytes(), bytes, &answer);
         answer
@@ -237,7 +253,7 @@ impl<R: Files<File = File> + AllocGlobal + Clone + Drop, W: Witness> FolderCalls
 
     fn append<T: Wait>(&mut self, _rt: &T, name: &str, bytes: &[u8]) -> Result<(), FolderFault> {
         let folder = self.path.as_str();
-        let outcome = self.files.append(folder, name, bytes);
+        let outcome = self.files.append(name, bytes);
         let answer = self.files.missing("append", folder, name, outcome);
         self.seen.add::<Appended>(name.as_bytes(), bytes, &answer);
         answer
@@ -245,7 +261,7 @@ impl<R: Files<File = File> + AllocGlobal + Clone + Drop, W: Witness> FolderCalls
 
     fn sync<T: Wait>(&mut self, _rt: &T, name: &str) -> Result<(), FolderFault> {
         let folder = self.path.as_str();
-        let outcome = self.files.sync(folder, name);
+        let outcome = self.files.sync(name);
         let answer = self.files.missing("sync", folder, name, outcome);
         self.seen.add::<Synced>(name.as_bytes(), &[], &answer);
         answer
@@ -253,7 +269,7 @@ impl<R: Files<File = File> + AllocGlobal + Clone + Drop, W: Witness> FolderCalls
 
     fn sync_folder<T: Wait>(&mut self, _rt: &T) -> Result<(), FolderFault> {
         let folder = self.path.as_str();
-        let outcome = self.files.sync_folder(folder);
+        let outcome = self.files.sync_folder();
         let answer = self.files.failed("sync", folder, "", outcome);
         self.seen.add::<FolderSynced>(&[], &[], &answer);
         answer
@@ -261,7 +277,7 @@ impl<R: Files<File = File> + AllocGlobal + Clone + Drop, W: Witness> FolderCalls
 
     fn rename<T: Wait>(&mut self, _rt: &T, from: &str, to: &str) -> Result<(), FolderFault> {
         let folder = self.path.as_str();
-        let outcome = self.files.rename(folder, from, to);
+        let outcome = self.files.rename(from, to);
         let answer = self.files.missing("rename", folder, from, outcome);
         self.seen
             .add::<Renamed>(from.as_bytes(), to.as_bytes(), &answer);
@@ -270,7 +286,7 @@ impl<R: Files<File = File> + AllocGlobal + Clone + Drop, W: Witness> FolderCalls
 
     fn remove<T: Wait>(&mut self, _rt: &T, name: &str) -> Result<(), FolderFault> {
         let folder = self.path.as_str();
-        let outcome = self.files.remove(folder, name);
+        let outcome = self.files.remove(name);
         let answer = self.files.missing("remove", folder, name, outcome);
         self.seen.add::<Removed>(name.as_bytes(), &[], &answer);
         answer
@@ -278,7 +294,7 @@ impl<R: Files<File = File> + AllocGlobal + Clone + Drop, W: Witness> FolderCalls
 
     fn lock<T: Wait>(&mut self, _rt: &T, name: &str, kind: LockKind) -> Result<bool, FolderFault> {
         let folder = self.path.as_str();
-        let outcome = self.files.lock(folder, name, kind);
+        let outcome = self.files.lock(name, kind);
         let answer = self.files.missing("lock", folder, name, outcome);
         self.seen.add_lock(name.as_bytes(), kind, &answer);
         answer
@@ -286,7 +302,7 @@ impl<R: Files<File = File> + AllocGlobal + Clone + Drop, W: Witness> FolderCalls
 
     fn length<T: Wait>(&mut self, _rt: &T, name: &str) -> Result<u64, FolderFault> {
         let folder = self.path.as_str();
-        let outcome = self.files.length(folder, name);
+        let outcome = self.files.length(name);
         let answer = self.files.missing("read", folder, name, outcome);
         self.seen.add_length(name.as_bytes(), &answer);
         answer
@@ -302,9 +318,7 @@ impl<R: Files<File = File> + AllocGlobal + Clone + Drop, W: Witness> FolderCalls
     ) -> Result<Vec<u8>, FolderFault> {
         let folder = self.path.as_str();
         let index = mark.token.index();
-        let outcome = self
-            .files
-            .read_part(alloc, folder, name, index, offset, len);
+        let outcome = self.files.read_part(alloc, name, index, offset, len);
         let facts = self.marks.value(&mark.token);
         let outcome = let_through(facts, offset, len, outcome);
         let answer = self.files.missing("read", folder, name, outcome);
@@ -325,9 +339,23 @@ impl<R: Files<File = File> + AllocGlobal + Clone + Drop, W: Witness> FolderCalls
         answer
     }
 
+    fn load_short<T: Wait>(
+        &mut self,
+        _rt: &T,
+        alloc: Global,
+        name: &str,
+        most: usize,
+    ) -> Result<Vec<u8>, FolderFault> {
+        let folder = self.path.as_str();
+        let loaded = load_unmarked(&mut self.files, alloc, folder, name, most);
+        self.seen.add_load(name.as_bytes(), &loaded);
+        let (_, bytes) = loaded?;
+        Ok(bytes)
+    }
+
     fn list<T: Wait>(&mut self, _rt: &T, alloc: Global) -> Result<Vec<String>, FolderFault> {
         let folder = self.path.as_str();
-        let outcome = self.files.list(alloc, folder);
+        let outcome = self.files.list(alloc);
         let answer = self.files.failed("list", folder, "", outcome);
         self.seen.add_list(&answer);
         answer

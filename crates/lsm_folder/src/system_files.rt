@@ -2,12 +2,13 @@
 //! at and opened to be read whole, written or synced; one of which a part is read stays open. No
 //! contract says what the system's calls do; they are to be read.
 
-ghost use Rattle.std.specs.Prelude.{◌≡◌, ◌↔◌, ◌≤◌, ◌^◌, length, Ok, Err, IfOk, IfErr};
+ghost use Rattle.std.specs.Prelude.{◌≡◌, ◌↔◌, ◌<◌, ◌≤◌, length, Ok, Err, IfOk, IfErr};
 ghost use Rattle.lsm_folder.specs.FolderFault.{NotMissing, NotExists, NotNamed};
 ghost use Rattle.lsm_folder.specs.SystemFault.{fault_kind};
 
 use crate::folder_fault::FolderFault;
 use crate::open_files::OpenFiles;
+use crate::opened_folder::OpenedFolder;
 use crate::reasons::Reasons;
 use crate::system_fault::SystemFault;
 use std::alloc::{AllocError, Global};
@@ -15,27 +16,38 @@ use std::fs::{self, File, Files, OpenFile, OpenOptions};
 use std::io::{self, ErrorKind, Read, Write};
 use std::os::unix::fs::FileExt;
 
-/// The most bytes that a file may have to be read whole: 1 GiB.
-const MAX_LOAD: usize = 1 << 30;
-
-/// What the calls on a folder of the system are made with, whose path each is passed: the system,
-/// the lock that is held, the files that stay open, and where refusals are kept for people.
+/// What the calls on a folder of the system are made with: the system, the folder, the lock that is
+/// held, the files that stay open, and where refusals are kept for people.
 #[derive(Drop)]
 pub(crate) struct SystemFiles<R: Files<File = File> + AllocGlobal + Clone + Drop> {
     pub(crate) rt: R,
     pub(crate) held: Option<File>,
     pub(crate) open_files: OpenFiles,
+    folder: OpenedFolder,
     reasons: Reasons,
 }
 
-/// The path of a file in a folder.
-fn path_of(alloc: Global, folder: &str, name: &str) -> Result<String, AllocError> {
+/// The path of a file in a folder, for people.
+fn shown_path(alloc: Global, folder: &str, name: &str) -> Result<String, AllocError> {
     format!(in alloc; "{folder}/{name}")
 }
 
 /// Why a file that is not a regular one is refused.
 fn irregular() -> SystemFault {
     SystemFault::Unacted(io::Error::other("not a regular file"))
+}
+
+/// The length of a file that is to be read whole, and may have `most` bytes. Refused by this kind of
+/// error where it has more.
+fn at_most(length: u64, most: usize, larger: ErrorKind) -> Result<usize, SystemFault>
+    ensures ok { IfOk result (λ n. (n ≡ length) × (length ≤ most)) }
+    ensures larger { IfErr result (λ f. (most < length) × (fault_kind f ≡ larger)) }
+{
+    if length > most as u64 {
+        let why = io::Error::new(larger, "larger than what is read whole");
+        return Err(SystemFault::Unacted(why));
+    }
+    Ok(length as usize)
 }
 
 /// The answer of a call that asks for a change, or for an open file.
@@ -65,14 +77,14 @@ pub(crate) fn text_of<R: Files<File = File> + AllocGlobal>(
     }
 }
 
-/// Lists a folder, to see that it is one.
-fn look_at<R: Files<File = File> + AllocGlobal + Clone + Drop>(
+/// Opens a folder.
+fn opened<R: Files<File = File> + AllocGlobal + Clone + Drop>(
     rt: &R,
     path: &str,
     reasons: &Reasons,
-) -> Result<(), SystemFault> {
-    match fs::read_dir(rt, path) {
-        Ok(_) => Ok(()),
+) -> Result<OpenedFolder, SystemFault> {
+    match OpenedFolder::open(rt, path) {
+        Ok(folder) => Ok(folder),
         Err(error) => {
             reasons.note("open", String::from_str(rt.alloc(), path), error);
             Err(SystemFault::from(error))
@@ -129,12 +141,13 @@ impl<R: Files<File = File> + AllocGlobal + Clone + Drop> SystemFiles<R> {
         path: &str,
         reasons: &Reasons,
     ) -> Result<SystemFiles<R>, SystemFault> {
-        look_at(&rt, path, reasons)?;
+        let folder = opened(&rt, path, reasons)?;
         let reasons = reasons.again()?;
         Ok(SystemFiles {
             open_files: OpenFiles::new(&rt)?,
             rt,
             held: None,
+            folder,
             reasons,
         })
     }
@@ -142,18 +155,20 @@ impl<R: Files<File = File> + AllocGlobal + Clone + Drop> SystemFiles<R> {
     /// For another value on the folder.
     pub(crate) fn fork(&self) -> Result<SystemFiles<R>, AllocError> {
         let rt = self.rt.clone()?;
+        let folder = self.folder.again()?;
         let reasons = self.reasons.again()?;
         Ok(SystemFiles {
             open_files: self.open_files.fork(rt.alloc())?,
             rt,
             held: None,
+            folder,
             reasons,
         })
     }
 
     /// Keeps why the system refused a call.
     fn note(&self, call: &'static str, folder: &str, name: &str, fault: SystemFault) {
-        let path = path_of(self.rt.alloc(), folder, name);
+        let path = shown_path(self.rt.alloc(), folder, name);
         self.reasons.note(call, path, fault.error());
     }
 
@@ -225,13 +240,12 @@ impl<R: Files<File = File> + AllocGlobal + Clone + Drop> SystemFiles<R> {
     /// kept open are closed, and it is tried once more.
     pub(crate) fn open_regular(
         &mut self,
-        folder: &str,
         name: &str,
         options: &OpenOptions,
     ) -> Result<File, SystemFault>
         ensures { self.new.held ≡ self.old.held }
     {
-        let path = path_of(self.rt.alloc(), folder, name)?;
+        let path = self.folder.path_of(self.rt.alloc(), name)?;
         match fs::metadata(&self.rt, path.as_str()) {
             Ok(found) if !found.is_file() => return Err(irregular()),
             _ => {}
@@ -245,10 +259,10 @@ impl<R: Files<File = File> + AllocGlobal + Clone + Drop> SystemFiles<R> {
     }
 
     /// Opens a file, to put bytes behind its own, or to make these durable.
-    fn open_to_append(&mut self, folder: &str, name: &str) -> Result<File, SystemFault> {
+    fn open_to_append(&mut self, name: &str) -> Result<File, SystemFault> {
         let mut options = OpenOptions::new();
         options.append(true);
-        self.open_regular(folder, name, &options)
+        self.open_regular(name, &options)
     }
 
     /// Makes a file that must not be there, with these bytes.
@@ -263,23 +277,13 @@ impl<R: Files<File = File> + AllocGlobal + Clone + Drop> SystemFiles<R> {
         }
     }
 
-    pub(crate) fn make(
-        &mut self,
-        folder: &str,
-        name: &str,
-        bytes: &[u8],
-    ) -> Result<(), SystemFault> {
-        let path = path_of(self.rt.alloc(), folder, name)?;
+    pub(crate) fn make(&mut self, name: &str, bytes: &[u8]) -> Result<(), SystemFault> {
+        let path = self.folder.path_of(self.rt.alloc(), name)?;
         self.fill_new(path.as_str(), bytes)
     }
 
-    pub(crate) fn write(
-        &mut self,
-        folder: &str,
-        name: &str,
-        bytes: &[u8],
-    ) -> Result<(), SystemFault> {
-        let path = path_of(self.rt.alloc(), folder, name)?;
+    pub(crate) fn write(&mut self, name: &str, bytes: &[u8]) -> Result<(), SystemFault> {
+        let path = self.folder.path_of(self.rt.alloc(), name)?;
         self.clear(path.as_str())?;
         self.fill_new(path.as_str(), bytes)
     }
@@ -297,50 +301,41 @@ impl<R: Files<File = File> + AllocGlobal + Clone + Drop> SystemFiles<R> {
         }
     }
 
-    pub(crate) fn append(
-        &mut self,
-        folder: &str,
-        name: &str,
-        bytes: &[u8],
-    ) -> Result<(), SystemFault> {
-        let mut file = self.open_to_append(folder, name)?;
+    pub(crate) fn append(&mut self, name: &str, bytes: &[u8]) -> Result<(), SystemFault> {
+        let mut file = self.open_to_append(name)?;
         acted(file.write_all(bytes))
     }
 
-    pub(crate) fn sync(&mut self, folder: &str, name: &str) -> Result<(), SystemFault> {
-        let file = self.open_to_append(folder, name)?;
+    pub(crate) fn sync(&mut self, name: &str) -> Result<(), SystemFault> {
+        let file = self.open_to_append(name)?;
         acted(file.sync_all())
     }
 
-    pub(crate) fn sync_folder(&mut self, folder: &str) -> Result<(), SystemFault> {
-        let opened = match fs::open(&self.rt, folder) {
-            Err(error) if self.open_files.give_way(&error) => fs::open(&self.rt, folder),
-            answer => answer,
-        }?;
-        acted(opened.sync_all())
+    pub(crate) fn sync_folder(&self) -> Result<(), SystemFault> {
+        acted(self.folder.sync())
     }
 
-    pub(crate) fn rename(&self, folder: &str, from: &str, to: &str) -> Result<(), SystemFault> {
-        let from = path_of(self.rt.alloc(), folder, from)?;
-        let to = path_of(self.rt.alloc(), folder, to)?;
+    pub(crate) fn rename(&self, from: &str, to: &str) -> Result<(), SystemFault> {
+        let from = self.folder.path_of(self.rt.alloc(), from)?;
+        let to = self.folder.path_of(self.rt.alloc(), to)?;
         asked(fs::rename(&self.rt, from.as_str(), to.as_str()))
     }
 
     /// Removes a file, and closes those that are kept open: it may be one of them.
-    pub(crate) fn remove(&mut self, folder: &str, name: &str) -> Result<(), SystemFault> {
-        let removed = self.try_remove(folder, name);
+    pub(crate) fn remove(&mut self, name: &str) -> Result<(), SystemFault> {
+        let removed = self.try_remove(name);
         self.open_files.removed();
         removed
     }
 
     /// Asks for the removal, and closes nothing.
-    fn try_remove(&self, folder: &str, name: &str) -> Result<(), SystemFault> {
-        let path = path_of(self.rt.alloc(), folder, name)?;
+    fn try_remove(&self, name: &str) -> Result<(), SystemFault> {
+        let path = self.folder.path_of(self.rt.alloc(), name)?;
         asked(fs::remove_file(&self.rt, path.as_str()))
     }
 
-    pub(crate) fn length(&self, folder: &str, name: &str) -> Result<u64, SystemFault> {
-        let path = path_of(self.rt.alloc(), folder, name)?;
+    pub(crate) fn length(&self, name: &str) -> Result<u64, SystemFault> {
+        let path = self.folder.path_of(self.rt.alloc(), name)?;
         match fs::metadata(&self.rt, path.as_str()) {
             Ok(found) if found.is_file() => Ok(found.len()),
             Ok(_) => Err(irregular()),
@@ -353,28 +348,26 @@ impl<R: Files<File = File> + AllocGlobal + Clone + Drop> SystemFiles<R> {
     pub(crate) fn read_part(
         &mut self,
         alloc: Global,
-        folder: &str,
         name: &str,
         mark: usize,
         offset: u64,
         len: usize,
     ) -> Result<Vec<u8>, SystemFault> {
         let mut bytes = vec![in alloc; 0u8; len]?;
-        self.read_into(folder, name, mark, offset, bytes.as_mut_slice())?;
+        self.read_into(name, mark, offset, bytes.as_mut_slice())?;
         Ok(bytes)
     }
 
     /// Fills the bytes from the file that is kept open for the mark, or opens it.
     fn read_into(
         &mut self,
-        folder: &str,
         name: &str,
         mark: usize,
         offset: u64,
         bytes: &mut [u8],
     ) -> Result<(), SystemFault> {
         let Some(file) = self.open_files.of(mark) else {
-            return self.read_anew(folder, name, mark, offset, bytes);
+            return self.read_anew(name, mark, offset, bytes);
         };
         match file.read_exact_at(bytes, offset) {
             Ok(()) => Ok(()),
@@ -388,7 +381,6 @@ impl<R: Files<File = File> + AllocGlobal + Clone + Drop> SystemFiles<R> {
     /// Opens the file in place of what is in the mark's slot, reads, and keeps it where that went.
     fn read_anew(
         &mut self,
-        folder: &str,
         name: &str,
         mark: usize,
         offset: u64,
@@ -397,7 +389,7 @@ impl<R: Files<File = File> + AllocGlobal + Clone + Drop> SystemFiles<R> {
         self.open_files.make_room(mark);
         let mut options = OpenOptions::new();
         options.read(true);
-        let file = self.open_regular(folder, name, &options)?;
+        let file = self.open_regular(name, &options)?;
         match file.read_exact_at(bytes, offset) {
             Ok(()) => {
                 self.open_files.keep(mark, file);
@@ -407,28 +399,32 @@ impl<R: Files<File = File> + AllocGlobal + Clone + Drop> SystemFiles<R> {
         }
     }
 
-    /// Reads at most one byte more than 1 GiB, and refuses a file that has it.
+    /// Reads a file whole that has at most `most` bytes. One that has more is refused by this kind
+    /// of error, and none of it is read, unless it grew since its length was asked. Memory is asked
+    /// for once.
     pub(crate) fn load(
         &mut self,
         alloc: Global,
-        folder: &str,
         name: &str,
+        most: usize,
+        larger: ErrorKind,
     ) -> Result<Vec<u8>, SystemFault>
-        ensures { IfOk result (λ v. length v.items ≤ 2 ^ 30) }
+        ensures { IfOk result (λ v. length v.items ≤ most) }
     {
-        let mut bytes = Vec::new(alloc);
-        self.open_regular(folder, name, OpenOptions::new().read(true))?
-            .take(MAX_LOAD as u64 + 1)
+        let file = self.open_regular(name, OpenOptions::new().read(true))?;
+        let length = at_most(file.metadata()?.len(), most, larger)?;
+        let mut bytes = Vec::with_capacity(alloc, length.saturating_add(1))?;
+        file.take((most as u64).saturating_add(1))
             .read_to_end(&mut bytes)?;
-        if bytes.len() > MAX_LOAD {
-            return Err(SystemFault::Unacted(io::Error::other("larger than 1 GiB")));
-        }
+        at_most(bytes.len() as u64, most, larger)?;
         Ok(bytes)
     }
 
-    pub(crate) fn list(&mut self, alloc: Global, folder: &str) -> Result<Vec<String>, SystemFault> {
-        let entries = match fs::read_dir(&self.rt, folder) {
-            Err(error) if self.open_files.give_way(&error) => fs::read_dir(&self.rt, folder),
+    pub(crate) fn list(&mut self, alloc: Global) -> Result<Vec<String>, SystemFault> {
+        let entries = match fs::read_dir(&self.rt, self.folder.path()) {
+            Err(error) if self.open_files.give_way(&error) => {
+                fs::read_dir(&self.rt, self.folder.path())
+            }
             answer => answer,
         }?;
         Ok(names_of(&self.rt, alloc, entries)?)

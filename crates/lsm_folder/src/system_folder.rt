@@ -7,11 +7,11 @@ use crate::witness::Witness;
 use std::fs::{File, Files};
 use std::sync::Arc;
 
-/// A folder of the system, named by its path. Each method makes one call of `std::fs`, on the file
-/// that it notes (`system_files.rt`): that is to be read, since no contract says what a file has. A
-/// file of which a part was read stays open for the next one (`open_files.rt`). What a read answers
-/// is passed on where the witness saw it, so the last answer is true where the witness tells the
-/// truth.
+/// A folder of the system, named by the path by which it was opened; it is the same one wherever it
+/// is moved (`opened_folder.rt`). Each method makes one call of `std::fs`, on the file that it notes
+/// (`system_files.rt`): that is to be read, since no contract says what a file has. A file of which
+/// a part was read stays open for the next one (`open_files.rt`). What a read answers is passed on
+/// where the witness saw it, so the last answer is true where the witness tells the truth.
 #[derive(Drop)]
 pub struct SystemFolder<R: Files<File = File> + AllocGlobal + Clone + Drop, W: Witness> {
     pub(crate) path: String,

@@ -13,12 +13,7 @@ use std::os::fd::AsRawFd;
 impl<R: Files<File = File> + AllocGlobal + Clone + Drop> SystemFiles<R> {
     /// Opens a file and locks it; an exclusive lock makes the file where it is not there. It is
     /// held from then on. False where another holds it.
-    pub(crate) fn lock(
-        &mut self,
-        folder: &str,
-        name: &str,
-        kind: LockKind,
-    ) -> Result<bool, SystemFault>
+    pub(crate) fn lock(&mut self, name: &str, kind: LockKind) -> Result<bool, SystemFault>
         ensures taken { IfOk result (λ b.
             MatchBool b (IsSome self.new.held) (self.new.held ≡ self.old.held)) }
         ensures kept { IfErr result (λ _. self.new.held ≡ self.old.held) }
@@ -26,7 +21,7 @@ impl<R: Files<File = File> + AllocGlobal + Clone + Drop> SystemFiles<R> {
         let makes = kind == LockKind::Exclusive;
         let mut options = OpenOptions::new();
         options.read(true).write(makes).create(makes);
-        let file = self.open_regular(folder, name, &options)?;
+        let file = self.open_regular(name, &options)?;
         match self.is_taken(&file, kind) {
             Ok(true) => Ok(false),
             Ok(false) => {

@@ -105,6 +105,12 @@ begin = flag (codes "begin")
 abbrev pub beside_log : Rule
 beside_log = flag (codes "beside-log")
 
+abbrev pub accept_rest : Rule
+accept_rest = flag (codes "accept-rest")
+
+abbrev pub strict : Rule
+strict = flag (codes "strict")
+
 abbrev pub progress : Rule
 progress = flag (codes "progress")
 
@@ -131,23 +137,25 @@ unfoldable pub script : App
 script = command (codes "script") (file ∷ [])
 
 unfoldable pub check : App
-check = command (codes "check") (folder ∷ verifiers ∷ progress ∷ [])
+check = command (codes "check") (folder ∷ verifiers ∷ strict ∷ progress ∷ [])
 
 unfoldable pub list : App
-list = command (codes "list") (folder ∷ text ∷ [])
+list = command (codes "list") (folder ∷ text ∷ strict ∷ [])
 
 unfoldable pub levels : App
-levels = command (codes "levels") (folder ∷ text ∷ flag (codes "files") ∷ flag (codes "svg") ∷ [])
+levels = command (codes "levels")
+    (folder ∷ text ∷ flag (codes "files") ∷ flag (codes "svg") ∷ strict ∷ [])
 
 unfoldable pub get : App
-get = command (codes "get") (folder ∷ key ∷ text ∷ flag (codes "raw") ∷ flag (codes "exists") ∷ [])
+get = command (codes "get")
+    (folder ∷ key ∷ text ∷ flag (codes "raw") ∷ flag (codes "exists") ∷ strict ∷ [])
 
 unfoldable pub scan : App
 scan =
     command (codes "scan")
     (folder ∷ valued (codes "from") ∷ valued (codes "to") ∷ valued (codes "prefix") ∷ limit ∷ text
     ∷ flag (codes "keys") ∷ flag (codes "json")
-    ∷ flag (codes "count") ∷ progress ∷ [])
+    ∷ flag (codes "count") ∷ strict ∷ progress ∷ [])
 
 unfoldable pub ingest : App
 ingest = command (codes "ingest") (folder ∷ word (codes "FILE") ∷ text ∷ begin ∷ beside_log ∷ [])
@@ -164,10 +172,10 @@ load = command (codes "load") (folder ∷ file ∷ text ∷ begin ∷ beside_log
 
 unfoldable pub compact : App
 compact = command (codes "compact") (folder ∷ flag (codes "all") ∷ valued (codes "from")
-    ∷ valued (codes "to") ∷ text ∷ workers ∷ progress ∷ [])
+    ∷ valued (codes "to") ∷ text ∷ workers ∷ accept_rest ∷ progress ∷ [])
 
 unfoldable pub clean : App
-clean = command (codes "clean") (folder ∷ [])
+clean = command (codes "clean") (folder ∷ accept_rest ∷ [])
 
 unfoldable pub shell : App
 shell = command (codes "shell") (folder ∷ text ∷ begin ∷ beside_log ∷ compactors ∷ [])

@@ -156,7 +156,7 @@ name_of_value (Some value) = name.Put
 abbrev pub name_of_write : WritingCommand → CommandName
 name_of_write (Ingest input options) = name.Ingest
 name_of_write (WriteKey w options) = name_of_value w.value
-name_of_write Clean = name.Clean
+name_of_write (Clean options) = name.Clean
 
 abbrev pub name_of : Request → CommandName
 name_of (Convert conversion input) = name_of_conversion conversion
@@ -314,18 +314,18 @@ abbrev pub IsWrite : List Row → WritingCommand → Type 0
 IsWrite rows (Ingest input options) =
     IsInput (word_in (codes "FILE") rows) input × AreIngestOptions rows options
 IsWrite rows (WriteKey w options) = IsKeyWrite rows w × AreIngestOptions rows options
-IsWrite rows Clean = ⊤
+IsWrite rows (Clean options) = options.accepts_rest ≡ is_set (codes "accept-rest") rows
 
 -- the request says what stands in the rows
 abbrev pub Says : List Row → Request → Type 0
 Says rows (Convert conversion input) = IsInput (word_in (codes "FILE") rows) input
 Says rows (Look line) =
     (word_in (codes "DIR") rows ≡ Some line.path.now) × IsLook rows line.command
-    × (line.form ≡ form_in rows)
+    × (line.form ≡ form_in rows) × (line.strict ≡ is_set (codes "strict") rows)
     × (line.progress ≡ is_set (codes "progress") rows)
 Says rows (Levels line) =
     (word_in (codes "DIR") rows ≡ Some line.path.now) × (line.form ≡ form_in rows)
-    × (levels_output_in rows ≡ Some line.output)
+    × (levels_output_in rows ≡ Some line.output) × (line.strict ≡ is_set (codes "strict") rows)
 Says rows (WriteFolder line) =
     (word_in (codes "DIR") rows ≡ Some line.path.now) × IsWrite rows line.command
 Says rows (Load line) =
@@ -334,6 +334,7 @@ Says rows (Load line) =
 Says rows (Compact line) =
     (word_in (codes "DIR") rows ≡ Some line.path.now)
     × AreWorkers (word_in (codes "workers") rows) line.options.workers
+    × (line.options.accepts_rest ≡ is_set (codes "accept-rest") rows)
     × (line.options.progress ≡ is_set (codes "progress") rows) × IsRange rows line.options.range
 Says rows (Script input) = IsInput (word_in (codes "FILE") rows) input
 Says rows (Shell line) =

@@ -61,6 +61,18 @@ pub(crate) const BESIDE_LOG: Argument = Argument::Flag(
     "Go on also where LevelDB has not flushed its log",
 );
 
+/// Files are removed also where the manifest's end is no whole record.
+pub(crate) const ACCEPT_REST: Argument = Argument::Flag(
+    "accept-rest",
+    "Go on also where the manifest's last record is not whole",
+);
+
+/// What is not read is no note.
+pub(crate) const STRICT: Argument = Argument::Flag(
+    "strict",
+    "Refuse where a log or the manifest's end is not read",
+);
+
 /// Lines say how far a command is.
 pub(crate) const PROGRESS: Argument = Argument::Flag(
     "progress",

@@ -26,7 +26,7 @@ use clap::ArgMatches;
 use lsm_batch::Write;
 use lsm_codec::Bytes;
 use lsm_requests::{
-    BenchOptions, Benchmark, CompactLine, CompactOptions, CompactRange, Conversion,
+    BenchOptions, Benchmark, CleanOptions, CompactLine, CompactOptions, CompactRange, Conversion,
     DirectoryCommand, DirectoryLine, GetOutput, IngestOptions, Input, KeyBounds, LevelsLine,
     LevelsOutput, LoadLine, LoadOptions, ScanOptions, ScanOutput,
 };
@@ -311,6 +311,7 @@ fn look_in<'a>(command: DirectoryCommand, found: &ArgMatches<'a>) -> Option<Requ
         path,
         command,
         form: form_in(found),
+        strict: is_set(found, "strict"),
         progress: is_set(found, "progress"),
     }))
 }
@@ -343,7 +344,13 @@ fn levels_in<'a>(found: &ArgMatches<'a>) -> Option<Request<'a>>
     let path = word_in(found, "DIR")?;
     let output = levels_output_in(found)?;
     let form = form_in(found);
-    Some(Request::Levels(LevelsLine { path, form, output }))
+    let strict = is_set(found, "strict");
+    Some(Request::Levels(LevelsLine {
+        path,
+        form,
+        output,
+        strict,
+    }))
 }
 
 /// A read of a key.
@@ -424,7 +431,10 @@ fn delete_in<'a>(alloc: Global, found: &ArgMatches<'a>) -> Result<Option<Request
 fn clean_in<'a>(found: &ArgMatches<'a>) -> Option<Request<'a>>
     ensures { Reads CommandName.Clean (rows_in found.now) result }
 {
-    write_in(WritingCommand::Clean, found)
+    let options = CleanOptions {
+        accepts_rest: is_set(found, "accept-rest"),
+    };
+    write_in(WritingCommand::Clean(options), found)
 }
 
 /// A load.
@@ -499,6 +509,7 @@ fn compact_in<'a>(alloc: Global, found: &ArgMatches<'a>) -> Result<Option<Reques
     };
     let options = CompactOptions {
         workers,
+        accepts_rest: is_set(found, "accept-rest"),
         progress: is_set(found, "progress"),
         range,
     };

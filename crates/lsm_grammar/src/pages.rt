@@ -1,9 +1,9 @@
 //! The texts of the commands' help.
 
 use crate::arguments::{
-    ALL, Argument, BATCH, BEGIN, BENCHMARKS, BESIDE_LOG, COMPACTORS, COUNT, EXISTS, FILES, FIRST,
+    ACCEPT_REST, ALL, Argument, BATCH, BEGIN, BENCHMARKS, BESIDE_LOG, COMPACTORS, COUNT, EXISTS, FILES, FIRST,
     FOLDER, FROM, FROM_LINE, JSON, KEY, KEYS, LAST, LIMIT, NUM, PREFIX, PROGRESS, RAW,
-    SOME_WORKERS, SVG, TEXT, TO, VALUE, VALUE_SIZE, VERIFIERS, WORKERS,
+    SOME_WORKERS, STRICT, SVG, TEXT, TO, VALUE, VALUE_SIZE, VERIFIERS, WORKERS,
 };
 use crate::command_name::{CommandName, named};
 
@@ -171,7 +171,7 @@ read or a write, 2 bad command line.",
 
 const CHECK: Page = Page {
     name: "check",
-    arguments: &[FOLDER, VERIFIERS, PROGRESS],
+    arguments: &[FOLDER, VERIFIERS, STRICT, PROGRESS],
     about: "Verifies a folder, and counts what is in it",
     text: "Verifies all that a read of the LevelDB folder DIR can reach: every block of
 every table that its manifest names, and how the tables lie in their levels.
@@ -186,6 +186,9 @@ is no fault. At the end comes `log NAME BYTES` for each write-ahead log
 (`N.log`) that is not empty and that LevelDB would read: what stands there no
 command reads.
 
+With --strict it is refused where such a line would come, `refused 51
+UnflushedLog N`, or where B is above 0, `refused 61 TornManifest B`.
+
 The first fault is refused by number and name; that of a table names its file,
 as in `refused 15 BadChecksum 0 in 000005.ldb`.
 
@@ -195,7 +198,7 @@ Exit status: 0 where all is well, 1 at a fault, 2 bad command line.",
 
 const LIST: Page = Page {
     name: "list",
-    arguments: &[FOLDER, TEXT],
+    arguments: &[FOLDER, TEXT, STRICT],
     about: "Prints the tables of a folder, level by level",
     text: "Prints the tables of the LevelDB folder DIR, levels 0 to 6 and in a level by
 smallest key, `LEVEL NUMBER SIZE SMALLEST LARGEST` for each, and then `end`.
@@ -205,13 +208,17 @@ KEY is hex, or text with --text, `.` for no bytes.
 Every table is verified first. Nothing is written in DIR. A line on standard
 error names each write-ahead log (`N.log`) that is not read.
 
+With --strict it is refused where such a line would be written: `refused 51
+UnflushedLog N`, and `refused 61 TornManifest B` where the last B bytes of the
+manifest are no whole record.
+
 Exit status: 0 done, 1 refused, 2 bad command line.",
     example: "Example: lsm list db --text",
 };
 
 const LEVELS: Page = Page {
     name: "levels",
-    arguments: &[FOLDER, TEXT, FILES, SVG],
+    arguments: &[FOLDER, TEXT, FILES, SVG, STRICT],
     about: "Shows the levels of a folder, and what is due next",
     text: "Reads the file CURRENT of the LevelDB folder DIR and the manifest that it names,
 and nothing else: no table is opened. So it answers also where tables are
@@ -235,6 +242,9 @@ KEY is hex, or text with --text, `.` for no bytes.
 one bar a file over the range of its keys, as wide as the file has bytes, and in
 another colour where the next compaction takes it. It excludes --files.
 
+With --strict it is refused where such a line would be written: `refused 51
+UnflushedLog N`, and `refused 61 TornManifest R` where R is above 0.
+
 Other bytes than those of a manifest are refused by number and name, as in
 `refused 19 LogChecksum 0`.
 
@@ -246,7 +256,7 @@ Exit status: 0 done, 1 refused, 2 bad command line.",
 
 const GET: Page = Page {
     name: "get",
-    arguments: &[FOLDER, KEY, TEXT, RAW, EXISTS],
+    arguments: &[FOLDER, KEY, TEXT, RAW, EXISTS, STRICT],
     about: "Prints the value of a key in a folder",
     text: "Prints what the LevelDB folder DIR answers for KEY: `value V`, or `absent`. KEY
 and V are hex, or text with --text, `.` for no bytes.
@@ -259,6 +269,10 @@ Every table is verified first. Nothing is written in DIR. A line on standard
 error names each write-ahead log (`N.log`) that is not read: what was written
 last may stand there.
 
+With --strict it is refused where such a line would be written: `refused 51
+UnflushedLog N`, and `refused 61 TornManifest B` where the last B bytes of the
+manifest are no whole record.
+
 Exit status: 0 done, also where `absent` was printed, 1 refused, or absent with
 --raw or --exists, 2 bad command line.",
     example: "Examples: lsm get db 6170706c65
@@ -270,7 +284,7 @@ Exit status: 0 done, also where `absent` was printed, 1 refused, or absent with
 const SCAN: Page = Page {
     name: "scan",
     arguments: &[
-        FOLDER, FROM, TO, PREFIX, LIMIT, TEXT, KEYS, JSON, COUNT, PROGRESS,
+        FOLDER, FROM, TO, PREFIX, LIMIT, TEXT, KEYS, JSON, COUNT, STRICT, PROGRESS,
     ],
     about: "Prints the live keys of a folder and their values",
     text: "Prints the live keys of the LevelDB folder DIR with their values, a line
@@ -293,6 +307,10 @@ Every table is verified before the first line. Lines are printed as the folder
 is read, in memory that does not grow with it; what is before --from is read
 too. Nothing is written in DIR. A line on standard error names each write-ahead
 log (`N.log`) that is not read: what was written last may stand there.
+
+With --strict it is refused where such a line would be written: `refused 51
+UnflushedLog N`, and `refused 61 TornManifest B` where the last B bytes of the
+manifest are no whole record.
 
 A refusal of a table names its file, as in `refused 15 BadChecksum 0 in
 000005.ldb`.
@@ -447,7 +465,7 @@ Device` one batch more than is said may be in.",
 
 const COMPACT: Page = Page {
     name: "compact",
-    arguments: &[FOLDER, ALL, FIRST, LAST, TEXT, WORKERS, PROGRESS],
+    arguments: &[FOLDER, ALL, FIRST, LAST, TEXT, WORKERS, ACCEPT_REST, PROGRESS],
     about: "Compacts a folder until no level is too large",
     text: "Compacts the LevelDB folder DIR until no level is too large: tables of such a
 level, and those of the next one that they meet, are written anew one level
@@ -466,8 +484,9 @@ bytes.
 --workers is how many threads compact at a time, 1 to 8; 2 if it is not said.
 
 What stands in a write-ahead log (`N.log`) is not read, and stays there. Another
-program that has DIR open is `refused 52 Locked`. Each run begins a new
-manifest; old manifests stay until `lsm clean DIR`. Run this after an `ingest`
+program that has DIR open is `refused 52 Locked`, and a manifest whose last B
+bytes are no whole record `refused 61 TornManifest B`, as `clean` says, unless
+--accept-rest is said. Each run begins a new manifest; old manifests stay until `lsm clean DIR`. Run this after an `ingest`
 that is `refused 40 LevelZeroFull`.
 
 Exit status: 0 done, 1 refused, 2 bad command line. After a refusal what was
@@ -480,7 +499,7 @@ failed.",
 
 const CLEAN: Page = Page {
     name: "clean",
-    arguments: &[FOLDER],
+    arguments: &[FOLDER, ACCEPT_REST],
     about: "Removes old files that a folder does not need",
     text: "Removes the files of the LevelDB folder DIR that no reader of it needs: the
 manifests (`MANIFEST-N`) that CURRENT does not name, what a stopped program left
@@ -490,6 +509,12 @@ the name of each file that was removed, a line each, ascending.
 DIR is read first: where that is refused nothing is removed. Logs (`N.log`),
 `N.sst` and all other files stay. A removal that is refused ends it with
 `refused 9 Device`. Another program that has DIR open is `refused 52 Locked`.
+
+Where the last B bytes of the manifest are no whole record, it is `refused 61
+TornManifest B`, and nothing is removed: was the manifest cut behind a change
+that had been answered, it named tables that would go. Such bytes are left by a
+program or a machine that was stopped within a change, and then there is nothing
+to lose: --accept-rest goes on all the same.
 
 Exit status: 0 done, 1 refused: what was printed before it is removed, 2 bad
 command line.",
@@ -609,20 +634,20 @@ fn usage(name: CommandName) -> &'static str {
         CommandName::Dump => "lsm dump [FILE]",
         CommandName::Manifest => "lsm manifest [FILE]",
         CommandName::Script => "lsm script [FILE]",
-        CommandName::Check => "lsm check <DIR> [--workers <N>] [--progress]",
-        CommandName::List => "lsm list <DIR> [--text]",
-        CommandName::Levels => "lsm levels <DIR> [--text] [--files] [--svg]",
-        CommandName::Get => "lsm get <DIR> <KEY> [--text] [--raw] [--exists]",
+        CommandName::Check => "lsm check <DIR> [--workers <N>] [--strict] [--progress]",
+        CommandName::List => "lsm list <DIR> [--text] [--strict]",
+        CommandName::Levels => "lsm levels <DIR> [--text] [--files] [--svg] [--strict]",
+        CommandName::Get => "lsm get <DIR> <KEY> [--text] [--raw] [--exists] [--strict]",
         CommandName::Scan =>
-            "lsm scan <DIR> [--from <KEY>] [--to <KEY>] [--prefix <KEY>] [--limit <N>] [--text] [--keys] [--json] [--count] [--progress]",
+            "lsm scan <DIR> [--from <KEY>] [--to <KEY>] [--prefix <KEY>] [--limit <N>] [--text] [--keys] [--json] [--count] [--strict] [--progress]",
         CommandName::Ingest => "lsm ingest <DIR> <FILE> [--text] [--begin] [--beside-log]",
         CommandName::Put => "lsm put <DIR> <KEY> <VALUE> [--text] [--begin] [--beside-log]",
         CommandName::Delete => "lsm delete <DIR> <KEY> [--text] [--begin] [--beside-log]",
         CommandName::Load =>
             "lsm load <DIR> [FILE] [--text] [--begin] [--beside-log] [--workers <N>] [--from-line <I>] [--progress]",
         CommandName::Compact =>
-            "lsm compact <DIR> [--all] [--from <KEY>] [--to <KEY>] [--text] [--workers <N>] [--progress]",
-        CommandName::Clean => "lsm clean <DIR>",
+            "lsm compact <DIR> [--all] [--from <KEY>] [--to <KEY>] [--text] [--workers <N>] [--accept-rest] [--progress]",
+        CommandName::Clean => "lsm clean <DIR> [--accept-rest]",
         CommandName::Shell => "lsm shell <DIR> [--text] [--begin] [--beside-log] [--workers <N>]",
         CommandName::Bench =>
             "lsm bench <DIR> [--benchmarks <LIST>] [--num <N>] [--value-size <N>] [--workers <N>]",

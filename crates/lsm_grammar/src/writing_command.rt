@@ -1,7 +1,7 @@
 //! What is asked of a directory that is written.
 
 use lsm_batch::Write;
-use lsm_requests::{IngestOptions, Input};
+use lsm_requests::{CleanOptions, IngestOptions, Input};
 
 /// A command that writes a directory.
 #[derive(Debug, Drop)]
@@ -11,5 +11,5 @@ pub enum WritingCommand<'a> {
     /// The batch of this one write comes in.
     WriteKey(Write, IngestOptions),
     /// The files that no version needs any more are removed.
-    Clean,
+    Clean(CleanOptions),
 }

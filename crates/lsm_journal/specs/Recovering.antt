@@ -46,6 +46,13 @@ abbrev pub IsEditRefusal : List ℕ → EditFault → Type 0
 IsEditRefusal bytes e = (records : List (List ℕ)) × (rest : ℕ) × IsLog bytes records rest
     × IsRecordRefusal records e
 
+-- the bytes are no log, or the log has a record that is no edit
+abbrev pub IsNoManifest : List ℕ → RecoverFault → Type 0
+IsNoManifest bytes (Shelf e) = ⊥
+IsNoManifest bytes (Log e) = log_view.Fails e (log_at bytes)
+IsNoManifest bytes (Edit e) = IsEditRefusal bytes e
+IsNoManifest bytes (Replay e) = ⊥
+
 -- the edits have this fault
 abbrev pub IsReplayRefusal : List ℕ → ReplayFault → Type 0
 IsReplayRefusal bytes e = (edits : List Change) × (rest : ℕ) × IsManifest bytes edits rest

@@ -1,10 +1,10 @@
 //! The manifest of a database that is there.
 
 ghost use Rattle.std.specs.Prelude.{◌≡◌, IfErr, IfOk, OnOk};
-ghost use Rattle.lsm_manifest.specs.Manifest.{AreEdits};
+ghost use Rattle.lsm_manifest.specs.Manifest.{AreEdits, IsManifest};
 ghost use Rattle.lsm_shelf.specs.Told.{Becomes, finding};
-ghost use Rattle.lsm_journal.specs.Recovering.{IsRecordRefusal, IsRecoverRefusal, IsRecovered};
-ghost use Rattle.lsm_journal.specs.Recovering.{RecoverCounted, SameCounts};
+ghost use Rattle.lsm_journal.specs.Recovering.{IsNoManifest, IsRecordRefusal, IsRecoverRefusal};
+ghost use Rattle.lsm_journal.specs.Recovering.{IsRecovered, RecoverCounted, SameCounts};
 
 use crate::journal::Journal;
 use crate::recover_fault::RecoverFault;
@@ -38,6 +38,17 @@ fn edits_of(alloc: Global, records: &[Bytes]) -> Result<Vec<Edit>, EditFault>
     Ok(edits)
 }
 
+/// The edits of a manifest, and how many bytes at its end hold no whole record. Its records are let
+/// go.
+fn edits_in(alloc: Global, bytes: &[u8]) -> Result<(Vec<Edit>, u64), RecoverFault>
+    ensures found { IfOk result (λ r. IsManifest bytes.now r.0.items r.1) }
+    ensures refused { IfErr result (IsNoManifest bytes.now) }
+{
+    let log = read_log(alloc, bytes)?;
+    let edits = edits_of(alloc, log.records.as_slice())?;
+    Ok((edits, log.rest))
+}
+
 impl Journal {
     /// Reads the manifest that the directory names, and what its edits come to. The limit is in
     /// bytes.
@@ -61,8 +72,7 @@ impl Journal {
         ensures counts_err { IfErr result (λ e. RecoverCounted e shelf.old shelf.new) }
     {
         let (number, bytes) = shelf.read_manifest(rt, alloc)?;
-        let log = read_log(alloc, &bytes)?;
-        let edits = edits_of(alloc, log.records.as_slice())?;
+        let (edits, rest) = edits_in(alloc, &bytes)?;
         let shape = replay(alloc, &edits)?;
         let journal = Journal {
             number,
@@ -74,7 +84,7 @@ impl Journal {
         Ok(Recovered {
             journal,
             shape,
-            rest: log.rest,
+            rest,
         })
     }
 }

@@ -5,7 +5,7 @@ use Rattle.lsm_codec.specs.Keys.{UserKey}
 use Rattle.lsm_batch.specs.declared.write.Write.{Write}
 use Rattle.lsm_lines.specs.Cuts.{IsCut, KeepEach, joined}
 use Rattle.lsm_lines.specs.LastWrites.{KeepsLast, last_write}
-use Rattle.lsm_lines.proofs.LastLaws.{last_write-append}
+use Rattle.lsm_batch.proofs.CallerLemmas.{last_write-append}
 
 each_last : (parts batches : List (List Write)) → KeepEach parts batches → (key : UserKey) → last_write key (joined batches) ≡ last_write key (joined parts)
 each_last [] [] h key = refl

@@ -1,7 +1,6 @@
 pub mod AheadLaws
 pub mod LineLaws
 pub mod BufferLaws
-pub mod LastLaws
 pub mod GatherLaws
 pub mod CutLaws
 pub mod PassLaws

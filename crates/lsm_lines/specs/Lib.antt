@@ -2,7 +2,6 @@
 pub mod Reading
 pub mod Pieces
 pub mod LastWrites
-pub mod Falling
 pub mod Buffering
 pub mod Gathering
 pub mod Filling

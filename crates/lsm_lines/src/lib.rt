@@ -6,7 +6,6 @@ mod ahead;
 mod line_reader;
 
 // Writes that are gathered.
-mod last_writes;
 mod write_buffer;
 
 // Lines as batches.

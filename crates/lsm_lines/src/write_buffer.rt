@@ -6,8 +6,7 @@ ghost use Rattle.lsm_batch.specs.Batches.{IsBatch, IsLarge, IsTooLarge, size_of}
 ghost use Rattle.lsm_lines.specs.Buffering.{IsPutRefusal};
 ghost use Rattle.lsm_lines.specs.LastWrites.{KeepsLast};
 
-use crate::last_writes::last_of_each;
-use lsm_batch::{Batch, MOST_BYTES, MOST_ENTRIES, Write};
+use lsm_batch::{Batch, MOST_BYTES, MOST_ENTRIES, Write, last_of_each};
 use std::alloc::{AllocError, Global};
 use std::marker::Model;
 

@@ -8,6 +8,7 @@ mod Limited
 mod PutBefore
 mod PutLaws
 mod Refused
+mod Rising
 mod Stepping
 mod StreamLaws
 mod Tickets

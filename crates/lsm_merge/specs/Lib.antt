@@ -13,3 +13,4 @@ pub mod Remembered
 pub mod Work
 -- What private functions and proofs cite alone
 pub mod Compacting
+pub mod Rows

@@ -29,6 +29,7 @@ use crate::job::Job;
 use crate::merge_fault::{InputFault, MergeFault};
 use crate::number_source::NumberSource;
 use crate::outputs::Outputs;
+use crate::rows::Rows;
 use crate::stream::Stream;
 use lsm_model::laws::streaming_keeps_the_kept;
 use lsm_table::{NamedShelf, Naming, Registry, Shelf};
@@ -43,10 +44,12 @@ fn step<N: Naming, S: Shelf, R: Wait, D: NumberSource>(
     shelf: &mut NamedShelf<N, S>,
     registry: &Registry<N, S>,
     job: &Job<N, S>,
+    ranges: &Rows<'_>,
     numbers: &mut D,
     outputs: &mut Outputs<N, S>,
     stream: &mut Stream<N, S>,
 ) -> Result<(), MergeFault>
+    requires ranges { ranges.now ≡ job.now.ranges }
     requires ready { D.ready numbers.old }
     requires good { AreGood outputs.old }
     requires some { no_more stream.old.left.placed ≡ false }
@@ -90,7 +93,7 @@ fn step<N: Naming, S: Shelf, R: Wait, D: NumberSource>(
     outputs.tell_order();
     let floor = job.floor();
     let shadowed = stream.shadows(floor, &key);
-    let kept = is_kept(shadowed, floor, job.ranges(), &key);
+    let kept = is_kept(shadowed, floor, ranges, &key);
     outputs.take(rt, shelf, registry, numbers, kept, &key, stream.value())?;
     stream.pass(shelf, alloc)
 }
@@ -137,6 +140,9 @@ fn merge<N: Naming, S: Shelf, R: Wait, D: NumberSource>(
     streaming_keeps_the_kept();
     // What holds of the job is told by this call.
     let _ticket = job.ticket();
+    let Ok(ranges) = Rows::of(alloc, job.ranges()) else {
+        return Err(MergeFault::OutOfMemory);
+    };
     let mut stream = open_stream(shelf, alloc, registry, job)?;
     'entries: for _ in rt.forever() {
         if stream.is_at_end() {
@@ -148,6 +154,7 @@ fn merge<N: Naming, S: Shelf, R: Wait, D: NumberSource>(
             shelf,
             registry,
             job,
+            &ranges,
             numbers,
             outputs,
             &mut stream,

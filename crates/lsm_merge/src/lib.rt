@@ -16,6 +16,7 @@ mod sameness;
 mod compaction;
 mod dropping;
 mod inputs;
+mod rows;
 mod stream;
 
 // Outputs, each under a number of its own.

@@ -10,6 +10,8 @@ pub struct DirectoryLine<'a> {
     pub command: DirectoryCommand,
     /// How keys and values are spelled: `Text` where there is `--text`.
     pub form: Form,
+    /// Whether it is refused where it would note what is not read: where there is `--strict`.
+    pub strict: bool,
     /// Whether it is to say on standard error how far it is: where there is `--progress`.
     pub progress: bool,
 }

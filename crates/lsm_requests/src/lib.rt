@@ -19,6 +19,7 @@ mod scan_options;
 mod scan_output;
 
 // Of one that is written.
+mod clean_options;
 mod compact_line;
 mod compact_options;
 mod compact_range;
@@ -32,6 +33,7 @@ mod benchmark;
 
 pub use bench_options::BenchOptions;
 pub use benchmark::Benchmark;
+pub use clean_options::CleanOptions;
 pub use compact_line::CompactLine;
 pub use compact_options::CompactOptions;
 pub use compact_range::CompactRange;

@@ -1,6 +1,9 @@
 //! The program `lsm_server`: a database of the system's, served over channels.
 #![tactic(auto)]
 
+mod descriptor_wire;
+mod log;
+mod opens;
 mod system_descriptors;
 
 use crate::system_descriptors::SystemDescriptors;
@@ -16,6 +19,6 @@ fn main(rt: HostRuntime) {
         return;
     };
     let paths = SystemPaths::<Mute>::new(paths);
-    let descriptors = SystemDescriptors::new(files);
-    serve_opening(&rt, &paths, &descriptors);
+    let mut descriptors = SystemDescriptors::new(files);
+    let _run = serve_opening(&rt, &paths, &mut descriptors);
 }

@@ -1,6 +1,10 @@
 //! The descriptors of this process.
 
-use lsm_channels::Descriptors;
+ghost use Rattle.std.specs.Prelude.{◌≡◌, []};
+
+use crate::descriptor_wire::DescriptorWire;
+use crate::opens::Opens;
+use lsm_wire::Descriptors;
 use std::fs;
 
 /// A process has fewer files open than this. Numbers from here on are channels in memory, where the
@@ -11,15 +15,25 @@ const PAST_FILES: i32 = 1_000_000;
 #[derive(Drop)]
 pub(crate) struct SystemDescriptors {
     files: HostRuntime,
+    opens: Opens,
 }
 
 impl SystemDescriptors {
-    pub(crate) fn new(files: HostRuntime) -> SystemDescriptors {
-        SystemDescriptors { files }
+    pub(crate) fn new(files: HostRuntime) -> SystemDescriptors
+        ensures { result.opens.opened ≡ [] }
+    {
+        SystemDescriptors {
+            files,
+            opens: Opens::empty(),
+        }
     }
 }
 
 impl Descriptors for SystemDescriptors {
+    type Wire = DescriptorWire;
+
+    ghost opened = { λ d. d.opens.opened };
+
     fn is_open(&self, fd: i32) -> bool {
         if fd >= PAST_FILES {
             return true;
@@ -28,5 +42,10 @@ impl Descriptors for SystemDescriptors {
             return false;
         };
         matches!(fs::exists(&self.files, path.as_str()), Ok(true))
+    }
+
+    fn wire(&mut self, fd: i32) -> DescriptorWire {
+        self.opens.add(fd);
+        DescriptorWire::of(fd)
     }
 }

@@ -1,5 +1,5 @@
 -- The numbers that are kept.
-use Rattle.std.proofs.Common.{◌≡◌, ℕ, zero, suc, ◌<◌, ◌≤◌, ◌==◌, Option, Some, None, List, [], ◌∷◌, ◌++◌, length, get_or, map, refl, sym, ap, ◌∙◌, subst, inl, inr, arith}
+use Rattle.std.proofs.Common.{◌≡◌, ℕ, zero, suc, true, false, ◌<◌, ◌≤◌, ◌==◌, Option, Some, None, List, [], ◌∷◌, ◌++◌, length, get_or, map, refl, sym, ap, ◌∙◌, subst, inl, inr, arith}
 use Rattle.std.specs.Prelude.{◌↔◌, Result, Ok, Err, IfOk, IfSome, is_ok, slice_get, slice_set}
 use Rattle.std.specs.List.Sorted.{IsBinarySearchResult, IsStrictlyIncreasing}
 use Rattle.std.specs.Ordering.{nat_cmp}
@@ -150,3 +150,13 @@ pub kept_if : {V E : Type 0} (items : V → List ℕ) (h : Held) (held : Option 
 kept_if items h held (Ok (Some v)) m = λ n k. version_kept h m.0 n m.2 m.4 (subst (λ ns. Has ns n) m.6 k)
 kept_if items h held (Ok None) m = m
 kept_if items h held (Err e) m = m
+
+-- ---- a number among the kept ones
+
+pub among_kept : (h : Held) (kept : List ℕ) (n : ℕ) → ((m : ℕ) → Has kept m ↔ IsKeptNumber h m) → is_in kept n ≡ true → IsKeptNumber h n
+among_kept h kept n are found =
+    (let a = any_says (λ m. m == n) kept found in let same : a.0 ≡ n = eqb-true a.0 n a.2 in (are n).0 (subst (λ m. Has kept m) same a.1))
+
+pub not_among_kept : (h : Held) (kept : List ℕ) (n : ℕ) → ((m : ℕ) → Has kept m ↔ IsKeptNumber h m) → is_in kept n ≡ false → IsKeptNumber h n → ⊥
+not_among_kept h kept n are none k =
+    (let found : is_in kept n ≡ true = any_at (λ m. m == n) kept n ((are n).1 k) (eq-eqb n n refl) in absurd (cc))

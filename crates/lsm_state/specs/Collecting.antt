@@ -7,6 +7,7 @@ use Rattle.lsm_model.specs.Files.{File}
 use Rattle.lsm_version.specs.Versions.{files}
 use Rattle.lsm_shelf.specs.Asked.{Asked, Remove}
 use Rattle.lsm_shelf.specs.Told.{Told, Becomes, Counted, CountedBy, NotTaken, listing}
+use Rattle.lsm_shelf.specs.Told.{removed_by, removing}
 use Rattle.lsm_shelf.specs.declared.shelf_fault.ShelfFault.{ShelfFault}
 use Rattle.lsm_shelf.specs.declared.shelf_fault.ShelfFault.TheVariants as shelf
 use Rattle.lsm_slots.specs.Slots.{Epoch, HasEpoch, Looked, looks_around, looks_of}
@@ -104,3 +105,18 @@ IsCollectRefusal old new e removed was is =
     ((e ≡ Halted) × (old.halted ≡ true) × (new ≡ old) × (removed ≡ []) × Becomes was is)
     ⊎ ((old.halted ≡ false) × HasLookedAround old new × StoppedEarly new removed was is
     × IsMemoryOrShelf e was is)
+
+-- One table was removed, which is not kept; or it is kept, and stays.
+abbrev pub IsRemovedOrKept : Held → (number : ℕ) → (removed : Bool) → Told → Told → Type 0
+IsRemovedOrKept h number true was is =
+    (IsKeptNumber h number → ⊥) × Becomes (removing number was) is
+IsRemovedOrKept h number false was is = IsKeptNumber h number × (is ≡ was)
+
+-- Why one table is not removed: the state is halted; or memory was wanted; or the shelf refused.
+abbrev pub IsRemoveRefusal : Held → (number : ℕ) → StateFault → Told → Told → Type 0
+IsRemoveRefusal h number Halted was is = (h.halted ≡ true) × (is ≡ was)
+IsRemoveRefusal h number OutOfMemory was is = (h.halted ≡ false) × (is ≡ was)
+IsRemoveRefusal h number (Shelf fault) was is = (h.halted ≡ false) × (IsKeptNumber h number → ⊥)
+    × Becomes (removed_by {T = Unit {0}} (Err fault) number was) is
+    × CountedBy {T = Unit {0}} (Err fault) was is
+IsRemoveRefusal h number e was is = ⊥

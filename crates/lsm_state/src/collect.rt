@@ -22,14 +22,14 @@ use std::alloc::Global;
 use std::sync::Wait;
 
 // Whether a number is one of ascending ones.
-fn is_among(numbers: &[u64], number: u64) -> bool
+pub(crate) fn is_among(numbers: &[u64], number: u64) -> bool
     ensures { IsStrictlyIncreasing numbers.now → result ≡ is_in numbers.now number }
 {
     numbers.binary_search(&number).is_ok()
 }
 
 // The numbers that are not kept. Those that are ascend.
-fn keep_outside(numbers: &mut Vec<u64>, kept: &[u64])
+pub(crate) fn keep_outside(numbers: &mut Vec<u64>, kept: &[u64])
     requires { IsStrictlyIncreasing kept.now }
     ensures { numbers.new.items ≡ outside kept.now numbers.old.items }
 {

@@ -69,6 +69,7 @@ mod reads;
 // What is kept, and what is removed.
 mod collect;
 mod listing;
+mod unkept;
 
 pub use ingest::Ingested;
 pub use lsm_journal::OpenFault;

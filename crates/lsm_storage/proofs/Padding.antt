@@ -1,15 +1,15 @@
 -- Numbers with zeros in front.
-use Rattle.std.proofs.Common.{◌≡◌, ℕ, ◌-◌, ◌<◌, List, [], ◌∷◌, ◌++◌, length, refl, ap, ◌∙◌, arith, ◌^◌, rules, length-append, zero, suc}
+use Rattle.std.proofs.Common.{◌≡◌, ℕ, ◌-◌, ◌<◌, ◌≤◌, List, [], ◌∷◌, ◌++◌, length, refl, sym, subst, ap, ◌∙◌, arith, ◌^◌, rules, length-append, zero, suc}
 use Rattle.std.specs.Prelude.{decimal, false, replicate, Result, Ok, codes}
 use Rattle.std.specs.Fmt.{padded_integral, format_spec, char_count}
 use Rattle.std.specs.Str.{IsAscii}
 use Rattle.std.specs.Str.Parse.{AllDigits, digits_value, ParsesUnsigned}
-use Rattle.std.proofs.lemmas.Fmt.{decimal_is_IsNumeral, decimal_nonempty, IsAscii-from_digits}
-use Rattle.std.proofs.lemmas.List.{append-nil}
+use Rattle.std.proofs.lemmas.Fmt.{decimal_is_IsNumeral, decimal_nonempty, IsAscii-from_digits, length-decimal-le}
+use Rattle.std.proofs.lemmas.List.{append-nil, length-replicate}
 use Rattle.std.proofs.lemmas.Str.Parse.{IsNumeralModel, numerals_by_value, tells_digits, parse_gives}
 use Rattle.std.proofs.lemmas.Str.{IsAscii-append}
 use Rattle.std.proofs.lemmas.Str.Ascii.{IsAscii-nil, IsAscii-cons, IsAscii-from_all}
-use Rattle.lsm_storage.specs.FileNames.{padded, manifest_name, current_text}
+use Rattle.lsm_storage.specs.FileNames.{padded, manifest_name, current_text, longest_current}
 
 short : (n : ℕ) → 6 - n - 0 - 0 ≡ 6 - n
 short n = omega arith
@@ -49,3 +49,13 @@ current_text-is_ascii n small =
     IsAscii-append (manifest_name n) (10 ∷ []) (IsAscii-append (codes "MANIFEST-") (padded n)
     (IsAscii-from_all (codes "MANIFEST-") (search rules)) (IsAscii-from_digits (padded n) (all_digits-padded n small)))
     (IsAscii-cons 10 [] (omega arith) IsAscii-nil)
+
+-- no number has more than 20 digits
+pub length-current_text : (n : ℕ) → n < 2 ^ 64 → length (current_text n) ≤ longest_current
+length-current_text n small =
+    let zeros : length (replicate (6 - length (decimal n)) 48) ≡ 6 - length (decimal n) = length-replicate {A = ℕ} (6 - length (decimal n)) 48 in
+    let digits : length (decimal n) ≤ 20 = length-decimal-le 20 n (omega arith) (omega arith) small in
+    omega (arith, length-append (manifest_name n) (10 ∷ []), length-append (codes "MANIFEST-") (padded n), length-append (replicate (6 - length (decimal n)) 48) (decimal n), zeros, digits)
+
+pub length-is_current : (n : ℕ) (bytes : List ℕ) → n < 2 ^ 64 → bytes ≡ current_text n → length bytes ≤ longest_current
+length-is_current n bytes small is = subst (λ (b : List ℕ). length b ≤ longest_current) (sym is) (length-current_text n small)

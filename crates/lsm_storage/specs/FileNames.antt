@@ -19,6 +19,10 @@ temporary_name n = padded n ++ codes ".dbtmp"
 abbrev pub current_text : ℕ → List ℕ
 current_text n = manifest_name n ++ 10 ∷ []
 
+-- no text of `CURRENT` that names a manifest has more bytes
+abbrev pub longest_current : ℕ
+longest_current = 30
+
 -- the number, or none, of which the text is the spelling
 abbrev pub IsNumberOf : (spell : ℕ → List ℕ) (text : List ℕ) → Option ℕ → Type 0
 IsNumberOf spell text o = (n : ℕ)

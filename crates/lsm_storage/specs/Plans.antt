@@ -107,7 +107,8 @@ ListStopped e old new = Unlisted e old new
 abbrev pub current_read : Result (List ℕ) FolderFault → List Call → List Call
 current_read answer calls = loaded (codes "CURRENT") answer ∷ calls
 
--- the folder refused to read `CURRENT`; it is `Missing` just where `CURRENT` is not there
+-- the folder refused to read `CURRENT`; it is `Missing` just where `CURRENT` is not there, or
+-- longer than each text that names a manifest
 abbrev pub CurrentUnread : ShelfFault → (old new : List Call) → Type 0
 CurrentUnread e old new = (fault : FolderFault) × (new ≡ current_read (Err fault) old)
     × (e ≡ missing_of fault)

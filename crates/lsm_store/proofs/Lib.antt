@@ -9,3 +9,4 @@ pub mod SeatLaws
 pub mod Sending
 pub mod WorkerLaws
 pub mod WorkingLaws
+pub mod SweepLaws

@@ -13,7 +13,7 @@ use Rattle.lsm_table.specs.declared.read_fault.ReadFault.TheVariants as read
 use Rattle.lsm_merge.specs.Causes.{HasCause}
 use Rattle.lsm_merge.specs.Inputs.{input_numbers}
 use Rattle.lsm_merge.specs.Outputs.{going, putting_all}
-use Rattle.lsm_merge.specs.Work.{Done, puts_by}
+use Rattle.lsm_merge.specs.Work.{Done, Work, puts_by}
 use Rattle.lsm_merge.specs.declared.merge_fault.InputFault.TheVariants.{Read, OutOfOrder}
 use Rattle.lsm_merge.specs.declared.merge_fault.OutputFault.TheVariants as output
 use Rattle.lsm_merge.specs.declared.merge_fault.MergeFault.{MergeFault}
@@ -26,7 +26,9 @@ use Rattle.lsm_state.specs.Held.{Held}
 use Rattle.lsm_state.specs.Installing.{IsInstallRefusal}
 use Rattle.lsm_state.specs.declared.state_fault.StateFault.{StateFault}
 use Rattle.lsm_state.specs.declared.state_fault.StateFault.TheVariants as state
-use Rattle.lsm_store.specs.Working.{AreReturned, IsCounted, IsCountedIf, IsLast, IsPutOrSent, IsRefusedBy, IsReturned, IsTaken, IsTurn, IsWorked, OnlyPutsAndSends, Turns}
+use Rattle.lsm_store.specs.Picking.{IsPickedUnder}
+use Rattle.lsm_store.specs.Working.{AreReturned, Given, IsCounted, IsCountedIf, IsDone, IsLast, IsPutOrSent, IsRefusedBy, IsReturned, IsStoppedBy, IsTaken, IsTurn, IsWorked, OnlyPutsAndSends, Turns, given_each, given_one}
+use Rattle.lsm_store.specs.declared.picks.Picks.{Picks}
 use Rattle.lsm_store.specs.declared.worker_end.WorkerEnd.{WorkerEnd}
 use Rattle.lsm_store.specs.declared.worker_fault.WorkerFault.{WorkerFault}
 use Rattle.lsm_store.specs.declared.worker_fault.WorkerFault.TheVariants.{NoThread, State, Merge}
@@ -148,27 +150,27 @@ only_taken keeps d was is t =
     let i = t.takes.installed in
     only_sent i.change (changed_by i.change i.slots.version) t.old.next t.new.next t.old.journal t.new.journal was is i.changes.sends
 
-only_turn : (Honest : Type 0) (keeps : Held → Type 0) (was is : Told) → IsTurn Honest keeps was is → OnlyPutsAndSends was is
-only_turn Honest keeps was is t = only_then was t.put is (only_put (puts_by t.result) was t.put t.merged.told) (only_taken keeps t.result t.put is t.taken)
+only_done : (Honest : Type 0) (keeps : Held → Type 0) (work : Work) (was is : Told) → IsDone Honest keeps work was is → OnlyPutsAndSends was is
+only_done Honest keeps work was is t = only_then was t.put is (only_put (puts_by t.result) was t.put t.merged.told) (only_taken keeps t.result t.put is t.taken)
 
-pub only_turns : (Honest : Type 0) (keeps : Held → Type 0) (count : ℕ) (was is : Told) → Turns Honest keeps count was is → OnlyPutsAndSends was is
-only_turns Honest keeps zero was is e = subst (λ (t : Told). OnlyPutsAndSends was t) (sym e) (only_none was)
-only_turns Honest keeps (suc count) was is t = only_then was t.0 is (only_turns Honest keeps count was t.0 t.1) (only_turn Honest keeps t.0 is t.2)
+pub only_turns : (Honest : Type 0) (keeps : Held → Type 0) (picks : Picks) (count : ℕ) (was is : Told) → Turns Honest keeps picks count was is → OnlyPutsAndSends was is
+only_turns Honest keeps picks zero was is e = subst (λ (t : Told). OnlyPutsAndSends was t) (sym e) (only_none was)
+only_turns Honest keeps picks (suc count) was is t = only_then was t.0 is (only_turns Honest keeps picks count was t.0 t.1) (only_done Honest keeps t.2.work t.0 is t.2.done)
 
-only_last : (Honest : Type 0) (Refused : Asked → ShelfFault → Type 0) (keeps : Held → Type 0) (fault : Option WorkerFault) (was is : Told)
-    → IsLast Honest Refused keeps fault was is → OnlyPutsAndSends was is
-only_last Honest Refused keeps None was is l = subst (λ (t : Told). OnlyPutsAndSends was t) (sym l) (only_none was)
-only_last Honest Refused keeps (Some NoThread) was is l = absurd l
-only_last Honest Refused keeps (Some (State fault)) was is l = elim l [
+only_last : (Honest : Type 0) (Refused : Asked → ShelfFault → Type 0) (keeps : Held → Type 0) (given : Given) (fault : Option WorkerFault) (was is : Told)
+    → IsLast Honest Refused keeps given fault was is → OnlyPutsAndSends was is
+only_last Honest Refused keeps given None was is l = subst (λ (t : Told). OnlyPutsAndSends was t) (sym l.0) (only_none was)
+only_last Honest Refused keeps given (Some NoThread) was is l = absurd l
+only_last Honest Refused keeps given (Some (State fault)) was is l = elim l [
   | inl r ↦ subst (λ (t : Told). OnlyPutsAndSends was t) (sym r.1) (only_none was)
   | inr r ↦ only_then was r.1 is (only_put (puts_by r.0) was r.1 r.2.told) (only_becomes r.1 is r.3.leaves.unsent)
 ]
-only_last Honest Refused keeps (Some (Merge fault)) was is l = only_put l.told.tables was is l.told.told
+only_last Honest Refused keeps given (Some (Merge fault)) was is l = only_put l.told.tables was is l.told.told
 
-pub only_worked : (Honest : Type 0) (Refused : Asked → ShelfFault → Type 0) (keeps : Held → Type 0) (given : Told) (e : WorkerEnd) (back : Told)
-    → IsWorked Honest Refused keeps given e back → OnlyPutsAndSends given back
+pub only_worked : (Honest : Type 0) (Refused : Asked → ShelfFault → Type 0) (keeps : Held → Type 0) (given : Given) (e : WorkerEnd) (back : Told)
+    → IsWorked Honest Refused keeps given e back → OnlyPutsAndSends given.shelf back
 only_worked Honest Refused keeps given e back w =
-    only_then given w.mid back (only_turns Honest keeps w.turns given w.mid w.done) (only_last Honest Refused keeps e.fault w.mid back w.last)
+    only_then given.shelf w.mid back (only_turns Honest keeps given.picks w.turns given.shelf w.mid w.done) (only_last Honest Refused keeps given e.fault w.mid back w.last)
 
 -- ---- faults of the shelf
 
@@ -223,35 +225,50 @@ state_counted Honest Refused keeps state.SlotsHeld a b c p r = tt
 state_counted Honest Refused keeps state.VersionsSpent a b c p r = tt
 state_counted Honest Refused keeps state.PinsSpent a b c p r = tt
 
-last_counted : (Honest : Type 0) (Refused : Asked → ShelfFault → Type 0) (keeps : Held → Type 0) (fault : Option WorkerFault) (a b c : Told) → NoFewer a b
-    → IsLast Honest Refused keeps fault b c → IsCountedIf fault a c
-last_counted Honest Refused keeps None a b c p l = tt
-last_counted Honest Refused keeps (Some NoThread) a b c p l = tt
-last_counted Honest Refused keeps (Some (State fault)) a b c p l = state_counted Honest Refused keeps fault a b c p l
-last_counted Honest Refused keeps (Some (Merge fault)) a b c p l = merge_counted (input_numbers l.work) fault a b c p l.cause
+last_counted : (Honest : Type 0) (Refused : Asked → ShelfFault → Type 0) (keeps : Held → Type 0) (given : Given) (fault : Option WorkerFault) (a b c : Told) → NoFewer a b
+    → IsLast Honest Refused keeps given fault b c → IsCountedIf fault a c
+last_counted Honest Refused keeps given None a b c p l = tt
+last_counted Honest Refused keeps given (Some NoThread) a b c p l = tt
+last_counted Honest Refused keeps given (Some (State fault)) a b c p l = state_counted Honest Refused keeps fault a b c p l
+last_counted Honest Refused keeps given (Some (Merge fault)) a b c p l = merge_counted (input_numbers l.work) fault a b c p l.cause
 
-pub worked_counted : (Honest : Type 0) (Refused : Asked → ShelfFault → Type 0) (keeps : Held → Type 0) (given : Told) (e : WorkerEnd) (back : Told)
-    → IsWorked Honest Refused keeps given e back → IsCountedIf e.fault given back
+pub worked_counted : (Honest : Type 0) (Refused : Asked → ShelfFault → Type 0) (keeps : Held → Type 0) (given : Given) (e : WorkerEnd) (back : Told)
+    → IsWorked Honest Refused keeps given e back → IsCountedIf e.fault given.shelf back
 worked_counted Honest Refused keeps given e back w =
-    let only = only_turns Honest keeps w.turns given w.mid w.done in
-    last_counted Honest Refused keeps e.fault given w.mid back (only.faults, only.misses) w.last
+    let only = only_turns Honest keeps given.picks w.turns given.shelf w.mid w.done in
+    last_counted Honest Refused keeps given e.fault given.shelf w.mid back (only.faults, only.misses) w.last
 
 -- ---- one worker more
 
 pub one_turn_more : (installed installed' count : ℕ) → installed ≡ min count (2 ^ 64 - 1) → installed' ≡ min (installed + 1) (2 ^ 64 - 1) → installed' ≡ min (suc count) (2 ^ 64 - 1)
 one_turn_more installed installed' count before after = omega (arith, before, after)
 
-pub returned_more : (Honest : Type 0) (Refused : Asked → ShelfFault → Type 0) (keeps : Held → Type 0) (ts : List Told) (rs : List (WorkerEnd × Option Told)) (t : Told)
+pub returned_more : (Honest : Type 0) (Refused : Asked → ShelfFault → Type 0) (keeps : Held → Type 0) (ts : List Given) (rs : List (WorkerEnd × Option Told)) (t : Given)
     (r : WorkerEnd × Option Told) → AreReturned Honest Refused keeps ts rs → IsReturned Honest Refused keeps t r.0 r.1 → AreReturned Honest Refused keeps (ts ++ t ∷ []) (rs ++ r ∷ [])
 returned_more Honest Refused keeps [] [] t r all one = (one, tt)
 returned_more Honest Refused keeps [] (q ∷ rs) t r all one = absurd all
 returned_more Honest Refused keeps (s ∷ ts) [] t r all one = absurd all
 returned_more Honest Refused keeps (s ∷ ts) (q ∷ rs) t r all one = (all.0, returned_more Honest Refused keeps ts rs t r all.1 one)
 
-pub returned_more_in : (Honest : Type 0) (Refused : Asked → ShelfFault → Type 0) (keeps : Held → Type 0) (ts : List Told) (rs rs' : List (WorkerEnd × Option Told)) (t : Told)
+pub returned_more_in : (Honest : Type 0) (Refused : Asked → ShelfFault → Type 0) (keeps : Held → Type 0) (ts : List Given) (rs rs' : List (WorkerEnd × Option Told)) (t : Given)
     (r : WorkerEnd × Option Told) → rs' ≡ rs ++ r ∷ [] → AreReturned Honest Refused keeps ts rs → IsReturned Honest Refused keeps t r.0 r.1 → AreReturned Honest Refused keeps (ts ++ t ∷ []) rs'
 returned_more_in Honest Refused keeps ts rs rs' t r push all one =
     subst (λ (xs : List (WorkerEnd × Option Told)). AreReturned Honest Refused keeps (ts ++ t ∷ []) xs) (sym push) (returned_more Honest Refused keeps ts rs t r all one)
+
+-- ---- what workers are given
+
+-- each of the front, and the last one
+pub given_last : (picks : Picks) (to_the_end : Bool) (all front : List Told) (t : Told) → all ≡ front ++ t ∷ []
+    → given_each picks to_the_end all ≡ given_each picks to_the_end front ++ given_one picks to_the_end t ∷ []
+given_last picks to_the_end all front t e = ap (given_each picks to_the_end) e ∙ map-append (given_one picks to_the_end) front (t ∷ [])
+
+pub same_given : (p q : Picks) (a b : Bool) (t u : Told) → p ≡ q → a ≡ b → t ≡ u → given_one p a t ≡ given_one q b u
+same_given p q a b t u e f g = cc
+
+-- a job that was picked and was done is a compaction
+pub turned : (Honest : Type 0) (keeps : Held → Type 0) (picks : Picks) (work : Work) (was is : Told) → (Honest → IsPickedUnder keeps picks (Some work)) → IsDone Honest keeps work was is
+    → IsTurn Honest keeps picks was is
+turned Honest keeps picks work was is picked done = record { work = work; picked = picked; done = done }
 
 -- ---- outcomes
 

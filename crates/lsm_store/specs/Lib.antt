@@ -1,10 +1,10 @@
 -- What public clauses cite, and so what a caller reads
 pub mod Background
 pub mod Compacting
+pub mod Picking
 pub mod Promised
 pub mod Readers
+pub mod Sweeping
 pub mod WorkerFault
 pub mod Workers
 pub mod Working
--- What private functions and proofs cite alone
-pub mod Picking

@@ -1,7 +1,7 @@
 -- What a worker does with its shelf, and what its shelf was told when it ends (this project's
 -- rule).
-use Rattle.std.specs.Prelude.{◌≡◌, ℕ, zero, suc, ◌-◌, ◌^◌, ◌≤◌, min, ◌⊎◌, List, [], ◌∷◌, ◌++◌}
-use Rattle.std.specs.Prelude.{Option, None, Some}
+use Rattle.std.specs.Prelude.{◌≡◌, ℕ, zero, suc, ◌-◌, ◌^◌, ◌≤◌, min, ◌⊎◌, List, [], ◌∷◌, ◌++◌, map}
+use Rattle.std.specs.Prelude.{Bool, true, Option, None, Some}
 use Rattle.lsm_codec.specs.Lists.{Has}
 use Rattle.lsm_shelf.specs.Asked.{Asked, Put, StartManifest, AppendManifest}
 use Rattle.lsm_shelf.specs.Told.{Told, Becomes, Counted}
@@ -21,10 +21,27 @@ use Rattle.lsm_state.specs.Held.{Held}
 use Rattle.lsm_state.specs.Installing.{Installed, IsInstallRefusal, MayInstall}
 use Rattle.lsm_state.specs.declared.state_fault.StateFault.{StateFault}
 use Rattle.lsm_state.specs.declared.state_fault.StateFault.TheVariants as state
+use Rattle.lsm_store.specs.Picking.{IsPickedUnder}
 use Rattle.lsm_store.specs.Workers.{IsOfReserving}
+use Rattle.lsm_store.specs.declared.picks.Picks.{Picks}
 use Rattle.lsm_store.specs.declared.worker_end.WorkerEnd.{WorkerEnd}
 use Rattle.lsm_store.specs.declared.worker_fault.WorkerFault.{WorkerFault}
 use Rattle.lsm_store.specs.declared.worker_fault.WorkerFault.TheVariants.{NoThread, State, Merge}
+
+-- ---- what a worker is given
+
+-- its shelf, as it was told; which jobs it gets; and whether it goes on until there is none
+pub record Given : Type 0 where
+  pub shelf : Told
+  pub picks : Picks
+  pub to_the_end : Bool
+
+abbrev pub given_one : Picks → Bool → Told → Given
+given_one picks to_the_end t = record { shelf = t; picks = picks; to_the_end = to_the_end }
+
+-- so with each of these shelves
+abbrev pub given_each : Picks → Bool → List Told → List Given
+given_each picks to_the_end ts = map (λ t. given_one picks to_the_end t) ts
 
 -- ---- one compaction
 
@@ -47,18 +64,31 @@ pub record IsTaken (keeps : Held → Type 0) (d : Done) (was is : Told) : Type 0
   pub kept : ∥ keeps old ∥₁
   pub takes : TakesIn old new d was is
 
--- One compaction: a job was finished, and its result installed.
-pub record IsTurn (Honest : Type 0) (keeps : Held → Type 0) (was is : Told) : Type 0 where
+-- A job was finished, and its result installed.
+pub record IsDone (Honest : Type 0) (keeps : Held → Type 0) (work : Work) (was is : Told)
+    : Type 0 where
   pub result : Done
+  pub its : result.work ≡ work
   pub put : Told
   pub merged : IsMerged Honest result was put
   pub taken : IsTaken keeps result put is
 
+-- One compaction: a job that a worker who picks so gets was finished, and its result installed.
+pub record IsTurn (Honest : Type 0) (keeps : Held → Type 0) (picks : Picks) (was is : Told)
+    : Type 0 where
+  pub work : Work
+  pub picked : Honest → IsPickedUnder keeps picks (Some work)
+  pub done : IsDone Honest keeps work was is
+
 -- so many compactions, one after another
-abbrev pub Turns : Type 0 → (Held → Type 0) → ℕ → Told → Told → Type 0
-Turns Honest keeps zero was is = is ≡ was
-Turns Honest keeps (suc count) was is =
-    (mid : Told) × Turns Honest keeps count was mid × IsTurn Honest keeps mid is
+abbrev pub Turns : Type 0 → (Held → Type 0) → Picks → ℕ → Told → Told → Type 0
+Turns Honest keeps picks zero was is = is ≡ was
+Turns Honest keeps picks (suc count) was is =
+    (mid : Told) × Turns Honest keeps picks count was mid × IsTurn Honest keeps picks mid is
+
+-- there was no job for a worker who picks so
+abbrev pub FindsNone : Type 0 → (Held → Type 0) → Picks → Type 0
+FindsNone Honest keeps picks = Honest → IsPickedUnder keeps picks None
 
 -- ---- what ends a worker
 
@@ -96,35 +126,42 @@ IsRefusedBy Honest Refused keeps e was is =
     ⊎ ((d : Done) × (put : Told) × IsMerged Honest d was put
     × IsUntaken Refused keeps d e put is)
 
--- Why a worker with a thread ended, after its last compaction: nothing was left to reserve; or a
--- compaction was refused.
-abbrev pub IsLast : Type 0 → (Asked → ShelfFault → Type 0) → (Held → Type 0) → Option WorkerFault
+-- The refusal that ended a worker with a thread, after its last compaction.
+abbrev pub IsStoppedBy : Type 0 → (Asked → ShelfFault → Type 0) → (Held → Type 0) → WorkerFault
     → Told → Told → Type 0
-IsLast Honest Refused keeps None was is = is ≡ was
-IsLast Honest Refused keeps (Some NoThread) was is = ⊥
-IsLast Honest Refused keeps (Some (State fault)) was is =
+IsStoppedBy Honest Refused keeps NoThread was is = ⊥
+IsStoppedBy Honest Refused keeps (State fault) was is =
     IsRefusedBy Honest Refused keeps fault was is
-IsLast Honest Refused keeps (Some (Merge fault)) was is = IsUnmerged Honest fault was is
+IsStoppedBy Honest Refused keeps (Merge fault) was is = IsUnmerged Honest fault was is
+
+-- Why a worker with a thread ended, after its last compaction: a refusal; or none, and where it was
+-- to go on to the end, it found no job.
+abbrev pub IsLast : Type 0 → (Asked → ShelfFault → Type 0) → (Held → Type 0) → Given
+    → Option WorkerFault → Told → Told → Type 0
+IsLast Honest Refused keeps given None was is =
+    (is ≡ was) × (given.to_the_end ≡ true → FindsNone Honest keeps given.picks)
+IsLast Honest Refused keeps given (Some fault) was is =
+    IsStoppedBy Honest Refused keeps fault was is
 
 -- A worker ended with this shelf: it did as many compactions as it says, one after another, and
 -- then what ended it; and its shelf was told no more.
 pub record IsWorked (Honest : Type 0) (Refused : Asked → ShelfFault → Type 0) (keeps : Held
-    → Type 0) (given : Told) (e : WorkerEnd) (back : Told) : Type 0 where
+    → Type 0) (given : Given) (e : WorkerEnd) (back : Told) : Type 0 where
   pub turns : ℕ
   pub counted : e.installed ≡ min turns (2 ^ 64 - 1)
   pub mid : Told
-  pub done : Turns Honest keeps turns given mid
-  pub last : IsLast Honest Refused keeps e.fault mid back
+  pub done : Turns Honest keeps given.picks turns given.shelf mid
+  pub last : IsLast Honest Refused keeps given e.fault mid back
 
 -- What comes back of a shelf that was given to a worker: nothing where its thread could not be
 -- made, and it has done nothing; else the shelf that it ended with.
-abbrev pub IsReturned : Type 0 → (Asked → ShelfFault → Type 0) → (Held → Type 0) → Told → WorkerEnd
-    → Option Told → Type 0
+abbrev pub IsReturned : Type 0 → (Asked → ShelfFault → Type 0) → (Held → Type 0) → Given
+    → WorkerEnd → Option Told → Type 0
 IsReturned Honest Refused keeps given e None = (e.installed ≡ 0) × (e.fault ≡ Some NoThread)
 IsReturned Honest Refused keeps given e (Some back) = IsWorked Honest Refused keeps given e back
 
 -- of each shelf, in their order
-abbrev pub AreReturned : Type 0 → (Asked → ShelfFault → Type 0) → (Held → Type 0) → List Told
+abbrev pub AreReturned : Type 0 → (Asked → ShelfFault → Type 0) → (Held → Type 0) → List Given
     → List (WorkerEnd × Option Told) → Type 0
 AreReturned Honest Refused keeps [] [] = Unit {0}
 AreReturned Honest Refused keeps [] (r ∷ rs) = ⊥

@@ -1,6 +1,6 @@
 //! What a program has of the workers beside it.
 
-ghost use Rattle.std.specs.Prelude.{◌≡◌, IfErr, IfOk};
+ghost use Rattle.std.specs.Prelude.{◌≡◌, IfErr, IfOk, false};
 ghost use Rattle.lsm_store.specs.Background.{BringsIn, IsBroughtIn, IsIngestStep, IsKeptByIngest};
 ghost use Rattle.lsm_store.specs.Background.{IsKeptOut, KeepsOut};
 
@@ -62,7 +62,9 @@ pub struct Background {
 
 impl Background {
     /// So many workers, none of which has begun.
-    pub(crate) fn of(workers: usize) -> Background {
+    pub(crate) fn of(workers: usize) -> Background
+        ensures { result.bell.to_the_end ≡ false }
+    {
         Background {
             bell: Bell::new(workers),
         }

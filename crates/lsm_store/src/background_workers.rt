@@ -1,9 +1,13 @@
 //! Workers that compact in the background of a program.
 
-ghost use Rattle.std.specs.Prelude.{◌≡◌, ◌≤◌, [], All, IfErr, IfOk, vec_capacity, vec_len};
+ghost use Rattle.std.specs.Prelude.{◌≡◌, ◌≤◌, List, [], All, IfErr, IfOk, false};
+ghost use Rattle.std.specs.Prelude.{vec_capacity, vec_len};
 ghost use Rattle.lsm_store.specs.Compacting.{IsKeptByCompaction};
+ghost use Rattle.lsm_shelf.specs.Told.{Told};
+ghost use Rattle.lsm_store.specs.Sweeping.{LastForked};
 ghost use Rattle.lsm_store.specs.Workers.{IsWorkersEnd};
-ghost use Rattle.lsm_store.specs.Working.{AreReturned};
+ghost use Rattle.lsm_store.specs.Working.{AreReturned, given_each};
+ghost use Rattle.lsm_store.specs.declared.picks.Picks.TheVariants.{Joining};
 
 use crate::background::Background;
 use crate::drawing::draw_for_all;
@@ -12,6 +16,7 @@ use crate::invariant::Invariant;
 use crate::number_service::NumberService;
 use crate::picks::Picks;
 use crate::store::Store;
+use crate::sweeping::{fork_last, start_sweeping};
 use crate::worker_end::WorkerEnd;
 use crate::worker_thread::{Returned, Thread};
 use crate::workers::{ends_of, join_all, start_all};
@@ -69,8 +74,9 @@ fn run_beside<
     ensures answer { IfOk result (λ r. (b : _) × F.post body b r.0) }
     ensures len { IfOk result (λ r. vec_len r.1 ≡ vec_len shelves) }
     ensures ends { IfOk result (λ r. All (λ w. IsWorkersEnd S.honest w.0) r.1.items) }
-    ensures returned { IfOk result (λ r.
-        AreReturned S.honest (S.refuses N.place) K.keeps shelves.items r.1.items) }
+    ensures returned { IfOk result (λ r. (lent : List Told) × LastForked shelves.items lent
+        × AreReturned S.honest (S.refuses N.place) K.keeps (given_each Joining false lent)
+        r.1.items) }
     ensures back { IfErr result (λ e. e.value ≡ (shelves, body)) }
 {
     let service = NumberService::new(shelves.len());
@@ -88,11 +94,14 @@ fn run_beside<
             requires none { (vec_len threads ≡ 0) × (returned.items ≡ []) × (vec_len returned ≡ 0) }
             requires room { (vec_len shelves ≤ vec_capacity threads)
                 × (vec_len shelves ≤ vec_capacity returned) }
+            requires picks { picks.now ≡ Joining }
+            requires bell { background.now.bell.to_the_end ≡ false }
             ensures answer { IfOk result (λ r. (b : _) × F.post body b r.0) }
             ensures len { IfOk result (λ r. vec_len r.1 ≡ vec_len shelves) }
             ensures ends { IfOk result (λ r. All (λ w. IsWorkersEnd S.honest w.0) r.1.items) }
-            ensures returned { IfOk result (λ r.
-                AreReturned S.honest (S.refuses N.place) K.keeps shelves.items r.1.items) }
+            ensures returned { IfOk result (λ r. (lent : List Told) × LastForked shelves.items lent
+                × AreReturned S.honest (S.refuses N.place) K.keeps (given_each Joining false lent)
+                r.1.items) }
             ensures back { IfErr result (λ e. e.value ≡ (shelves, body)) }
         {
             if !start_drawing(scope, rt, store, service) {
@@ -101,6 +110,9 @@ fn run_beside<
                 });
             }
             let bell = &background.bell;
+            let mut shelves = shelves;
+            let broom = fork_last(alloc, &mut shelves);
+            start_sweeping(scope, rt, alloc, store, bell, broom);
             let threads = start_all(
                 scope, rt, alloc, store, service, bell, shelves, gate, picks, threads,
             );
@@ -119,7 +131,9 @@ fn run_beside<
 /// small files are joined (`State::reserve_next`), merges outside it, and installs under it; before
 /// each merge the gate is told. Where nothing is left to reserve it sleeps, until it is woken
 /// (`Background::wake`) or another worker has installed a result. One more thread draws the numbers
-/// of the outputs under the lock.
+/// of the outputs under the lock. And one, over a fork of the last shelf, removes after installs
+/// the tables that nothing needs any more, outside the lock; what it cannot remove it leaves to the
+/// next time.
 ///
 /// The body runs in the thread of the caller, and is lent the workers. Once it has answered, each
 /// worker ends after the merge at hand, and all threads are joined. A body after which nothing
@@ -151,8 +165,9 @@ pub fn with_workers_returning<
     ensures answer { IfOk result (λ r. (b : _) × F.post body b r.0) }
     ensures len { IfOk result (λ r. vec_len r.1 ≡ vec_len shelves) }
     ensures ends { IfOk result (λ r. All (λ w. IsWorkersEnd S.honest w.0) r.1.items) }
-    ensures returned { IfOk result (λ r.
-        AreReturned S.honest (S.refuses N.place) K.keeps shelves.items r.1.items) }
+    ensures returned { IfOk result (λ r. (lent : List Told) × LastForked shelves.items lent
+        × AreReturned S.honest (S.refuses N.place) K.keeps (given_each Joining false lent)
+        r.1.items) }
     ensures back { IfErr result (λ e. e.value ≡ (shelves, body)) }
 {
     let Ok(returned) = Vec::with_capacity(alloc, shelves.len()) else {

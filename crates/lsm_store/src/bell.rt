@@ -1,5 +1,7 @@
 //! The bell of workers that run beside a program.
 
+ghost use Rattle.std.specs.Prelude.{◌≡◌, IfNone, false, true};
+
 use std::sync::{Condvar, Mutex, Wait};
 
 /// How often the bell was rung, and how many workers have nothing to do.
@@ -7,14 +9,14 @@ use std::sync::{Condvar, Mutex, Wait};
 struct Rung {
     // How often it was rung. The count wraps.
     rings: u64,
+    // How often a result was installed. The count wraps.
+    installs: u64,
     // How many workers have not ended.
     working: usize,
     // How many of these have found nothing to reserve since it was rung last.
     idle: usize,
     // Whether workers are to end.
     closed: bool,
-    // Whether they are to end once all of them are idle.
-    closes_when_idle: bool,
 }
 
 impl Rung {
@@ -32,31 +34,40 @@ impl Rung {
 /// state how often the bell was rung, and waits only while that is still so. So no ring is missed.
 #[derive(Drop)]
 pub(crate) struct Bell {
+    // Whether workers go on until nothing is left: it is closed once all of them are idle.
+    pub(crate) to_the_end: bool,
     rung: Mutex<Rung>,
     changed: Condvar,
 }
 
 impl Bell {
-    fn of(workers: usize, closes_when_idle: bool) -> Bell {
+    fn of(workers: usize, to_the_end: bool) -> Bell
+        ensures { result.to_the_end ≡ to_the_end }
+    {
         Bell {
+            to_the_end,
             rung: Mutex::new(Rung {
                 rings: 0,
+                installs: 0,
                 working: workers,
                 idle: 0,
                 closed: false,
-                closes_when_idle,
             }),
             changed: Condvar::new(),
         }
     }
 
     /// A bell for so many workers, which go on until it is closed. Each of them leaves it once.
-    pub(crate) fn new(workers: usize) -> Bell {
+    pub(crate) fn new(workers: usize) -> Bell
+        ensures { result.to_the_end ≡ false }
+    {
         Bell::of(workers, false)
     }
 
     /// A bell for so many workers, which is closed once all of them are idle.
-    pub(crate) fn closing_when_idle(workers: usize) -> Bell {
+    pub(crate) fn closing_when_idle(workers: usize) -> Bell
+        ensures { result.to_the_end ≡ true }
+    {
         Bell::of(workers, true)
     }
 
@@ -66,6 +77,14 @@ impl Bell {
         rung.ring();
         self.changed.notify_all();
         rung.rings
+    }
+
+    /// Rings after an install.
+    pub(crate) fn installed<R: Wait>(&self, rt: &R) {
+        let mut rung = self.rung.lock(rt);
+        rung.installs = rung.installs.wrapping_add(1);
+        rung.ring();
+        self.changed.notify_all();
     }
 
     /// A worker ends. The others are to look again: its job may be left to them.
@@ -83,26 +102,35 @@ impl Bell {
         self.changed.notify_all();
     }
 
-    /// How often it was rung; none where it is closed.
-    pub(crate) fn rings<R: Wait>(&self, rt: &R) -> Option<u64> {
+    /// How often it was rung. None where it was closed before the end: then a worker ends, whatever
+    /// is left.
+    pub(crate) fn rings<R: Wait>(&self, rt: &R) -> Option<u64>
+        ensures { IfNone result (self.now.to_the_end ≡ false) }
+    {
         let rung = self.rung.lock(rt);
-        if rung.closed { None } else { Some(rung.rings) }
+        if rung.closed && !self.to_the_end {
+            return None;
+        }
+        Some(rung.rings)
     }
 
     /// A worker has found nothing to reserve since the bell had rung so often. It waits until it
-    /// rings again, or is closed.
-    pub(crate) fn wait_for_work<R: Wait>(&self, rt: &R, rings: u64) {
+    /// rings again: true; or is closed: false.
+    pub(crate) fn wait_for_work<R: Wait>(&self, rt: &R, rings: u64) -> bool {
         let mut rung = self.rung.lock(rt);
         if rung.rings == rings {
             rung.idle = rung.idle.saturating_add(1);
-            if rung.closes_when_idle && rung.idle >= rung.working {
+            if self.to_the_end && rung.idle >= rung.working {
                 rung.closed = true;
             }
             self.changed.notify_all();
         }
         for _ in rt.forever() {
-            if rung.rings != rings || rung.closed {
-                return;
+            if rung.closed {
+                return false;
+            }
+            if rung.rings != rings {
+                return true;
             }
             rung = self.changed.wait(rt, rung);
         }
@@ -118,6 +146,22 @@ impl Bell {
                 return Some(rung.rings);
             }
             if rung.idle >= rung.working {
+                return None;
+            }
+            rung = self.changed.wait(rt, rung);
+        }
+        unreachable!()
+    }
+
+    /// So many installs are known. Waits until there are others: how many there are then. None
+    /// where none will come: it is closed, and each worker has ended.
+    pub(crate) fn wait_for_installs<R: Wait>(&self, rt: &R, known: u64) -> Option<u64> {
+        let mut rung = self.rung.lock(rt);
+        for _ in rt.forever() {
+            if rung.installs != known {
+                return Some(rung.installs);
+            }
+            if rung.closed && rung.working == 0 {
                 return None;
             }
             rung = self.changed.wait(rt, rung);

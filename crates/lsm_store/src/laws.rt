@@ -11,7 +11,7 @@ ghost use Rattle.lsm_state.specs.Opening.{opened_state};
 ghost use Rattle.lsm_state.specs.declared.options.Options.{Options};
 ghost use Rattle.lsm_store.specs.Compacting.{IsKeptByCompaction, IsLeftByWorkers, IsSeated};
 ghost use Rattle.lsm_store.specs.Readers.{SeatsPinners};
-ghost use Rattle.lsm_store.specs.Working.{IsCountedIf, IsWorked, OnlyPutsAndSends};
+ghost use Rattle.lsm_store.specs.Working.{Given, IsCountedIf, IsWorked, OnlyPutsAndSends};
 ghost use Rattle.lsm_store.specs.declared.worker_end.WorkerEnd.{WorkerEnd};
 ghost use Rattle.lsm_version.specs.Versions.{Levels};
 
@@ -55,10 +55,10 @@ pub fn made_states_seat_their_pinners()
 /// shelf's, a count of that shelf rose. And the shelf was told to put tables and to write the
 /// manifest, and that is all: it was asked to remove nothing, and gave no fork.
 pub fn what_workers_did_is_told<N: Boarded, S: Shelf, K: Invariant>()
-    ensures counted { (given back : Told) (e : WorkerEnd)
+    ensures counted { (given : Given) (back : Told) (e : WorkerEnd)
         → IsWorked S.honest (S.refuses N.place) K.keeps given e back
-        → IsCountedIf e.fault given back }
-    ensures only { (given back : Told) (e : WorkerEnd)
+        → IsCountedIf e.fault given.shelf back }
+    ensures only { (given : Given) (back : Told) (e : WorkerEnd)
         → IsWorked S.honest (S.refuses N.place) K.keeps given e back
-        → OnlyPutsAndSends given back }
+        → OnlyPutsAndSends given.shelf back }
 {}

@@ -24,6 +24,7 @@ mod bell;
 mod gate;
 mod manual_compaction;
 mod picks;
+mod sweeping;
 mod worker;
 mod worker_end;
 mod worker_fault;

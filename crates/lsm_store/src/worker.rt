@@ -1,13 +1,13 @@
 //! What a worker does in its thread.
 
-ghost use Rattle.std.specs.Prelude.{◌≡◌, IfErr, IfOk, MatchBool, OnOk, Some};
+ghost use Rattle.std.specs.Prelude.{◌≡◌, IfErr, IfOk, MatchBool, OnOk};
 ghost use Rattle.lsm_live.specs.Booked.{HasTicket, without};
 ghost use Rattle.lsm_store.specs.Compacting.{IsCompactingStep, IsKeptByCompaction};
 ghost use Rattle.lsm_store.specs.Picking.{IsBooked, IsManual, IsPicked, IsPickedUnder};
 ghost use Rattle.lsm_store.specs.declared.picks.Picks.TheVariants.{Choice, Joining};
 ghost use Rattle.lsm_store.specs.Workers.{IsOfInstalling, IsOfReserving, IsOfTurn, IsWorkersEnd};
-ghost use Rattle.lsm_store.specs.Working.{IsLast, IsTaken, IsTurn, IsUntaken, IsWorked};
-ghost use Rattle.lsm_store.specs.Working.{LeavesOut, TakesIn};
+ghost use Rattle.lsm_store.specs.Working.{FindsNone, IsDone, IsStoppedBy, IsTaken, IsTurn};
+ghost use Rattle.lsm_store.specs.Working.{IsUntaken, IsWorked, LeavesOut, TakesIn, given_one};
 
 use crate::bell::Bell;
 use crate::gate::Gate;
@@ -183,9 +183,9 @@ fn finish<N: Boarded, S: Shelf, K: Invariant, R: Wait>(
 ) -> Result<(), WorkerFault>
     requires kept { IsKeptByCompaction S.honest K.keeps }
     ensures refused { IfErr result (IsOfTurn S.honest) }
-    ensures turn { OnOk result (IsTurn S.honest K.keeps shelf.old shelf.new) }
-    ensures last { IfErr result (λ e.
-        IsLast S.honest (S.refuses N.place) K.keeps (Some e) shelf.old shelf.new) }
+    ensures done { OnOk result (IsDone S.honest K.keeps job shelf.old shelf.new) }
+    ensures stopped { IfErr result (λ e.
+        IsStoppedBy S.honest (S.refuses N.place) K.keeps e shelf.old shelf.new) }
 {
     let mut numbers = TicketNumbers::of(service);
     let done = match compact(rt, alloc, shelf, registry, job, &mut numbers) {
@@ -215,9 +215,10 @@ fn turn<N: Boarded, S: Shelf, K: Invariant, G: Gate, R: Wait>(
     requires kept { IsKeptByCompaction S.honest K.keeps }
     ensures refused { IfErr result (IsOfTurn S.honest) }
     ensures turn { IfOk result (λ did.
-        MatchBool did (IsTurn S.honest K.keeps shelf.old shelf.new) (shelf.new ≡ shelf.old)) }
-    ensures last { IfErr result (λ e.
-        IsLast S.honest (S.refuses N.place) K.keeps (Some e) shelf.old shelf.new) }
+        MatchBool did (IsTurn S.honest K.keeps picks.now shelf.old shelf.new)
+        ((shelf.new ≡ shelf.old) × FindsNone S.honest K.keeps picks.now)) }
+    ensures stopped { IfErr result (λ e.
+        IsStoppedBy S.honest (S.refuses N.place) K.keeps e shelf.old shelf.new) }
 {
     let job = match reserve(rt, alloc, store, picks) {
         Ok(Some(job)) => job,
@@ -243,8 +244,9 @@ fn registry_of<N: Boarded, S: Shelf, K: Invariant, R: Wait>(
     Arc::try_clone(store.lock(rt).state.registry())
 }
 
-/// One compaction after another, until the bell is closed, or a fault. Where there is nothing to
-/// reserve it sleeps until the bell rings. It rings after each install.
+/// One compaction after another, until the bell is closed, or a fault; where it closes at the end,
+/// until nothing is left to reserve. Meanwhile, where there is nothing, it sleeps until the bell
+/// rings. It rings after each install.
 pub(crate) fn work<N: Boarded, S: Shelf, K: Invariant, G: Gate, R: Wait>(
     rt: &R,
     alloc: Global,
@@ -258,7 +260,8 @@ pub(crate) fn work<N: Boarded, S: Shelf, K: Invariant, G: Gate, R: Wait>(
 ) -> WorkerEnd
     requires kept { IsKeptByCompaction S.honest K.keeps }
     ensures end { IsWorkersEnd S.honest result }
-    ensures worked { IsWorked S.honest (S.refuses N.place) K.keeps shelf.old result shelf.new }
+    ensures worked { IsWorked S.honest (S.refuses N.place) K.keeps
+        (given_one picks.now bell.now.to_the_end shelf.old) result shelf.new }
 {
     let mut installed = 0u64;
     let Ok(registry) = registry_of(rt, store) else {
@@ -279,9 +282,16 @@ pub(crate) fn work<N: Boarded, S: Shelf, K: Invariant, G: Gate, R: Wait>(
         ) {
             Ok(true) => {
                 installed = installed.saturating_add(1);
-                bell.ring(rt);
+                bell.installed(rt);
             }
-            Ok(false) => bell.wait_for_work(rt, rings),
+            Ok(false) => {
+                if !bell.wait_for_work(rt, rings) {
+                    return WorkerEnd {
+                        installed,
+                        fault: None,
+                    };
+                }
+            }
             Err(fault) => {
                 return WorkerEnd {
                     installed,

@@ -1,10 +1,11 @@
 //! Workers, each in a thread of its own.
 
-ghost use Rattle.std.specs.Prelude.{◌≡◌, ◌≤◌, [], All, IfErr, IfOk, map, reverse};
+ghost use Rattle.std.specs.Prelude.{◌≡◌, ◌≤◌, [], All, IfErr, IfOk, map, reverse, true};
 ghost use Rattle.std.specs.Prelude.{vec_capacity, vec_len};
 ghost use Rattle.lsm_store.specs.Compacting.{IsKeptByCompaction};
 ghost use Rattle.lsm_store.specs.Workers.{IsWorkersEnd};
-ghost use Rattle.lsm_store.specs.Working.{AreReturned, IsWorked};
+ghost use Rattle.lsm_store.specs.Working.{AreReturned, IsWorked, given_each, given_one};
+ghost use Rattle.lsm_store.specs.declared.picks.Picks.TheVariants.{Choice};
 
 use crate::bell::Bell;
 use crate::drawing::draw_for_all;
@@ -39,15 +40,19 @@ fn start<'s, 'e, N: Boarded, S: Shelf, K: Invariant, G: Gate + Sync, R: Threads 
 ) -> Thread<N, S, K>
     requires kept { IsKeptByCompaction S.honest K.keeps }
     ensures given { result.given.value ≡ shelf }
+    ensures picks { result.picks.value ≡ picks.now }
+    ensures to_the_end { result.to_the_end ≡ bell.now.to_the_end }
 {
     let given = Snapshot::of(&shelf);
-    let promise = Works::of(Snapshot::of(&shelf));
+    let to_the_end = bell.to_the_end;
+    let promise = Works::of(Snapshot::of(&shelf), Snapshot::of(picks), to_the_end);
     let handle = scope.spawn_with(
         promise,
         move || -> (WorkerEnd, NamedShelf<N, S>)
             requires kept { IsKeptByCompaction S.honest K.keeps }
             ensures end { IsWorkersEnd S.honest result.0 }
-            ensures worked { IsWorked S.honest (S.refuses N.place) K.keeps shelf result.0 result.1 }
+            ensures worked { IsWorked S.honest (S.refuses N.place) K.keeps
+                (given_one picks.entry.now bell.entry.now.to_the_end shelf) result.0 result.1 }
         {
             let mut shelf = shelf;
             let end = work(
@@ -64,6 +69,8 @@ fn start<'s, 'e, N: Boarded, S: Shelf, K: Invariant, G: Gate + Sync, R: Threads 
     }
     Thread {
         given,
+        picks: Snapshot::of(picks),
+        to_the_end,
         handle: handle.ok(),
     }
 }
@@ -92,7 +99,9 @@ pub(crate) fn start_all<
     requires kept { IsKeptByCompaction S.honest K.keeps }
     requires none { vec_len threads ≡ 0 }
     requires room { vec_len shelves ≤ vec_capacity threads }
-    ensures given { reverse (map (λ t. t.given.value) result.items) ≡ shelves.items }
+    ensures given { reverse
+        (map (λ t. given_one t.picks.value t.to_the_end t.given.value) result.items)
+        ≡ given_each picks.now bell.now.to_the_end shelves.items }
     ensures len { vec_len result ≡ vec_len shelves }
 {
     let mut shelves = shelves;
@@ -119,7 +128,8 @@ pub(crate) fn join_all<N: Boarded, S: Shelf, K: Invariant, R: Threads + Wait>(
     requires room { vec_len threads ≤ vec_capacity returned }
     ensures ends { All (λ r. IsWorkersEnd S.honest r.0) result.items }
     ensures returned { AreReturned S.honest (S.refuses N.place) K.keeps
-        (reverse (map (λ t. t.given.value) threads.items)) result.items }
+        (reverse (map (λ t. given_one t.picks.value t.to_the_end t.given.value) threads.items))
+        result.items }
     ensures len { vec_len result ≡ vec_len threads }
 {
     let mut threads = threads;
@@ -170,7 +180,8 @@ fn run_all<N: Boarded, S: Shelf, K: Invariant, G: Gate + Sync, R: Threads + Wait
     requires room { (vec_len shelves ≤ vec_capacity threads)
         × (vec_len shelves ≤ vec_capacity returned) }
     ensures ends { All (λ r. IsWorkersEnd S.honest r.0) result.items }
-    ensures returned { AreReturned S.honest (S.refuses N.place) K.keeps shelves.items result.items }
+    ensures returned { AreReturned S.honest (S.refuses N.place) K.keeps
+        (given_each picks.now true shelves.items) result.items }
     ensures len { vec_len result ≡ vec_len shelves }
 {
     let service = NumberService::new(shelves.len());
@@ -185,9 +196,10 @@ fn run_all<N: Boarded, S: Shelf, K: Invariant, G: Gate + Sync, R: Threads + Wait
             requires none { (vec_len threads ≡ 0) × (returned.items ≡ []) × (vec_len returned ≡ 0) }
             requires room { (vec_len shelves ≤ vec_capacity threads)
                 × (vec_len shelves ≤ vec_capacity returned) }
+            requires bell { bell.now.to_the_end ≡ true }
             ensures ends { All (λ r. IsWorkersEnd S.honest r.0) result.items }
-            ensures returned { AreReturned S.honest (S.refuses N.place) K.keeps shelves.items
-                result.items }
+            ensures returned { AreReturned S.honest (S.refuses N.place) K.keeps
+                (given_each picks.entry.now true shelves.items) result.items }
             ensures len { vec_len result ≡ vec_len shelves }
         {
             let threads = start_all(
@@ -214,7 +226,8 @@ pub fn run_workers_by<N: Boarded, S: Shelf, K: Invariant, G: Gate + Sync, R: Thr
     ensures len { IfOk result (λ v. vec_len v ≡ vec_len shelves) }
     ensures ends { IfOk result (λ v. All (λ r. IsWorkersEnd S.honest r.0) v.items) }
     ensures returned { IfOk result (λ v.
-        AreReturned S.honest (S.refuses N.place) K.keeps shelves.items v.items) }
+        AreReturned S.honest (S.refuses N.place) K.keeps (given_each picks.now true shelves.items)
+        v.items) }
     ensures back { IfErr result (λ e. e.value ≡ shelves) }
 {
     let Ok(returned) = Vec::with_capacity(alloc, shelves.len()) else {
@@ -258,7 +271,8 @@ pub fn run_workers_returning<
     ensures len { IfOk result (λ v. vec_len v ≡ vec_len shelves) }
     ensures ends { IfOk result (λ v. All (λ r. IsWorkersEnd S.honest r.0) v.items) }
     ensures returned { IfOk result (λ v.
-        AreReturned S.honest (S.refuses N.place) K.keeps shelves.items v.items) }
+        AreReturned S.honest (S.refuses N.place) K.keeps (given_each Choice true shelves.items)
+        v.items) }
     ensures back { IfErr result (λ e. e.value ≡ shelves) }
 {
     run_workers_by(rt, alloc, store, shelves, gate, &Picks::Choice)

@@ -1,6 +1,6 @@
 -- What calls of a state leave of its answers, and of the tables that it keeps.
-use Rattle.std.proofs.Common.{◌≡◌, ℕ, ◌≤◌, true, List, ◌++◌, Result, Ok, Err, refl, sym, ap, ◌∙◌, subst, inr, arith}
-use Rattle.std.specs.Prelude.{IfOk, OnOk, ◌↔◌, ◌==◌, not}
+use Rattle.std.proofs.Common.{◌≡◌, ℕ, ◌≤◌, Bool, false, true, List, ◌++◌, Result, Ok, Err, refl, sym, ap, ◌∙◌, subst, inr, arith}
+use Rattle.std.specs.Prelude.{IfOk, IsTrue, OnOk, ◌↔◌, ◌==◌, not}
 use Rattle.std.proofs.lemmas.Bool.{eq-eqb}
 use Rattle.lsm_codec.specs.Keys.{UserKey}
 use Rattle.lsm_codec.specs.Lists.{Has}
@@ -11,7 +11,7 @@ use Rattle.lsm_model.specs.Plain.{Ingests, Plain}
 use Rattle.lsm_model.specs.Runs.{Agrees}
 use Rattle.lsm_shelf.specs.Told.{Told}
 use Rattle.lsm_slots.specs.Snapshots.{Taken}
-use Rattle.lsm_state.specs.Collecting.{AreCollected, IsKeptNumber, is_in, outside}
+use Rattle.lsm_state.specs.Collecting.{AreCollected, IsKeptNumber, IsRemovedOrKept, is_in, outside}
 use Rattle.lsm_state.specs.Held.{Held, plain}
 use Rattle.lsm_store.specs.Compacting.{IsLeftByWorkers}
 use Rattle.lsm_store.specs.Readers.{IsMet, Learnt}
@@ -72,3 +72,14 @@ kept_so see its A B (Ok x) (Ok w) h is was now v c kept met rest =
     λ n read gone. kept_apart h is (see x) (its w) was now rest c.2 kept n gone (subst (λ (ns : List ℕ). Has ns n) (sym met.numbers_are) read)
 kept_so see its A B (Ok x) (Err f) h is was now v c kept met rest = tt
 kept_so see its A B (Err e) m h is was now v c kept met rest = tt
+
+-- whether one table was removed, and what a view reads after that
+pub one_kept_so : {E W F : Type 0} (its : W → List ℕ) (A : Bool → Type 0) (r : Result Bool E) (m : Result W F) (h is : Held) (number : ℕ) (was now : Told) (v : Learnt)
+    → IfOk r (λ did. A did × IsRemovedOrKept h number did was now) → IfOk m (λ w. (n : ℕ) → Has (its w) n → IsKeptNumber is n) → IfOk m (λ w. IsMet v is (its w))
+    → is ≡ record h { slots = record h.slots { board = is.slots.board } }
+    → IfOk r (λ did. OnOk m (IsTrue did → Has (numbers_in v.version) number → ⊥))
+one_kept_so its A (Ok true) (Ok w) h is number was now v c kept met rest =
+    λ did read. c.1.0 (subst (λ (x : Held). IsKeptNumber x number) rest (kept number (subst (λ (ns : List ℕ). Has ns number) (sym met.numbers_are) read)))
+one_kept_so its A (Ok false) (Ok w) h is number was now v c kept met rest = λ did read. absurd (let f : false ≡ true = did in cc)
+one_kept_so its A (Ok did) (Err f) h is number was now v c kept met rest = tt
+one_kept_so its A (Err e) m h is number was now v c kept met rest = tt

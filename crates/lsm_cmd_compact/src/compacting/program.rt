@@ -30,8 +30,9 @@ use std::thread::Threads;
 /// how many results were installed, and how many files were removed. A line that can't be written
 /// is left out.
 ///
-/// Opening begins a new manifest; a database that is not there is not begun. The shelf is given
-/// back.
+/// Opening begins a new manifest; a database that is not there is not begun. A manifest that ends
+/// with bytes which hold no whole record is `TornManifest`, unless that is accepted: then nothing is
+/// written. The shelf is given back.
 #[tactic(auto, using(crate::proofs::Quiet::quietly))]
 pub fn compact<S: Shelf, R: Threads + Wait + Sync, O: Write, E: Write + Send>(
     rt: &R,

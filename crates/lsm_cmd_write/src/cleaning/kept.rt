@@ -33,10 +33,12 @@ fn is_among(numbers: &[u64], number: u64) -> bool
     numbers.binary_search(&number).is_ok()
 }
 
-/// The number of the manifest that `CURRENT` names, and those of its version's tables, ascending.
+/// The number of the manifest that `CURRENT` names, how many bytes at its end hold no whole record,
+/// and the numbers of its version's tables, ascending.
 #[derive(Debug, Drop)]
 pub(crate) struct Kept {
     pub(crate) manifest: u64,
+    pub(crate) rest: u64,
     pub(crate) tables: Vec<u64>,
     ghost ascending: { IsStrictlyIncreasing tables.items },
 }
@@ -67,7 +69,7 @@ fn find_kept<N: Naming, S: Shelf, R: Wait>(
 ) -> Result<Kept, WriterFault>
     requires named { records ≡ N.registry }
     ensures kept { IfOk result (λ k.
-        IsKept S.honest k.manifest k.tables.items shelf.old shelf.new) }
+        IsKept S.honest k.manifest k.rest k.tables.items shelf.old shelf.new) }
     ensures refused { IfErr result (λ e.
         IsUnkept (Stored S.Receipt (S.is_of N.place) S.Receipt.number S.Receipt.image)
         (S.refuses N.place) S.honest e shelf.old shelf.new) }
@@ -80,6 +82,7 @@ fn find_kept<N: Naming, S: Shelf, R: Wait>(
     let tables = ascending(numbers)?;
     Ok(Kept {
         manifest: found.journal.number(),
+        rest: found.rest,
         tables,
     })
 }
@@ -94,7 +97,7 @@ fn find_kept_as<N: Naming, S: Shelf, R: Wait>(
     requires records { records ≡ N.registry }
     requires shelf { (S.told shelf).place ≡ N.place }
     ensures kept { IfOk result.0 (λ k.
-        IsKept S.honest k.manifest k.tables.items (S.told shelf) (S.told result.1)) }
+        IsKept S.honest k.manifest k.rest k.tables.items (S.told shelf) (S.told result.1)) }
     ensures refused { IfErr result.0 (λ e.
         IsUnkept (Stored S.Receipt (S.is_of N.place) S.Receipt.number S.Receipt.image)
         (S.refuses N.place) S.honest e (S.told shelf) (S.told result.1)) }
@@ -113,7 +116,7 @@ pub(crate) fn kept_in<C: FolderCalls + Send + Sync, R: Wait>(
 where
     C::Mark: Send + Sync,
     ensures kept { IfOk result (λ k.
-        Needs C.FolderCalls (C.place folder.now) k.manifest k.tables.items) }
+        Needs C.FolderCalls (C.place folder.now) k.manifest k.rest k.tables.items) }
     ensures refused { IfErr result (λ e.
         HasNone C.FolderCalls C.Mark.Mark (C.place folder.now) e) }
 {

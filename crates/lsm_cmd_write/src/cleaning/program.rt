@@ -10,6 +10,7 @@ use crate::cleaning::clean_folder;
 use lsm_directory::{Known, Paths, open_at, refuse, status_of};
 use lsm_folder::{FolderCalls, Reasons};
 use lsm_opening::WriterFault;
+use lsm_requests::CleanOptions;
 use std::alloc::Global;
 use std::io::Write;
 use std::sync::Wait;
@@ -19,26 +20,28 @@ use std::sync::Wait;
 /// temporary files, and tables that the version does not have. The name of each is written as a
 /// line, in the order of names. A fault is one line on `err`, and may have more behind it.
 ///
-/// `Locked` where another program has the folder open; the refusals of opening it, and then nothing
-/// is removed; a removal that the folder refuses is the last one.
+/// `Locked` where another program has the folder open; the refusals of opening it, and
+/// `TornManifest` where the manifest ends with bytes that hold no whole record, unless that is
+/// accepted, and then nothing is removed; a removal that the folder refuses is the last one.
 pub fn clean<C: FolderCalls + Send + Sync, R: Wait, O: Write, E: Write>(
     rt: &R,
     alloc: Global,
     folder: &mut C,
+    options: CleanOptions,
     out: &mut O,
     err: &mut E,
 ) -> u8
 where
     C::Mark: Send + Sync,
-    ensures done { result ≡ 0 → IsCleaned C.FolderCalls (C.place folder.old)
+    ensures done { result ≡ 0 → IsCleaned C.FolderCalls options (C.place folder.old)
         (C.calls folder.old) (C.calls folder.new) (O.contents out.old) (O.contents out.new) }
     ensures refused { result ≢ 0 → (result ≡ 1) × ((fault : WriterFault)
-        × IsUncleaned C.FolderCalls C.Mark.Mark (C.place folder.old) fault
+        × IsUncleaned C.FolderCalls C.Mark.Mark options (C.place folder.old) fault
         (C.calls folder.old) (C.calls folder.new) (O.contents out.old) (O.contents out.new)) }
     ensures place { C.place folder.new ≡ C.place folder.old }
     ensures quiet { result ≡ 0 → Keeps (E.contents err.old) (E.contents err.new) }
 {
-    let done = clean_folder(rt, alloc, folder, out);
+    let done = clean_folder(rt, alloc, folder, options, out);
     status_of(done, Known::answered(None), err)
 }
 
@@ -47,18 +50,19 @@ fn clean_at<C: FolderCalls + Send + Sync, P: Paths<C>, R: Wait, O: Write>(
     rt: &R,
     paths: &P,
     path: &str,
+    options: CleanOptions,
     reasons: &Reasons,
     out: &mut O,
 ) -> Result<(), WriterFault>
 where
     C::Mark: Send + Sync,
-    ensures done { OnOk result (IsCleanedAt C.FolderCalls path.now (O.contents out.old)
+    ensures done { OnOk result (IsCleanedAt C.FolderCalls path.now options (O.contents out.old)
         (O.contents out.new)) }
-    ensures refused { IfErr result (λ e. FailsToClean C.FolderCalls C.Mark.Mark path.now e
-        (O.contents out.old) (O.contents out.new)) }
+    ensures refused { IfErr result (λ e. FailsToClean C.FolderCalls C.Mark.Mark path.now options
+        e (O.contents out.old) (O.contents out.new)) }
 {
     let mut folder = open_at(paths, path, reasons)?;
-    clean_folder(rt, paths.alloc(), &mut folder, out)
+    clean_folder(rt, paths.alloc(), &mut folder, options, out)
 }
 
 /// Cleans the folder at a path, and answers the exit status.
@@ -66,15 +70,16 @@ pub fn run_clean<C: FolderCalls + Send + Sync, P: Paths<C>, R: Wait, O: Write, E
     rt: &R,
     paths: &P,
     path: &str,
+    options: CleanOptions,
     out: &mut O,
     err: &mut E,
 ) -> u8
 where
     C::Mark: Send + Sync,
-    ensures done { result ≡ 0 → IsCleanedAt C.FolderCalls path.now (O.contents out.old)
+    ensures done { result ≡ 0 → IsCleanedAt C.FolderCalls path.now options (O.contents out.old)
         (O.contents out.new) }
     ensures refused { result ≢ 0 → (result ≡ 1) × ((fault : WriterFault)
-        × FailsToClean C.FolderCalls C.Mark.Mark path.now fault (O.contents out.old)
+        × FailsToClean C.FolderCalls C.Mark.Mark path.now options fault (O.contents out.old)
         (O.contents out.new)) }
     ensures quiet { result ≡ 0 → Keeps (E.contents err.old) (E.contents err.new) }
 {
@@ -82,6 +87,6 @@ where
         Ok(reasons) => reasons,
         Err(_) => return refuse(WriterFault::OutOfMemory, err),
     };
-    let done = clean_at(rt, paths, path, &reasons, out);
+    let done = clean_at(rt, paths, path, options, &reasons, out);
     status_of(done, Known::answered(Some(&reasons)), err)
 }

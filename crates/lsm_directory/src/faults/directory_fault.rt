@@ -10,7 +10,9 @@ ghost use Rattle.lsm_directory.specs.declared.faults.directory_fault.DirectoryFa
 ghost use Rattle.lsm_directory.specs.declared.faults.directory_fault.DirectoryFault.TheVariants.{Read};
 ghost use Rattle.lsm_directory.specs.declared.faults.directory_fault.DirectoryFault.TheVariants.{Write as WriteVariant};
 
-use crate::faults::directory_refusals::{of_locked, of_manifest, of_spent, of_tables};
+use crate::faults::directory_refusals::{
+    of_locked, of_manifest, of_spent, of_tables, of_torn, of_unflushed,
+};
 use crate::faults::meanings::meaning_of;
 use crate::telling::Exit;
 use crate::telling::output::OutputFault;
@@ -42,6 +44,10 @@ pub enum DirectoryFault {
     NumbersSpent,
     /// Another program holds the lock of the folder.
     Locked,
+    /// The log of this number is not flushed, and that is not accepted.
+    UnflushedLog(u64),
+    /// So many bytes at the manifest's end hold no whole record, and that is not accepted.
+    TornManifest(u64),
     /// The key has no value, where the exit status is to tell that.
     Absent,
 }
@@ -61,6 +67,8 @@ impl DirectoryFault {
             DirectoryFault::Read(fault) => Some(fault.number()),
             DirectoryFault::NumbersSpent => Some(46),
             DirectoryFault::Locked => Some(52),
+            DirectoryFault::UnflushedLog(_) => Some(51),
+            DirectoryFault::TornManifest(_) => Some(61),
             DirectoryFault::Absent => None,
         }
     }
@@ -89,6 +97,8 @@ impl fmt::Display for DirectoryFault {
             DirectoryFault::Read(fault) => Refusal::of_read(*fault),
             DirectoryFault::NumbersSpent => of_spent(),
             DirectoryFault::Locked => of_locked(),
+            DirectoryFault::UnflushedLog(number) => of_unflushed(*number),
+            DirectoryFault::TornManifest(rest) => of_torn(*rest),
             DirectoryFault::Tables(fault) => match of_tables(fault) {
                 Some(refusal) => refusal,
                 None => return write!(f, "refused 33 {fault}"),

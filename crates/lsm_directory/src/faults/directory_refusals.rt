@@ -1,6 +1,6 @@
 //! Refusals of the parts of a directory, as they are printed.
 
-ghost use Rattle.std.specs.Prelude.{◌≡◌, None, codes};
+ghost use Rattle.std.specs.Prelude.{◌≡◌, None, Some, codes};
 ghost use Rattle.std.specs.Option.{option_map};
 ghost use Rattle.lsm_text.specs.FaultText.{refusal_text};
 ghost use Rattle.lsm_directory.specs.DirectoryFault.{check_text, recover_text};
@@ -60,5 +60,29 @@ pub(crate) fn of_locked() -> Refusal
         number: 52,
         name: "Locked",
         field: None,
+    }
+}
+
+/// The refusal where so many bytes at the manifest's end hold no whole record.
+pub(crate) fn of_torn(rest: u64) -> Refusal
+    ensures { refusal_text result.number result.name.now result.field
+        ≡ refusal_text 61 (codes "TornManifest") (Some rest) }
+{
+    Refusal {
+        number: 61,
+        name: "TornManifest",
+        field: Some(rest),
+    }
+}
+
+/// The refusal where the log of this number is not flushed.
+pub(crate) fn of_unflushed(number: u64) -> Refusal
+    ensures { refusal_text result.number result.name.now result.field
+        ≡ refusal_text 51 (codes "UnflushedLog") (Some number) }
+{
+    Refusal {
+        number: 51,
+        name: "UnflushedLog",
+        field: Some(number),
     }
 }

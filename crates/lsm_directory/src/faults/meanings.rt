@@ -85,7 +85,7 @@ fn of_manifest(fault: RecoverFault) -> &'static str
 }
 
 /// Of bytes that are no table.
-fn of_table(fault: TableFault) -> &'static str
+pub(crate) fn of_table(fault: TableFault) -> &'static str
     ensures { result.now ≡ table_meaning fault }
 {
     match fault {
@@ -125,6 +125,12 @@ pub(crate) fn meaning_of(fault: &DirectoryFault) -> &'static str
         DirectoryFault::Tables(fault) => of_tables(fault),
         DirectoryFault::Read(fault) => of_read(*fault),
         DirectoryFault::Locked => "another program has the folder open\n",
+        DirectoryFault::UnflushedLog(_) => {
+            "the log is not read: open the folder with the program that wrote it, and close it\n"
+        }
+        DirectoryFault::TornManifest(_) => {
+            "the manifest's cut end may name tables; --accept-rest, or no --strict, lets them go\n"
+        }
         DirectoryFault::OutOfMemory
         | DirectoryFault::Write
         | DirectoryFault::Shelf(_)

@@ -3,6 +3,7 @@
 ghost use Rattle.std.specs.Prelude.{None};
 ghost use Rattle.lsm_directory.specs.Inputs.{meaning};
 
+use crate::faults::meanings::of_table;
 use crate::telling::Exit;
 use lsm_batch::Write as KeyWrite;
 use lsm_text::Fault;
@@ -28,10 +29,10 @@ impl Exit for Fault {
                 err,
                 "line {line} is not of the form KEY SEQ put VALUE or KEY SEQ del, in hex, or is out of order"
             ),
+            Fault::Table(fault) => err.write_all(of_table(*fault).as_bytes()),
             Fault::Write
             | Fault::OutOfMemory
             | Fault::TooLarge
-            | Fault::Table(_)
             | Fault::Log(_)
             | Fault::Edit(_) => Ok(()),
         }

@@ -122,6 +122,9 @@ pub(crate) fn explain_state<E: Write>(
 ) -> io::Result<()> {
     match fault {
         StateFault::TooLarge => write_limit(err, writes),
+        StateFault::LevelZeroFull => {
+            writeln!(err, "level 0 has 12 tables: lsm compact DIR makes room")
+        }
         StateFault::KeyOrder(place) => {
             let line = place.saturating_add(1);
             writeln!(
@@ -165,7 +168,7 @@ impl Exit for WriterFault {
             WriterFault::LostCurrent(highest) => write_cure(err, *highest),
             WriterFault::UnflushedLog(number) => writeln!(
                 err,
-                "{number:06}.log is not flushed: open the folder once with the program that wrote it, and close it; --beside-log goes on all the same"
+                "{number:06}.log is not flushed: open the folder once with the program that wrote it, without compression, and close it; --beside-log goes on all the same"
             ),
             WriterFault::Directory(fault) => fault.explain(err, writes),
             WriterFault::State(fault) => explain_state(err, *fault, writes),

@@ -1,21 +1,22 @@
 //! Which manifest a folder's `CURRENT` names, and that manifest's bytes.
 
-ghost use Rattle.std.specs.Prelude.{◌≡◌, ℕ, ◌<◌, ◌^◌, List, Ok, Err, Result, IfOk, IfErr};
-ghost use Rattle.std.specs.Prelude.{MatchBool};
+ghost use Rattle.std.specs.Prelude.{◌≡◌, ℕ, ◌<◌, ◌≤◌, ◌^◌, List, Ok, Err, Result, IfOk, IfErr};
+ghost use Rattle.std.specs.Prelude.{MatchBool, length};
 ghost use Rattle.lsm_folder.specs.declared.folder_fault.FolderFault.{FolderFault};
-ghost use Rattle.lsm_storage.specs.FileNames.{current_text};
+ghost use Rattle.lsm_storage.specs.FileNames.{current_text, longest_current};
 ghost use Rattle.lsm_storage.specs.Plans.{CurrentUnread, CurrentStopped, NoneIn, NamesOther};
 ghost use Rattle.lsm_storage.specs.Plans.{ReadStopped, current_read, manifest_read};
 ghost use Rattle.lsm_shelf.specs.Told.{NotNamed, NotTaken};
 
 use crate::file::fault::missing;
-use crate::file::file_names::{manifest_file, manifest_in};
+use crate::file::file_names::{LONGEST_CURRENT, manifest_file, manifest_in};
 use lsm_folder::FolderCalls;
 use lsm_shelf::ShelfFault;
 use std::alloc::Global;
 use std::sync::Wait;
 
-/// What `CURRENT` holds.
+/// What `CURRENT` holds. One that is longer than each text that names a manifest is as one that is
+/// not there, and none of it is read.
 fn load_current<C: FolderCalls, W: Wait>(
     folder: &mut C,
     rt: &W,
@@ -23,12 +24,13 @@ fn load_current<C: FolderCalls, W: Wait>(
 ) -> Result<Vec<u8>, ShelfFault>
     ensures ok { IfOk result (λ v.
         C.calls folder.new ≡ current_read (Ok v.items) (C.calls folder.old)) }
+    ensures short { IfOk result (λ v. length v.items ≤ longest_current) }
     ensures err { IfErr result (λ e. CurrentUnread e (C.calls folder.old) (C.calls folder.new)) }
     ensures place { C.place folder.new ≡ C.place folder.old }
     ensures fault { IfErr result NotTaken }
 {
-    match folder.load(rt, alloc, "CURRENT") {
-        Ok((_, text)) => Ok(text),
+    match folder.load_short(rt, alloc, "CURRENT", LONGEST_CURRENT) {
+        Ok(text) => Ok(text),
         Err(fault) => Err(missing(fault)),
     }
 }

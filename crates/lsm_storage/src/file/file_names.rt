@@ -1,8 +1,8 @@
 //! The names of a database's files, as LevelDB's `doc/impl.md` gives them.
 
-ghost use Rattle.std.specs.Prelude.{◌≡◌, IfOk, string_bytes};
+ghost use Rattle.std.specs.Prelude.{◌≡◌, ◌≤◌, IfOk, length, string_bytes};
 ghost use Rattle.lsm_storage.specs.FileNames.{padded, table_name, manifest_name, temporary_name};
-ghost use Rattle.lsm_storage.specs.FileNames.{current_text, IsNumberOf};
+ghost use Rattle.lsm_storage.specs.FileNames.{current_text, longest_current, IsNumberOf};
 
 use std::alloc::{AllocError, Global};
 
@@ -37,9 +37,13 @@ pub(crate) fn temporary_file(alloc: Global, number: u64) -> Result<String, Alloc
     format!(in alloc; "{digits}.dbtmp")
 }
 
+/// The most bytes that a `CURRENT` has that names a manifest: `MANIFEST-`, 20 digits, a newline.
+pub(crate) const LONGEST_CURRENT: usize = 30;
+
 /// What `CURRENT` holds where it names this manifest.
 pub(crate) fn text_of_current(alloc: Global, number: u64) -> Result<String, AllocError>
-    ensures { IfOk result (λ s. string_bytes s ≡ current_text number) }
+    ensures text { IfOk result (λ s. string_bytes s ≡ current_text number) }
+    ensures short { IfOk result (λ s. length (string_bytes s) ≤ longest_current) }
 {
     let digits = digits_of(alloc, number)?;
     format!(in alloc; "MANIFEST-{digits}\n")

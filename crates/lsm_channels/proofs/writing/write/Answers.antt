@@ -8,3 +8,6 @@ returns-in-Ok-clause-ok g c = record {
   brought = c.in-Ok.ensures.ok;
   known = c.note.ensures.other;
 }
+
+pub bring_in-requires-clause-kept : goal.bring_in-requires-clause-kept
+bring_in-requires-clause-kept g c κs within = c.requires.writes _ c.in_ok-batch.ensures.last

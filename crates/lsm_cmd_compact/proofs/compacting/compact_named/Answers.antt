@@ -6,7 +6,7 @@ use Rattle.lsm_shelf.specs.Told.{Place}
 use Rattle.lsm_slots.specs.Slots.{current_id}
 use Rattle.lsm_state.specs.Held.{Held}
 use Rattle.lsm_store.specs.Compacting.{IsLeftByWorkers}
-use Rattle.lsm_cmd_compact.specs.Compacting.{AreEnds, IsNamed, IsOfManning, IsOpened, IsWorkersFault, installed_between}
+use Rattle.lsm_cmd_compact.specs.Compacting.{AreAimed, IsAimedFault, IsNamed, IsOfManning, IsOpened, installed_between}
 use Rattle.lsm_opening.specs.Compactions.{installed_text}
 use Rattle.lsm_cmd_compact.proofs.CompactOutcomes.{compacts, named_still, opens, unfinished, unswept}
 use Rattle.lsm_cmd_compact.proofs.Quiet.{quiet_then}
@@ -21,7 +21,7 @@ compact_state-requires-clause-steps g c κs within = c.what_was_found_is_kept.en
 pub returns-in_err-state-clause-fault : goal.returns-in_err-state-clause-fault
 returns-in_err-state-clause-fault g c =
     let p = err_from_is_err_and c.from_residual.result c.from_residual.ensures.1 in
-    rw (p.1, p.2) (inr (inl (inl (c.in_err-state.field-0.0, refl, c.in_err-state.ensures.refused))))
+    rw (p.1, p.2) (inl (inl (c.in_err-state.field-0.0, refl, c.in_err-state.ensures.refused)))
 
 pub returns-in_err-state-clause-left : goal.returns-in_err-state-clause-left
 returns-in_err-state-clause-left g c =
@@ -36,7 +36,7 @@ returns-in_err-left-clause-fault g c =
     let found = c.in_ok-state.state in
     let opened : IsOpened g.S.Shelf.honest g.N.Boarded.board found c.args.shelf.now c.compact_state.new.shelf = opens _ _ _ _ c.open.new.shelf _ c.in_ok-state.ensures.opened c.in_ok-state.ensures.board c.in_err-left.ensures.told in
     let e = c.in_err-left.field-0.0 in
-    let stops = subst (λ (at : Place). IsOfManning e ⊎ IsWorkersFault Refused g.S.Shelf.honest (IsLeftByWorkers g.S.Shelf.honest found) at c.args.options.now.workers e) (sym c.requires.shelf) c.in_err-left.ensures.refused in
+    let stops = subst (λ (at : Place). IsOfManning e ⊎ IsAimedFault Refused g.S.Shelf.honest (IsLeftByWorkers g.S.Shelf.honest found) at found c.args.options.now e) (sym c.requires.shelf) c.in_err-left.ensures.refused in
     rw (p.1, p.2) (unfinished Stored Refused g.S.Shelf.honest g.N.Boarded.board found c.args.options.now e _ _ opened stops)
 
 pub returns-in_err-find_manifest-clause-fault : goal.returns-in_err-find_manifest-clause-fault
@@ -49,7 +49,7 @@ returns-in_err-find_manifest-clause-fault g c =
     let found = c.in_ok-state.state in
     let returned = c.in_ok-left._returned.items in
     let opened : IsOpened Honest g.N.Boarded.board found c.args.shelf.now c.compact_state.new.shelf = opens _ _ _ _ c.open.new.shelf _ c.in_ok-state.ensures.opened c.in_ok-state.ensures.board c.in_ok-left.ensures.told in
-    let ends = subst (λ (at : Place). AreEnds Refused Honest (IsLeftByWorkers Honest found) at c.args.options.now.workers returned) (sym c.requires.shelf) c.in_ok-left.ensures.ends in
+    let ends = subst (λ (at : Place). AreAimed Refused Honest (IsLeftByWorkers Honest found) at found c.args.options.now returned) (sym c.requires.shelf) c.in_ok-left.ensures.ends in
     let left : IsLeftByWorkers Honest found c.in_ok-left.left = law.out found c.in_ok-left.left c.in_ok-left.ensures.kept in
     rw (p.1, p.2) (unswept Stored Refused Honest g.N.Boarded.board found c.in_ok-left.left c.args.options.now returned c.in_err-find_manifest.field-0.0 _ _ _ opened ends
     c.in_ok-left.ensures.faultless left (inl c.in_err-find_manifest.ensures.refused))
@@ -64,7 +64,7 @@ returns-in_err-sweep_all-clause-fault g c =
     let found = c.in_ok-state.state in
     let returned = c.in_ok-left._returned.items in
     let opened : IsOpened Honest g.N.Boarded.board found c.args.shelf.now c.compact_state.new.shelf = opens _ _ _ _ c.open.new.shelf _ c.in_ok-state.ensures.opened c.in_ok-state.ensures.board c.in_ok-left.ensures.told in
-    let ends = subst (λ (at : Place). AreEnds Refused Honest (IsLeftByWorkers Honest found) at c.args.options.now.workers returned) (sym c.requires.shelf) c.in_ok-left.ensures.ends in
+    let ends = subst (λ (at : Place). AreAimed Refused Honest (IsLeftByWorkers Honest found) at found c.args.options.now returned) (sym c.requires.shelf) c.in_ok-left.ensures.ends in
     let after = c.sweep_all.new.state in
     let left : IsLeftByWorkers Honest found after = law.looked found c.in_ok-left.left after (law.out found c.in_ok-left.left c.in_ok-left.ensures.kept) c.in_err-sweep_all.ensures.looked c.in_err-sweep_all.ensures.rest in
     let named : IsNamed after c.compact_state.new.shelf c.find_manifest.new.shelf = named_still c.in_ok-left.left after _ _ c.in_err-sweep_all.ensures.rest c.in_ok-find_manifest.ensures.named in
@@ -89,7 +89,7 @@ returns-clause-fault g c =
     let found = c.in_ok-state.state in
     let returned = c.in_ok-left._returned.items in
     let opened : IsOpened Honest g.N.Boarded.board found c.args.shelf.now c.compact_state.new.shelf = opens _ _ _ _ c.open.new.shelf _ c.in_ok-state.ensures.opened c.in_ok-state.ensures.board c.in_ok-left.ensures.told in
-    let ends = subst (λ (at : Place). AreEnds Refused Honest (IsLeftByWorkers Honest found) at c.args.options.now.workers returned) (sym c.requires.shelf) c.in_ok-left.ensures.ends in
+    let ends = subst (λ (at : Place). AreAimed Refused Honest (IsLeftByWorkers Honest found) at found c.args.options.now returned) (sym c.requires.shelf) c.in_ok-left.ensures.ends in
     let after = c.sweep_all.new.state in
     let left : IsLeftByWorkers Honest found after = law.looked found c.in_ok-left.left after (law.out found c.in_ok-left.left c.in_ok-left.ensures.kept) c.in_ok-sweep_all.ensures.looked c.in_ok-sweep_all.ensures.rest in
     let named : IsNamed after c.compact_state.new.shelf c.find_manifest.new.shelf = named_still c.in_ok-left.left after _ _ c.in_ok-sweep_all.ensures.rest c.in_ok-find_manifest.ensures.named in
@@ -98,14 +98,14 @@ returns-clause-fault g c =
     let same : current_id after.slots ≡ current_id c.in_ok-left.left.slots = c.in_ok-sweep_all.ensures.looked.id in
     let less : c.saturating_sub-installed.result ≡ c.current.result.0 - c.current-begun.result.0 = c.saturating_sub-installed.ensures in
     let count : c.saturating_sub-installed.result ≡ installed_between found after = cc in
-    inr (inr (inr (inr (
+    inr (inr (inr (
       refl,
       (
         c.saturating_sub-installed.result,
         compacts Refused Honest g.N.Boarded.board found after c.args.options.now _ returned _ _ _ _ opened ends c.in_ok-left.ensures.faultless c.in_ok-left.ensures.cleared left count named
             c.in_ok-sweep_all.ensures.ok,
       ),
-    ))))
+    )))
 
 pub returns-in-Ok-clause-done : goal.returns-in-Ok-clause-done
 returns-in-Ok-clause-done g c =
@@ -115,7 +115,7 @@ returns-in-Ok-clause-done g c =
     let found = c.in_ok-state.state in
     let returned = c.in_ok-left._returned.items in
     let opened : IsOpened Honest g.N.Boarded.board found c.args.shelf.now c.compact_state.new.shelf = opens _ _ _ _ c.open.new.shelf _ c.in_ok-state.ensures.opened c.in_ok-state.ensures.board c.in_ok-left.ensures.told in
-    let ends = subst (λ (at : Place). AreEnds Refused Honest (IsLeftByWorkers Honest found) at c.args.options.now.workers returned) (sym c.requires.shelf) c.in_ok-left.ensures.ends in
+    let ends = subst (λ (at : Place). AreAimed Refused Honest (IsLeftByWorkers Honest found) at found c.args.options.now returned) (sym c.requires.shelf) c.in_ok-left.ensures.ends in
     let after = c.sweep_all.new.state in
     let left : IsLeftByWorkers Honest found after = law.looked found c.in_ok-left.left after (law.out found c.in_ok-left.left c.in_ok-left.ensures.kept) c.in_ok-sweep_all.ensures.looked c.in_ok-sweep_all.ensures.rest in
     let named : IsNamed after c.compact_state.new.shelf c.find_manifest.new.shelf = named_still c.in_ok-left.left after _ _ c.in_ok-sweep_all.ensures.rest c.in_ok-find_manifest.ensures.named in

@@ -13,5 +13,6 @@ returns-clause-done g c =
 
 pub returns-clause-refused : goal.returns-clause-refused
 returns-clause-refused g c =
-    fails_at g.C.FolderCalls g.C.Mark.Mark c.begin-done.result.0 c.args.line.now _ c.in_ok-shelf.shelf c.begin-done.result.1 _ _ c.in_ok-shelf.ensures.found
+    fails_at g.C.FolderCalls g.C.Mark.Mark c.begin-done.result.0 c.args.line.now c.deref.result.now c.in_ok-shelf.shelf c.begin-done.result.1 _ _
+    (subst (λ (files : List FolderFile). IsShelfAt g.C.FolderCalls c.args.line.now.path.now (TellsBeside files) c.in_ok-shelf.shelf) (sym c.deref.ensures.value) c.in_ok-shelf.ensures.found)
     c.begin-done.ensures.refused c.begin-done.ensures.reads

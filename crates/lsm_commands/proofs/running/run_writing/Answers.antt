@@ -11,3 +11,9 @@ returns-in-WriteKey-clause-done g c = rw c.in-WriteKey.is c.run_write.ensures.do
 
 pub returns-in-WriteKey-clause-refused : goal.returns-in-WriteKey-clause-refused
 returns-in-WriteKey-clause-refused g c = rw c.in-WriteKey.is c.run_write.ensures.refused
+
+pub returns-in-Clean-clause-done : goal.returns-in-Clean-clause-done
+returns-in-Clean-clause-done g c = rw c.in-Clean.is c.run_clean.ensures.done
+
+pub returns-in-Clean-clause-refused : goal.returns-in-Clean-clause-refused
+returns-in-Clean-clause-refused g c = rw c.in-Clean.is c.run_clean.ensures.refused

@@ -36,7 +36,10 @@ pub returns-clause-cut : goal.returns-clause-cut
 returns-clause-cut g c = λ board. ingest_cut g.P.Premise.holds board
 
 pub returns-clause-ages : goal.returns-clause-ages
-returns-clause-ages g c = λ board limit h now new ws xs r s w d. small_ages c.changed_tables.ensures g.P.Premise.holds board limit h now new ws xs r s w d
+returns-clause-ages g c = λ board limit h now new ws xs r s w d one two settled free opens.
+    small_ages c.changed_tables.ensures g.P.Premise.holds board limit h now new ws xs r s w d one.was one.is two.was two.is one.before one.after two.after settled free opens
+    one.welcome one.ingests one.event two.welcome two.ingests two.event
 
 pub returns-clause-new : goal.returns-clause-new
-returns-clause-new g c = λ board h new ws r was is l ln m. first_lives g.P.Premise.holds board h m l c.changed_tables.ensures new ws r was is ln
+returns-clause-new g c = λ board h new ws r made one.
+    first_lives g.P.Premise.holds board h made one.before c.changed_tables.ensures new ws r one.was one.is one.after one.welcome one.ingests one.event

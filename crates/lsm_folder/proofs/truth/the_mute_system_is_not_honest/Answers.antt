@@ -1,6 +1,6 @@
 use Rattle.std.proofs.Common.{◌≡◌, ℕ, List, [], ◌∷◌, length, take, drop, ap, arith}
 use Rattle.std.specs.Prelude.{Ok}
-use Rattle.lsm_folder.specs.Calls.{AreHonest, Call, read, LastIsTrue}
+use Rattle.lsm_folder.specs.Calls.{AreHonest, Call, read}
 use Rattle.lsm_folder.specs.SystemFolder.{system_calls}
 use Rattle.lsm_folder.specs.Truth.{TellsTruth}
 use Rattle.lsm_folder.specs.declared.seen_log.SeenLog.{SeenLog}

@@ -2,7 +2,7 @@ use Rattle.std.proofs.Common.{◌≡◌, ◌-◌, ◌<◌, ◌++◌, ◌∷◌, 
 use Rattle.lsm_batch.specs.declared.write.Write.{Write}
 use Rattle.lsm_batch.specs.Limits.{most_entries}
 use Rattle.lsm_lines.specs.Filling.{Fills}
-use Rattle.lsm_lines.proofs.BufferLaws.{length_more}
+use Rattle.lsm_batch.proofs.CallerLemmas.{length_more}
 use Rattle.lsm_lines.proofs.GatherLaws.{fills_more, fills_none, fills_over, takes_begins}
 use Rattle.lsm_lines.proofs.filling.fill.Goals as goal
 

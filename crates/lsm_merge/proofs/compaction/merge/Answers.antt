@@ -1,22 +1,53 @@
-use Rattle.std.proofs.Common.{ℕ, List, [], refl, sym, ◌∙◌, ap, subst}
+use Rattle.std.proofs.Common.{◌≡◌, ℕ, List, [], Option, None, refl, sym, ◌∙◌, ap, subst}
+use Rattle.lsm_codec.specs.Entries.{Entry}
+use Rattle.lsm_shelf.specs.Told.{Becomes, Told}
+use Rattle.lsm_table.specs.Options.{AreInRange}
 use Rattle.lsm_model.specs.Merging.{entries_of}
+use Rattle.lsm_iterators.specs.Runs.{Left}
+use Rattle.lsm_merge.specs.Compacting.{nothing_of}
 use Rattle.lsm_merge.specs.declared.merge_fault.MergeFault.{MergeFault}
 use Rattle.std.specs.Prelude.{IfErr}
 use Rattle.lsm_table.specs.declared.table_options.TableOptions.{TableOptions}
+use Rattle.lsm_shelf.proofs.CallerLemmas.{becomes_same}
 use Rattle.lsm_merge.specs.Causes.{AnswersOf, AsksFor, HasCause, NamesRefused, NamesTicket}
-use Rattle.lsm_merge.specs.Inputs.{IsOrderFault, input_numbers}
+use Rattle.lsm_merge.specs.Inputs.{AreInputs, IsOrderFault, input_numbers}
 use Rattle.lsm_model.specs.Files.{all_entries}
 use Rattle.lsm_merge.specs.InputOrder.{HasTwins}
 use Rattle.lsm_merge.specs.Limits.{IsOverLimit, IsSizeFault}
 use Rattle.lsm_merge.specs.Outputs.{Made, entries_of_last}
 use Rattle.lsm_merge.proofs.PutBefore.{before_none, refused_last, refused_step}
-use Rattle.lsm_merge.specs.Work.{job_of}
+use Rattle.lsm_merge.specs.Work.{Work, job_of}
 use Rattle.lsm_merge.proofs.Limited.{no_size_reading}
 use Rattle.lsm_merge.proofs.Tickets.{asks_none, asks_then, names_put, names_reading}
 use Rattle.lsm_merge.proofs.PlaceLaws.{cause_after, cause_of_put, err_is, if_err, order_put, puts_all, puts_rise, puts_then, tables_all, tables_then}
-use Rattle.lsm_merge.proofs.PutLaws.{err_if, on_err, on_ok}
-use Rattle.lsm_merge.proofs.UnderWay.{order_reading, under_ascends, under_done, under_last, under_limit, under_order, under_step}
+use Rattle.lsm_merge.proofs.PutLaws.{err_if, on_err, on_ok, puts_none, tables_none}
+use Rattle.lsm_merge.proofs.UnderWay.{IsUnderWay, order_reading, under_ascends, under_done, under_last, under_limit, under_order, under_step}
 use Rattle.lsm_merge.proofs.compaction.merge.Goals as goal
+
+-- before the first step
+begun : (Honest : Type 0) (w : Work) (was is : Told) (drew answers asked : List ℕ) (m : Made) (before : Option Entry) (left : Left) → m ≡ nothing_of w → AreInRange w.table → before ≡ None → Becomes was is
+    → AreInputs left.files (input_numbers w) → IsUnderWay Honest w (entries_of left.placed) was is drew drew answers answers asked asked m before left
+begun Honest w was is drew answers asked m before left fresh range none told files =
+    subst (λ (k : Made). IsUnderWay Honest w (entries_of left.placed) was is drew drew answers answers asked asked k before left) (sym fresh)
+    (subst (λ (b : Option Entry). IsUnderWay Honest w (entries_of left.placed) was is drew drew answers answers asked asked (nothing_of w) b left) (sym none) (record {
+      sizes = record { ticket = refl; options = refl; target = refl };
+      good = record { in_range = range; whole = λ t h. absurd h; built = λ t h. absurd h; numbers = refl; written = tt };
+      up = λ key h. absurd (cc h);
+      told = puts_none [] [] was is refl told;
+      tables = tables_none [] [] was is refl told;
+      drawn = refl;
+      answered = refl;
+      files = files;
+      asks = asks_none w.ticket asked asked refl;
+      way = λ honest. record { same = refl; ascending = λ a. a.1; back = λ a. (λ e h. tt, a); left = λ e h. h };
+    }))
+
+pub entries-init : goal.entries-init
+entries-init g c = (
+  begun g.S.Shelf.honest c.args.job.now c.args.shelf.now c.open_stream.new.shelf (g.D.NumberSource.drew c.args.numbers.now) (g.D.NumberSource.refused c.args.numbers.now) (g.D.NumberSource.asked c.args.numbers.now)
+      c.args.outputs.now c.in_ok-stream.stream.before c.in_ok-stream.stream.left c.requires.fresh (c.ticket-ticket.ensures.work).in_range c.in_ok-stream.ensures.before c.open_stream.ensures.told c.in_ok-stream.ensures.files,
+  c.requires.ready,
+)
 
 pub returns-then-is_at_end-clause-kept : goal.returns-then-is_at_end-clause-kept
 returns-then-is_at_end-clause-kept g c = λ honest.
@@ -200,3 +231,12 @@ returns-in_err-step-clause-before g c =
 pub returns-in_err-stream-clause-refused : goal.returns-in_err-stream-clause-refused
 returns-in_err-stream-clause-refused g c =
     err_is (NamesRefused (g.S.Shelf.refuses g.N.Naming.place) c.args.job.now.table) c.from_residual.result c.in_err-stream.field-0.0 c.from_residual.ensures.1 (c.in_err-stream.ensures.refused c.args.job.now.table)
+
+-- no memory for the rows
+
+pub returns-in_default-clause-asked : goal.returns-in_default-clause-asked
+returns-in_default-clause-asked g c = asks_none c.args.job.now.ticket (g.D.NumberSource.asked c.args.numbers.now) (g.D.NumberSource.asked c.args.numbers.now) refl
+
+pub returns-in_default-clause-before : goal.returns-in_default-clause-before
+returns-in_default-clause-before g c =
+    before_none g.S.Shelf.honest c.args.job.now c.args.outputs.now.put c.args.shelf.now c.args.shelf.now (ap (λ (m : Made). m.put) c.requires.fresh) (becomes_same c.args.shelf.now)

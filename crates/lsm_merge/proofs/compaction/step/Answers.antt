@@ -75,8 +75,8 @@ returns-clause-ok g c = λ p rest is.
     let e : Entry = entry_of (key_of c.in-Some.key) c.value.result.now in
     let f : Follows c.args.stream.now.before e = follows_says c.args.stream.now.before e (sym (c.is_followed_by.ensures c.in-Some.ensures) ∙ c.if-not-is_followed_by.false) in
     stepped g.S.Shelf.honest c.args.job.now c.args.stream.now.left.placed p rest c.args.stream.now.before c.pass.new.self.before c.args.outputs.now c.take.new.self c.pass.new.self.left c.pass.result
-    (key_of c.in-Some.key) c.value.result.now c.is_kept-kept.result c.floor-floor.result c.ranges-2.result.now is c.in-Some.ensures c.value.ensures f
-    (c.is_kept-kept.ensures c.args.stream.now.before (c.shadows-shadowed.ensures c.in-Some.ensures)) c.floor-floor.ensures c.ranges-2.ensures
+    (key_of c.in-Some.key) c.value.result.now c.is_kept-kept.result c.floor-floor.result c.args.ranges.now is c.in-Some.ensures c.value.ensures f
+    (c.is_kept-kept.ensures c.args.stream.now.before (c.shadows-shadowed.ensures c.in-Some.ensures)) c.floor-floor.ensures c.requires.ranges
     c.in_ok-take.ensures.ok (c.pass.ensures.before (key_of c.in-Some.key) c.in-Some.ensures) c.pass.ensures.ok
 
 pub returns-clause-told : goal.returns-clause-told
@@ -102,8 +102,8 @@ returns-in_err-take-clause-stands g c =
     let own : entry_of k v ≡ p.1 = first_entry c.args.stream.now.left.placed p rest k v is c.in-Some.ensures c.value.ensures in
     one_when m.options m.options (entries_of_last m.last) (IsTime m c.is_kept-kept.result (entry_of k v)) (IsTime m (is_kept c.args.job.now.floor c.args.job.now.ranges c.args.stream.now.before p.1) p.1)
     m.put c.take.new.self.put c.args.shelf.now c.take.new.shelf refl
-    (time_of c.args.job.now m c.args.stream.now.before k v c.is_kept-kept.result c.floor-floor.result c.ranges-2.result.now p.1 own
-    (c.is_kept-kept.ensures c.args.stream.now.before (c.shadows-shadowed.ensures c.in-Some.ensures)) c.floor-floor.ensures c.ranges-2.ensures)
+    (time_of c.args.job.now m c.args.stream.now.before k v c.is_kept-kept.result c.floor-floor.result c.args.ranges.now p.1 own
+    (c.is_kept-kept.ensures c.args.stream.now.before (c.shadows-shadowed.ensures c.in-Some.ensures)) c.floor-floor.ensures c.requires.ranges)
     c.in_err-take.ensures.stands)
 
 pub returns-clause-stands : goal.returns-clause-stands
@@ -116,8 +116,8 @@ returns-clause-stands g c =
     one_after m.options (entries_of_last m.last) (IsTime m (is_kept c.args.job.now.floor c.args.job.now.ranges c.args.stream.now.before p.1) p.1) m.put c.take.new.self.put c.args.shelf.now c.take.new.shelf c.pass.new.shelf c.pass.ensures.told
     (one_when m.options m.options (entries_of_last m.last) (IsTime m c.is_kept-kept.result (entry_of k v)) (IsTime m (is_kept c.args.job.now.floor c.args.job.now.ranges c.args.stream.now.before p.1) p.1)
     m.put c.take.new.self.put c.args.shelf.now c.take.new.shelf refl
-    (time_of c.args.job.now m c.args.stream.now.before k v c.is_kept-kept.result c.floor-floor.result c.ranges-2.result.now p.1 own
-    (c.is_kept-kept.ensures c.args.stream.now.before (c.shadows-shadowed.ensures c.in-Some.ensures)) c.floor-floor.ensures c.ranges-2.ensures)
+    (time_of c.args.job.now m c.args.stream.now.before k v c.is_kept-kept.result c.floor-floor.result c.args.ranges.now p.1 own
+    (c.is_kept-kept.ensures c.args.stream.now.before (c.shadows-shadowed.ensures c.in-Some.ensures)) c.floor-floor.ensures c.requires.ranges)
     (taken_one c.args.shelf.now c.take.new.shelf m c.take.new.self c.is_kept-kept.result (entry_of k v) c.requires.good c.in_ok-take.ensures.ok c.in_ok-take.ensures.tables)))
 
 pub returns-clause-refused : goal.returns-clause-refused

@@ -1,3 +1,4 @@
+use Rattle.std.proofs.Common.{refl}
 use Rattle.lsm_store.proofs.Sending.{quiet_unseen}
 use mir.Syntax.{of_param}
 use Rattle.lsm_store.proofs.background_workers.run_beside.Goals as goal
@@ -16,16 +17,22 @@ scoped-requires g c =
             (
               c.requires.room,
               (
-                record { owned = bound.send-N.owned; leaving = λ k x w. quiet_unseen (k (of_param 0)) x w },
-                record { owned = bound.send-S.owned; leaving = λ k x w. quiet_unseen (k (of_param 1)) x w },
-                record { owned = bound.send-K.owned; leaving = λ k x w. quiet_unseen (k (of_param 2)) x w },
-                record { owned = bound.send-S-Receipt.owned; leaving = λ k x w. quiet_unseen (k (of_param 7)) x w },
-                record { shared = bound.sync-N.shared },
-                record { shared = bound.sync-S.shared },
-                record { shared = bound.sync-K.shared },
-                record { shared = bound.sync-G.shared },
-                record { shared = bound.sync-R.shared },
-                record { shared = bound.sync-S-Receipt.shared },
+                refl,
+                (
+                  c.of-background.ensures,
+                  (
+                    record { owned = bound.send-N.owned; leaving = λ k x w. quiet_unseen (k (of_param 0)) x w },
+                    record { owned = bound.send-S.owned; leaving = λ k x w. quiet_unseen (k (of_param 1)) x w },
+                    record { owned = bound.send-K.owned; leaving = λ k x w. quiet_unseen (k (of_param 2)) x w },
+                    record { owned = bound.send-S-Receipt.owned; leaving = λ k x w. quiet_unseen (k (of_param 7)) x w },
+                    record { shared = bound.sync-N.shared },
+                    record { shared = bound.sync-S.shared },
+                    record { shared = bound.sync-K.shared },
+                    record { shared = bound.sync-G.shared },
+                    record { shared = bound.sync-R.shared },
+                    record { shared = bound.sync-S-Receipt.shared },
+                  ),
+                ),
               ),
             ),
           )),

@@ -10,7 +10,6 @@ returns-clause-kept g c =
     record {
       held = _;
       version = c.in_ok-found.found.version;
-      rest = _;
       next = _;
       found = c.in_ok-found.ensures.found;
       its = search rules;

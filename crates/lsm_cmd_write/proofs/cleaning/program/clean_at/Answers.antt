@@ -6,12 +6,12 @@ use Rattle.lsm_cmd_write.proofs.cleaning.program.clean_at.Goals as goal
 
 pub returns-clause-done : goal.returns-clause-done
 returns-clause-done g c =
-    cleans_at g.C.FolderCalls c.clean_folder.result c.args.path.now c.in_ok-folder.folder c.clean_folder.new.folder _ _ c.in_ok-folder.ensures.place
+    cleans_at g.C.FolderCalls c.clean_folder.result c.args.path.now c.args.options c.in_ok-folder.folder c.clean_folder.new.folder _ _ c.in_ok-folder.ensures.place
     c.in_ok-folder.ensures.calls c.clean_folder.ensures.place c.clean_folder.ensures.cleaned
 
 pub returns-clause-refused : goal.returns-clause-refused
 returns-clause-refused g c =
-    fails_to_clean g.C.FolderCalls g.C.Mark.Mark c.clean_folder.result c.args.path.now c.in_ok-folder.folder c.clean_folder.new.folder _ _
+    fails_to_clean g.C.FolderCalls g.C.Mark.Mark c.clean_folder.result c.args.path.now c.args.options c.in_ok-folder.folder c.clean_folder.new.folder _ _
     c.in_ok-folder.ensures.place c.in_ok-folder.ensures.calls c.clean_folder.ensures.place c.clean_folder.ensures.refused
 
 pub returns-in_err-folder-clause-refused : goal.returns-in_err-folder-clause-refused

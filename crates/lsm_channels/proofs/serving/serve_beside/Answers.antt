@@ -1,0 +1,41 @@
+use Rattle.lsm_channels.proofs.KeepingLaws.{quiet_compaction}
+use Rattle.lsm_channels.proofs.Sending.{quiet_unseen}
+use mir.Syntax.{of_param}
+use Rattle.lsm_channels.proofs.serving.serve_beside.Goals as goal
+
+pub with_workers-run-requires-clause-kept : goal.with_workers-run-requires-clause-kept
+with_workers-run-requires-clause-kept g c κs within = quiet_compaction g.S.Shelf.honest g.K.Invariant.keeps c.requires.quiet
+
+-- the values of the parameters' types may go to another thread
+pub with_workers-run-requires-clause-body : goal.with_workers-run-requires-clause-body
+with_workers-run-requires-clause-body g c κs within =
+    let bound = c.type_bounds in
+    record {
+      at = λ background. (
+        c.requires.quiet,
+        (
+          c.requires.asked,
+          (
+            c.requires.fresh,
+            (
+              c.requires.none,
+              (
+                c.requires.room,
+                (
+                  record { owned = bound.send-N.owned; leaving = λ k x w. quiet_unseen (k (of_param 0)) x w },
+                  record { owned = bound.send-S.owned; leaving = λ k x w. quiet_unseen (k (of_param 1)) x w },
+                  record { owned = bound.send-K.owned; leaving = λ k x w. quiet_unseen (k (of_param 2)) x w },
+                  record { owned = bound.send-W.owned; leaving = λ k x w. quiet_unseen (k (of_param 3)) x w },
+                  record { owned = bound.send-S-Receipt.owned; leaving = λ k x w. quiet_unseen (k (of_param 5)) x w },
+                  record { shared = bound.sync-N.shared },
+                  record { shared = bound.sync-S.shared },
+                  record { shared = bound.sync-K.shared },
+                  record { shared = bound.sync-R.shared },
+                  record { shared = bound.sync-S-Receipt.shared },
+                ),
+              ),
+            ),
+          ),
+        ),
+      );
+    }

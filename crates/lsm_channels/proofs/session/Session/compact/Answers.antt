@@ -1,0 +1,14 @@
+use Rattle.std.proofs.Common.{ℕ, List, refl, subst}
+use Rattle.lsm_frames.specs.Requests.{Compacts}
+use Rattle.lsm_channels.specs.Answering.{IsAnswered}
+use Rattle.lsm_channels.specs.Served.{Served}
+use Rattle.lsm_channels.proofs.SessionLaws.{says_some_work, unsaid}
+use Rattle.lsm_channels.proofs.session.Session.compact.Goals as goal
+
+pub returns-in_err-answer-clause-unanswered : goal.returns-in_err-answer-clause-unanswered
+returns-in_err-answer-clause-unanswered g c =
+    let said = says_some_work c.compact-done.result in
+    let after : Served = record { reader = c.self.inside.reader; shelf = c.compact-done.new.shelf; known = c.compact-done.new.memory; taken = c.self.inside.taken.items } in
+    unsaid c.from_residual.result
+    (subst (λ (x : Served). (frame : List ℕ) × IsAnswered g.S.Shelf.honest (g.S.Shelf.refuses g.N.Naming.place) g.K.Invariant.keeps Compacts x after frame) c.self.view_is
+    (said.0, (refl, refl, c.compact-done.ensures.told, (c.compact-done.result, c.compact-done.ensures.compacted, c.compact-done.ensures.refused, said.1))))

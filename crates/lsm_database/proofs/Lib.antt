@@ -1,0 +1,3 @@
+pub mod DatabaseLaws
+pub mod PairLaws
+pub mod RunLaws

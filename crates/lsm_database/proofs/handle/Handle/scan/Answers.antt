@@ -1,0 +1,10 @@
+use Rattle.lsm_database.proofs.DatabaseLaws.{shows, unread}
+use Rattle.lsm_database.proofs.handle.Handle.scan.Goals as goal
+
+pub returns-clause-shown : goal.returns-clause-shown
+returns-clause-shown g c = shows g.S.Shelf.honest c.deref_mut.result.now.state c.args.self.now.memory _ c.args.self.now.shelf c.args.self.now.blocks c.scan_in.new.blocks c.scan_in.ensures.lent c.scan_in.ensures.told
+    c.args.from.now c.args.limit (λ v. v.items) c.scan_in.result c.scan_in.ensures.shown
+
+pub returns-clause-refused : goal.returns-clause-refused
+returns-clause-refused g c = unread g.S.Shelf.honest c.deref_mut.result.now.state c.args.self.now.memory _ c.args.self.now.shelf c.args.self.now.blocks c.scan_in.new.blocks c.scan_in.ensures.lent c.scan_in.ensures.told
+    (g.S.Shelf.refuses g.N.Naming.place) c.scan_in.result c.scan_in.ensures.sound c.scan_in.ensures.refused c.scan_in.ensures.cause

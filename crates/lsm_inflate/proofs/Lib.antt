@@ -1,0 +1,10 @@
+mod PlainReading
+mod StepLaws
+mod HandleLaws
+mod FooterLaws
+mod StoredLaws
+mod FillingLaws
+mod DataLaws
+mod TableLaws
+mod LoopLaws
+mod AnswerLaws

@@ -1,0 +1,9 @@
+mod WriteLaws
+mod WriteLoop
+mod BatchLaws
+mod BatchLoop
+mod EntryLaws
+mod LogLaws
+mod FrontLaws
+mod RowLaws
+mod WritingLaws
