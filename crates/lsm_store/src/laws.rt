@@ -11,6 +11,7 @@ ghost use Rattle.lsm_state.specs.Opening.{opened_state};
 ghost use Rattle.lsm_state.specs.declared.options.Options.{Options};
 ghost use Rattle.lsm_store.specs.Compacting.{IsKeptByCompaction, IsLeftByWorkers, IsSeated};
 ghost use Rattle.lsm_store.specs.Readers.{SeatsPinners};
+ghost use Rattle.lsm_store.specs.Sweeping.{HasSwept, OnlyRemoves};
 ghost use Rattle.lsm_store.specs.Working.{Given, IsCountedIf, IsWorked, OnlyPutsAndSends};
 ghost use Rattle.lsm_store.specs.declared.worker_end.WorkerEnd.{WorkerEnd};
 ghost use Rattle.lsm_version.specs.Versions.{Levels};
@@ -61,4 +62,12 @@ pub fn what_workers_did_is_told<N: Boarded, S: Shelf, K: Invariant>()
     ensures only { (given : Given) (back : Told) (e : WorkerEnd)
         → IsWorked S.honest (S.refuses N.place) K.keeps given e back
         → OnlyPutsAndSends given.shelf back }
+{}
+
+/// What follows for the shelf of the thread that sweeps of what it did (`HasSwept`). It was told to
+/// list tables, and to remove such as were not kept, each at a taking of the lock where the fact of
+/// the store held; and that is all: it put nothing, wrote no manifest, and gave no fork.
+pub fn what_sweeping_did_is_told<N: Boarded, S: Shelf, K: Invariant>()
+    ensures only { (was is : Told) → HasSwept (S.refuses N.place) K.keeps was is
+        → OnlyRemoves K.keeps was is }
 {}
