@@ -14,7 +14,7 @@ use Rattle.lsm_state.specs.declared.state_fault.StateFault.{StateFault}
 use Rattle.lsm_state.specs.declared.state_fault.StateFault.TheVariants.{OutOfMemory, Shelf, Read, BadLevel, EmptyBatch, KeyOrder, TooLarge, LevelZeroFull, SequencesSpent, Halted, UnknownSnapshot, Conflict, UnknownTicket, NumbersSpent, Stale, SlotsHeld, VersionsSpent, PinsSpent}
 use Rattle.lsm_store.specs.Compacting.{IsCompactingStep}
 use Rattle.lsm_store.specs.Sweeping.{ForkedOnce, HasSwept, IsSwept, IsSweptOften, IsUnkeptRemoval, LastForked, OnlyRemoves, Removes, RemovesEach, Sweeps, TriesToRemove}
-use Rattle.lsm_store.proofs.CompactingLaws.{found_looked, step_none}
+use Rattle.lsm_store.proofs.CompactingLaws.{adds_looked, found_looked, step_none}
 
 -- ---- looks under the lock
 
@@ -24,6 +24,7 @@ step_looked Honest was is rest event around = record {
   options = ap (λ (h : Held). h.options) rest;
   pinners = ap (λ (h : Held). h.pinners) rest;
   found = found_looked Honest was is around.looked rest;
+  slots = adds_looked was.slots is.slots around.looked;
 }
 
 pub step_looked_or_not : (Honest : Type 0) (was is : Held) (e : StateFault) → is ≡ record was { slots = is.slots } → plain is ≡ plain was
