@@ -134,16 +134,17 @@ fn run_beside<
 }
 
 /// Compacts in the background while the body runs, with one worker for each shelf. Answers what the
-/// body answered, and what each worker has done, with its shelf, in the order of the shelves. These
-/// are forks of the store's, of any number; 1 to 8 are meant.
+/// body answered; what each worker has done, with its shelf, in the order of the shelves; and the
+/// shelf of the thread that removed tables, none where there is no such thread. The shelves are
+/// forks of the store's, of any number; 1 to 8 are meant.
 ///
 /// Each worker has a thread of its own, in which it reserves under the lock what comes next, so that
 /// small files are joined (`State::reserve_next`), merges outside it, and installs under it; before
 /// each merge the gate is told. Where nothing is left to reserve it sleeps, until it is woken
 /// (`Background::wake`) or another worker has installed a result. One more thread draws the numbers
 /// of the outputs under the lock. And one, over a fork of the last shelf, removes after installs
-/// the tables that nothing needs any more, outside the lock; what it cannot remove it leaves to the
-/// next time.
+/// the tables that nothing needs any more, one at a taking of the lock; what it cannot remove it
+/// leaves to the next time. Its shelf was told no more (`laws::what_sweeping_did_is_told`).
 ///
 /// The body runs in the thread of the caller, and is lent the workers. Once it has answered, each
 /// worker ends after the merge at hand, and all threads are joined. A body after which nothing

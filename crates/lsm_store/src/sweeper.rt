@@ -71,7 +71,9 @@ impl<N: Boarded, S: Shelf, K: Invariant> Sweeper<N, S, K> {
                 shelf
             },
         );
-        Sweeper { handle: handle.ok() }
+        Sweeper {
+            handle: handle.ok(),
+        }
     }
 
     /// Waits for the thread: its shelf, where there was one.
