@@ -69,7 +69,7 @@ pins_published old new v p id =
 looked_had : (old new : Slotted) → Looked old new → (slot : ℕ) (e : Epoch) → HasEpoch new slot e → HasEpoch old slot e
 looked_had old new l slot e had = elim (l.each slot) [
   | inl same ↦ sym same ∙ had
-  | inr freed ↦ (let both : Some None ≡ Some (Some e) = sym freed.free ∙ had in absurd (cc))
+  | inr freed ↦ (let both : Some None ≡ Some (Some e) = sym freed.free ∙ had in cc)
 ]
 
 pub adds_none : (old new : Slotted) → new ≡ old → AddsCurrentAlone old new
@@ -88,7 +88,8 @@ in_place xs at slot x y e = elim (cases_eq slot at) [
 -- behind looks a version came into a slot, and is current
 pub adds_published : (old mid new : Slotted) (v : Levels) → Looked old mid → Published mid new v → AddsCurrentAlone old new
 adds_published old mid new v l p slot e had =
-    elim (in_place mid.epochs p.slot slot (record { id = suc (current_id mid); version = v; pins = 0 }) e (subst (λ (es : List (Option Epoch)). slice_get es slot ≡ Some (Some e)) p.epochs had)) [
+    let here : Epoch = record { id = suc (current_id mid); version = v; pins = 0 } in
+    elim (in_place mid.epochs p.slot slot here e (subst (λ (es : List (Option Epoch)). slice_get es slot ≡ Some (Some e)) p.epochs had)) [
       | inl before ↦ inl (slot, e, looked_had old mid l slot e before, refl)
       | inr is ↦ inr (sym (ap (λ (x : Epoch). x.version) is) ∙ sym p.version_is)
     ]

@@ -1,11 +1,11 @@
 -- What is left of a sweep.
 use Rattle.std.proofs.Common.{◌≡◌, ℕ, zero, suc, ◌+◌, ◌<◌, ◌≤◌, Bool, true, false, List, [], ◌∷◌, ◌++◌, get_or, length, take, refl, sym, ap, ◌∙◌, subst, inl, inr, arith, ◌⊎◌}
-use Rattle.std.specs.Prelude.{Result, Ok, Err}
+use Rattle.std.specs.Prelude.{Result, Ok, Err, OnErr, OnOk}
 use Rattle.std.proofs.lemmas.List.{append_assoc, take_more}
 use Rattle.lsm_codec.specs.Lists.{Has}
 use Rattle.lsm_codec.proofs.CallerLemmas.{has_cases}
 use Rattle.lsm_shelf.specs.Asked.{Asked, ListTables, Remove}
-use Rattle.lsm_shelf.specs.Told.{Told, Becomes, listing, removed_by, removing}
+use Rattle.lsm_shelf.specs.Told.{Told, Becomes, forking, listing, removed_by, removing}
 use Rattle.lsm_shelf.specs.declared.shelf_fault.ShelfFault.{ShelfFault}
 use Rattle.lsm_shelf.specs.declared.shelf_fault.ShelfFault.TheVariants as why
 use Rattle.lsm_state.specs.Collecting.{HasLookedAround, IsKeptNumber, IsRemoveRefusal, IsRemovedOrKept, outside}
@@ -13,7 +13,7 @@ use Rattle.lsm_state.specs.Held.{Held, plain}
 use Rattle.lsm_state.specs.declared.state_fault.StateFault.{StateFault}
 use Rattle.lsm_state.specs.declared.state_fault.StateFault.TheVariants.{OutOfMemory, Shelf, Read, BadLevel, EmptyBatch, KeyOrder, TooLarge, LevelZeroFull, SequencesSpent, Halted, UnknownSnapshot, Conflict, UnknownTicket, NumbersSpent, Stale, SlotsHeld, VersionsSpent, PinsSpent}
 use Rattle.lsm_store.specs.Compacting.{IsCompactingStep}
-use Rattle.lsm_store.specs.Sweeping.{ForkedOnce, HasSwept, IsSwept, IsSweptOften, IsUnkeptRemoval, LastForked, OnlyRemoves, Removes, RemovesEach, Sweeps, TriesToRemove}
+use Rattle.lsm_store.specs.Sweeping.{ForkedOnce, HasSwept, IsSwept, IsSweptOften, IsUnkeptRemoval, LastForked, Leaves, OnlyRemoves, Removes, RemovesEach, Sweeps, TriesToRemove}
 use Rattle.lsm_store.proofs.CompactingLaws.{adds_looked, found_looked, step_none}
 
 -- ---- looks under the lock
@@ -51,6 +51,15 @@ pub removes_next : (keeps : Held → Type 0) (ns : List ℕ) (i n : ℕ) (was mi
 removes_next keeps ns i n was mid is lt e before one =
     subst (λ (l : List ℕ). RemovesEach keeps l was is) (sym (take_more ns i 0 lt ∙ ap (λ m. take i ns ++ m ∷ []) e)) (removes_more keeps (take i ns) n was mid is before one)
 
+-- tables could not be listed
+pub swept_unlisted : (Refused : Asked → ShelfFault → Type 0) (keeps : Held → Type 0) (fault : ShelfFault) (was is : Told) → Refused ListTables fault → Becomes was is → IsSwept Refused keeps was is
+swept_unlisted Refused keeps fault was is refused b = inl (fault, refused, b)
+
+-- they were listed, and those that were not kept were removed
+pub swept_listed : (Refused : Asked → ShelfFault → Type 0) (keeps : Held → Type 0) (listed left : List ℕ) (was mid is : Told) → Becomes (listing listed was) mid → Leaves keeps listed left
+    → RemovesEach keeps left mid is → IsSwept Refused keeps was is
+swept_listed Refused keeps listed left was mid is told leaves removes = inr record { listed = listed; mid = mid; told = told; left = left; leaves = leaves; removes = removes }
+
 -- one sweep more
 pub swept_more : (Refused : Asked → ShelfFault → Type 0) (keeps : Held → Type 0) (was mid is : Told) → HasSwept Refused keeps was mid → IsSwept Refused keeps mid is → HasSwept Refused keeps was is
 swept_more Refused keeps was mid is before one = (suc before.0, (mid, before.1, one))
@@ -62,6 +71,13 @@ none_lent given lent a b = inl (a, b)
 
 pub last_lent : (given lent front : List Told) (t u : Told) → given ≡ front ++ t ∷ [] → lent ≡ front ++ u ∷ [] → ForkedOnce t u → LastForked given lent
 last_lent given lent front t u a b f = inr (front, t, u, a, b, f)
+
+becomes_forked : (was is : Told) → Becomes was is → Becomes (forking 0 was) is
+becomes_forked was is b = record { place = b.place; faults = b.faults; misses = b.misses; puts = b.puts; gone = b.gone; listed = b.listed; manifest = b.manifest; sent = b.sent; found = b.found; starts = b.starts; written = b.written; forks = (let e = b.forks in omega (arith, e)); made = b.made }
+
+pub forked_once : {T E : Type 0} (r : Result T E) (was is : Told) → OnOk r (Becomes (forking 1 was) is) → OnErr r (Becomes was is) → ForkedOnce was is
+forked_once (Ok x) was is ok err = (1, omega arith, ok)
+forked_once (Err e) was is ok err = (0, omega arith, becomes_forked was is err)
 
 -- ---- what follows of sweeps
 

@@ -90,6 +90,7 @@ fn remove_each<N: Boarded, S: Shelf, K: Invariant, R: Wait>(
 
 /// Lists the tables, and removes those that are not kept. What is refused is left to the next
 /// sweep.
+#[tactic(auto, using(crate::proofs::SweepLaws::swept_unlisted, crate::proofs::SweepLaws::swept_listed))]
 fn sweep<N: Boarded, S: Shelf, K: Invariant, R: Wait>(
     rt: &R,
     alloc: Global,
@@ -130,6 +131,7 @@ pub(crate) fn sweep_on<N: Boarded, S: Shelf, K: Invariant, R: Wait>(
 }
 
 /// A fork of the last shelf; none where there is no shelf, or the fork is refused.
+#[tactic(auto, using(crate::proofs::SweepLaws::forked_once, crate::proofs::SweepLaws::none_lent, crate::proofs::SweepLaws::last_lent))]
 pub(crate) fn fork_last<N: Boarded, S: Shelf>(
     alloc: Global,
     shelves: &mut Vec<NamedShelf<N, S>>,

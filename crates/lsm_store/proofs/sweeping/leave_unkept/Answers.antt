@@ -11,5 +11,5 @@ returns-in-Ok g c = record {
 pub returns-in-Err : goal.returns-in-Err
 returns-in-Err g c = record {
   step = step_looked_or_not g.S.Shelf.honest c.args.state.now c.leave_unkept.new.self c.in-Err.field-0 c.in-Err.ensures.rest c.in-Err.ensures.event c.in-Err.ensures.refused;
-  left = inr c.clear.ensures;
+  left = inr c.clear.ensures.items;
 }
