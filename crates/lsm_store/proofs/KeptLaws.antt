@@ -50,7 +50,7 @@ kept_compacting Honest was is law slots step = kept_no_more Honest was is step.r
 refused_adds : (was is : Held) (ws : List Write) (e : StateFault) (t u : Told) → IsIngestRefusal was is ws e t u → AddsCurrentAlone was.slots is.slots
 refused_adds was is ws e t u (inl early) = adds_none was.slots is.slots (ap (λ (h : Held). h.slots) early.1)
 refused_adds was is ws e t u (inr (welcome, inl slot)) = adds_looked was.slots is.slots slot.1.looked
-refused_adds was is ws e t u (inr (welcome, inr (sought, rest))) = adds_looked was.slots is.slots sought.looked
+refused_adds was is ws e t u (inr (welcome, inr (sought, slot, rest))) = adds_looked was.slots is.slots sought.looked
 
 pub kept_ingest : (Honest : Type 0) (Refused : Asked → ShelfFault → Type 0) (ws : List Write) (was is : Held) → Law Honest (plain was) → AreSlots was.slots → IsIngestStep Refused ws was is
     → KeepsNoMore was is
