@@ -12,7 +12,10 @@ use Rattle.lsm_model.specs.Files.{all_entries}
 use Rattle.lsm_version.specs.Versions.{Levels, files}
 use Rattle.lsm_requests.specs.declared.directory_command.DirectoryCommand.{DirectoryCommand}
 use Rattle.lsm_requests.specs.declared.directory_command.DirectoryCommand.TheVariants.{
-  Check, List as ListFiles, Get, Scan
+  Check,
+  List as ListFiles,
+  Get,
+  Scan,
 }
 use Rattle.lsm_text.specs.declared.form.Form.{Form}
 use Rattle.lsm_requests.specs.declared.get_output.GetOutput.TheVariants.{Line}
@@ -25,8 +28,17 @@ use Rattle.lsm_cmd_read.specs.Opening.{IsOpenRefusal}
 use Rattle.lsm_directory.specs.declared.folder.folder_file.FolderFile.{FolderFile}
 use Rattle.lsm_directory.specs.declared.faults.directory_fault.DirectoryFault.{DirectoryFault}
 use Rattle.lsm_directory.specs.declared.faults.directory_fault.DirectoryFault.TheVariants.{
-  OutOfMemory, Write, Shelf, Manifest, Tables, Read, NumbersSpent, Locked, UnflushedLog,
-  TornManifest, Absent
+  OutOfMemory,
+  Write,
+  Shelf,
+  Manifest,
+  Tables,
+  Read,
+  NumbersSpent,
+  Locked,
+  UnflushedLog,
+  TornManifest,
+  Absent,
 }
 use Rattle.lsm_requests.specs.declared.directory_line.DirectoryLine.{DirectoryLine}
 use Rattle.lsm_cmd_read.specs.declared.inquiry.Inquiry.{Inquiry}

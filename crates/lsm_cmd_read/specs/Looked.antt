@@ -16,7 +16,7 @@ use Rattle.lsm_directory.specs.Holding.{IsFolderFault}
 use Rattle.lsm_directory.specs.Looking.{TellsBeside}
 use Rattle.lsm_directory.specs.declared.faults.directory_fault.DirectoryFault.{DirectoryFault}
 use Rattle.lsm_directory.specs.declared.faults.directory_fault.DirectoryFault.TheVariants.{
-  OutOfMemory
+  OutOfMemory,
 }
 use Rattle.lsm_directory.specs.declared.folder.folder_file.FolderFile.{FolderFile}
 

@@ -8,8 +8,17 @@ use Rattle.lsm_journal.specs.Finding.{IsNoVersion, IsTakenLast, IsUnlisted, IsWi
 use Rattle.lsm_journal.specs.Recovering.{IsRecoverRefusal}
 use Rattle.lsm_directory.specs.declared.faults.directory_fault.DirectoryFault.{DirectoryFault}
 use Rattle.lsm_directory.specs.declared.faults.directory_fault.DirectoryFault.TheVariants.{
-  OutOfMemory, Write, Shelf, Manifest, Tables, Read, NumbersSpent, Locked, UnflushedLog,
-  TornManifest, Absent
+  OutOfMemory,
+  Write,
+  Shelf,
+  Manifest,
+  Tables,
+  Read,
+  NumbersSpent,
+  Locked,
+  UnflushedLog,
+  TornManifest,
+  Absent,
 }
 
 -- The manifest is refused; or it was read and comes to a shape whose tables are refused; or these
