@@ -45,13 +45,13 @@ copied_of shape files next = record {
 -- The copy has a table for each of the shape, and its next file number is above theirs. These are
 -- the entries of all.
 pub record IsCopiedOf (From Into : ℕ → List ℕ → Type 0) (shape : Form) (copied : Copied) : Type 0
-    where
-  pub files : List FileAt
-  pub entries : List Entry
-  pub next : ℕ
-  pub copies : AreCopies From Into (files_from 0 shape.levels) files entries
-  pub above : IsAbove shape.next files next
-  pub is : copied ≡ copied_of shape files next
+  where
+    pub files : List FileAt
+    pub entries : List Entry
+    pub next : ℕ
+    pub copies : AreCopies From Into (files_from 0 shape.levels) files entries
+    pub above : IsAbove shape.next files next
+    pub is : copied ≡ copied_of shape files next
 
 -- its edit can be written
 pub record IsFitting (copied : Copied) : Type 0 where

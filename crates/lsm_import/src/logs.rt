@@ -93,7 +93,9 @@ fn file_of<C: TableReceipt>(number: u64, record: TableRecord<C>) -> Result<Added
     }
     let size = record.size();
     let TableRecord {
-        smallest, largest, ..
+        smallest,
+        largest,
+        ..
     } = record;
     Ok(AddedFile {
         level: 0,
