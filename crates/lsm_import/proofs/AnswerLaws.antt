@@ -1,6 +1,7 @@
 -- Writes at sequences above those of tables: a read finds the last of a key, or what the tables
 -- have.
 use Rattle.std.proofs.Common.{◌≡◌, ℕ, suc, ◌+◌, ◌<◌, ◌≤◌, Bool, true, false, leb, ltb, cond, List, [], ◌∷◌, ◌++◌, length, Option, None, Some, refl, sym, ap, ◌∙◌, subst, inl, inr, append_assoc, arith}
+use Rattle.std.proofs.lemmas.List.{append-nil}
 use Rattle.std.specs.Prelude.{nat_lt, nat_le}
 use Rattle.std.specs.Str.{bytes_eq}
 use Rattle.std.proofs.lemmas.Bool.{le-leb, lt-ltb, ltb-true, leb-true}
@@ -62,14 +63,23 @@ one_more key s seq w es ws base le b h = at (bytes_eq w.key key) refl (last_writ
         rw (t, in_it, is, no) refl
 
     at : (c : Bool) → bytes_eq w.key key ≡ c → (p : Option Write) → last_write key ws ≡ p → Over (suc seq) (newest key s es) p base → Over seq (newest key s (e0 ∷ es)) (last_write key (w ∷ ws)) base
-    at true t None p h = rw (t, p) (e0, fresh t base h b, shows w.value, omega arith)
+    at true t None p h =
+        let l : last_write key (w ∷ ws) ≡ Some w = rw (p, t) refl in
+        subst (λ (q : Option Write). Over seq (newest key s (e0 ∷ es)) q base) (sym l) (e0, fresh t base h b, shows w.value, omega arith)
     at true t (Some v) p h =
+        let l : last_write key (w ∷ ws) ≡ Some v = rw (p, t) refl in
         let f = h.0 in
         let yes : ltb (stamp e0) (stamp f) ≡ true = lt-ltb _ _ (stamp_lt e0 f (omega (arith, h.3))) in
         let found : newest key s (e0 ∷ es) ≡ Some f = rw (t, in_it, h.1, yes) refl in
-        rw (t, p) (f, found, h.2, omega (arith, h.3))
-    at false t None p h = rw (t, p) h
-    at false t (Some v) p h = rw (t, p) (h.0, h.1, h.2, omega (arith, h.3))
+        subst (λ (q : Option Write). Over seq (newest key s (e0 ∷ es)) q base) (sym l) (f, found, h.2, omega (arith, h.3))
+    at false t None p h =
+        let l : last_write key (w ∷ ws) ≡ None = rw (p, t) refl in
+        let found : newest key s (e0 ∷ es) ≡ newest key s es = rw t refl in
+        subst (λ (q : Option Write). Over seq (newest key s (e0 ∷ es)) q base) (sym l) (found ∙ h)
+    at false t (Some v) p h =
+        let l : last_write key (w ∷ ws) ≡ Some v = rw (p, t) refl in
+        let found : newest key s (e0 ∷ es) ≡ newest key s es = rw t refl in
+        subst (λ (q : Option Write). Over seq (newest key s (e0 ∷ es)) q base) (sym l) (h.0, found ∙ h.1, h.2, omega (arith, h.3))
 
 many_more : (key : UserKey) (s seq : ℕ) (vs : List Write) (es : List Entry) (ws : List Write) (base : Option Entry) → seq + length vs ≤ suc s → Below seq base
     → Over (seq + length vs) (newest key s es) (last_write key ws) base

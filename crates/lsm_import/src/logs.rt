@@ -74,36 +74,34 @@ fn image_of(
 }
 
 /// The file of a table that was put under this number, at level 0, where its keys are short.
-fn file_of<C: TableReceipt>(number: u64, record: TableRecord<C>) -> Result<AddedFile, ImportFault>
+fn file_of<C: TableReceipt>(
+    alloc: Global,
+    number: u64,
+    table: &TableRecord<C>,
+) -> Result<AddedFile, ImportFault>
     ensures level { IfOk result (λ file. file.level ≡ 0) }
     ensures number { IfOk result (λ file. file.file.number ≡ number) }
-    ensures size { IfOk result (λ file. file.file.size ≡ length (C.image record.receipt)) }
-    ensures smallest { IfOk result (λ file. file.file.smallest ≡ record.smallest) }
-    ensures largest { IfOk result (λ file. file.file.largest ≡ record.largest) }
+    ensures size { IfOk result (λ file. file.file.size ≡ length (C.image table.now.receipt)) }
+    ensures smallest { IfOk result (λ file. file.file.smallest ≡ table.now.smallest) }
+    ensures largest { IfOk result (λ file. file.file.largest ≡ table.now.largest) }
     ensures short { OnOk result
-        ((length record.smallest < 2 ^ 32) × (length record.largest < 2 ^ 32)) }
-    ensures long { IfErr result (λ e. (e ≡ TooLarge)
-        × ((2 ^ 32 ≤ length record.smallest) ⊎ (2 ^ 32 ≤ length record.largest))) }
+        ((length table.now.smallest < 2 ^ 32) × (length table.now.largest < 2 ^ 32)) }
+    ensures long { IfErr result (λ e. (e ≡ OutOfMemory) ⊎ ((e ≡ TooLarge)
+        × ((2 ^ 32 ≤ length table.now.smallest) ⊎ (2 ^ 32 ≤ length table.now.largest)))) }
 {
-    if !is_short(record.smallest.as_slice()) {
+    if !is_short(table.smallest.as_slice()) {
         return Err(ImportFault::TooLarge);
     }
-    if !is_short(record.largest.as_slice()) {
+    if !is_short(table.largest.as_slice()) {
         return Err(ImportFault::TooLarge);
     }
-    let size = record.size();
-    let TableRecord {
-        smallest,
-        largest,
-        ..
-    } = record;
     Ok(AddedFile {
         level: 0,
         file: FileMeta {
             number,
-            size,
-            smallest,
-            largest,
+            size: table.size(),
+            smallest: table.smallest.try_copy(alloc)?,
+            largest: table.largest.try_copy(alloc)?,
         },
     })
 }
@@ -131,11 +129,11 @@ fn put_logs<M: Naming, T: Shelf, R: Wait>(
         (entries_from first batch.now) number) }
 {
     let image = image_of(alloc, options, batch, first)?;
-    let record = match image.put_alone(rt, alloc, target, number) {
-        Ok(record) => record,
+    let table = match image.put_alone(rt, alloc, target, number) {
+        Ok(table) => table,
         Err(fault) => return Err(ImportFault::Unwritten(fault)),
     };
-    file_of(number, record)
+    file_of(alloc, number, &table)
 }
 
 impl Copied {

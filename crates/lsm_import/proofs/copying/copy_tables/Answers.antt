@@ -1,0 +1,23 @@
+use Rattle.std.proofs.Common.{[], refl, inl, inr}
+use Rattle.lsm_shelf.proofs.CallerLemmas.{becomes_same, becomes_then}
+use Rattle.lsm_shelf.specs.Stored.{Stored}
+use Rattle.lsm_import.proofs.CopyLaws.{copies_all, copies_more, puts_none, puts_then}
+use Rattle.lsm_import.proofs.copying.copy_tables.Goals as goal
+
+pub loop-file-init : goal.loop-file-init
+loop-file-init g c = record { copies = ([], ?); read = becomes_same c.args.source.now; puts = puts_none c.args.target.now }
+
+pub loop-file-preserved : goal.loop-file-preserved
+loop-file-preserved g c = record {
+  copies = copies_more (Stored g.row.S-Receipt.Denot (g.S.Shelf.is_of g.N.Naming.place) g.S.Receipt.TableReceipt.number g.S.Receipt.TableReceipt.image)
+      (Stored g.row.T-Receipt.Denot (g.T.Shelf.is_of g.M.Naming.place) g.T.Receipt.TableReceipt.number g.T.Receipt.TableReceipt.image)
+      c.args.files.now c.loop-file.file-index c.file-item.result c.loop-file.copies.items _ c.in_ok-copy.copy c.loop-file-test.true c.file-item.is c.loop-file.invariant.copies c.in_ok-copy.ensures.copied c.in_ok-push.ensures.items;
+  read = becomes_then _ _ _ c.loop-file.invariant.read c.copy_table.ensures.read;
+  puts = puts_then _ _ _ c.loop-file.invariant.puts c.copy_table.ensures.puts;
+}
+
+pub returns-clause-copied : goal.returns-clause-copied
+returns-clause-copied g c =
+    copies_all (Stored g.row.S-Receipt.Denot (g.S.Shelf.is_of g.N.Naming.place) g.S.Receipt.TableReceipt.number g.S.Receipt.TableReceipt.image)
+    (Stored g.row.T-Receipt.Denot (g.T.Shelf.is_of g.M.Naming.place) g.T.Receipt.TableReceipt.number g.T.Receipt.TableReceipt.image)
+    c.args.files.now c.loop-file.file-index c.loop-file.copies.items c.loop-file-test.false c.loop-file.invariant.copies
