@@ -8,7 +8,7 @@ use Rattle.std.proofs.lemmas.Bool.{le-leb, lt-ltb, ltb-true, leb-true}
 use Rattle.lsm_codec.specs.Lists.{Has}
 use Rattle.lsm_codec.specs.Keys.{UserKey}
 use Rattle.lsm_codec.specs.Entries.{Entry, stamp, first_of_two, is_allowed, newest, shown, value_in, answer}
-use Rattle.lsm_codec.proofs.CallerLemmas.{stamp_lt, newest_finds, seq_le}
+use Rattle.lsm_codec.proofs.CallerLemmas.{Finds, newest_finds, stamp_lt}
 use Rattle.lsm_batch.specs.declared.write.Write.{Write}
 use Rattle.lsm_batch.specs.Batches.{kind_of, value_of, written_at, entries_from}
 use Rattle.lsm_batch.specs.LastWrites.{KeepsLast, last_write}
@@ -127,7 +127,7 @@ found_below key last s es none = at (newest key s es) refl
     at : (o : Option Entry) → newest key s es ≡ o → Below (suc last) o
     at None is = tt
     at (Some f) is =
-        let n = subst (λ (o : Option Entry). Rattle.lsm_codec.proofs.CallerLemmas.Finds es key s o) is (newest_finds key s es) in
+        let n = subst (Finds es key s) is (newest_finds key s es) in
         let le = none f n.here in
         omega arith
 

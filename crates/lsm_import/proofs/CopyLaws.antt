@@ -1,21 +1,28 @@
 -- Tables that are copied one after another.
 use Rattle.std.proofs.Common.{◌≡◌, ℕ, zero, suc, ◌+◌, ◌-◌, ◌^◌, ◌<◌, ◌≤◌, max, List, [], ◌∷◌, ◌++◌, length, get_or, take, refl, sym, ap, ◌∙◌, subst, inl, inr, append_assoc, arith}
 use Rattle.std.proofs.lemmas.List.{append-nil, take_all, take_more}
-use Rattle.std.specs.Prelude.{◌⊎◌, Result, Ok, Err, IfOk}
+use Rattle.std.specs.Prelude.{◌⊎◌, Some, Result, Ok, Err, IfOk}
 use Rattle.std.specs.List.{All}
 use Rattle.std.proofs.lemmas.List.Elements.{All-cons, All-nil}
 use Rattle.lsm_codec.specs.Lists.{Has}
 use Rattle.lsm_codec.specs.Entries.{Entry, internal_key}
-use Rattle.lsm_codec.specs.Keys.{InternalKey, IsKey, key_bytes}
-use Rattle.lsm_codec.proofs.CallerLemmas.{all_at, has_cases, has_right, internal_of, length-key_bytes}
-use Rattle.lsm_shelf.specs.Told.{Told, Becomes}
+use Rattle.lsm_codec.specs.Keys.{IsKey, key_bytes}
+use Rattle.lsm_codec.proofs.CallerLemmas.{all_at, has_cases}
+use Rattle.lsm_shelf.specs.Asked.{Asked}
+use Rattle.lsm_shelf.specs.Told.{Told}
+use Rattle.lsm_shelf.specs.declared.shelf_fault.ShelfFault.{ShelfFault}
 use Rattle.lsm_table.specs.Table.{IsImage}
-use Rattle.lsm_manifest.specs.EditFit.{FitsAdded, FitsKey}
+use Rattle.lsm_table.specs.declared.table_options.TableOptions.{TableOptions}
+use Rattle.lsm_manifest.specs.EditFit.{Change, FitsAdded, FitsKey, IsFit}
 use Rattle.lsm_manifest.specs.FileOrder.{TableFile}
 use Rattle.lsm_manifest.specs.Replay.{FileAt}
+use Rattle.lsm_manifest.specs.Shape.{Form}
+use Rattle.lsm_manifest.specs.WholeEdit.{files_from, whole_edit}
 use Rattle.lsm_inflate.specs.PackedTable.{IsPackedTable}
 use Rattle.lsm_inflate.specs.declared.plain_table.PlainTable.{PlainTable}
-use Rattle.lsm_import.specs.Copies.{AreCopies, HasLastNumber, HasOtherKeys, IsAbove, IsCopy, OnlyPuts}
+use Rattle.lsm_import.specs.Copied.{IsFitting, copied_of}
+use Rattle.lsm_import.specs.Copies.{AreCopies, AreNotCopied, HasOtherKeys, IsAbove, IsCopy, OnlyPuts}
+use Rattle.lsm_import.specs.declared.copied.Copied.{Copied}
 use Rattle.lsm_import.specs.declared.import_fault.ImportFault.{ImportFault}
 
 -- ---- elements
@@ -108,6 +115,10 @@ copies_push From Into (x ∷ fs) (y ∷ cs) f c es own a is =
 abbrev pub Copying : (From Into : ℕ → List ℕ → Type 0) → List FileAt → List FileAt → Type 0
 Copying From Into fs cs = (es : List Entry) × AreCopies From Into fs cs es
 
+pub copies_none : (From Into : ℕ → List ℕ → Type 0) (fs cs : List FileAt) → cs ≡ [] → Copying From Into (take 0 fs) cs
+copies_none From Into [] cs is = subst (Copying From Into []) (sym is) ([], refl)
+copies_none From Into (f ∷ fs) cs is = subst (Copying From Into []) (sym is) ([], refl)
+
 pub copies_more : (From Into : ℕ → List ℕ → Type 0) (fs : List FileAt) (i : ℕ) (f : FileAt) (cs after : List FileAt) (c : FileAt) → i < length fs → f ≡ get_or fs i f
     → Copying From Into (take i fs) cs → ((es : List Entry) × IsCopy From Into f c es) → after ≡ cs ++ c ∷ [] → Copying From Into (take (i + 1) fs) after
 copies_more From Into fs i f cs after c lt is so one step =
@@ -158,3 +169,47 @@ puts_none t = record { place = refl; gone = refl; starts = refl; written = refl 
 
 pub puts_then : (a b c : Told) → OnlyPuts a b → OnlyPuts b c → OnlyPuts a c
 puts_then a b c p q = record { place = q.place ∙ p.place; gone = q.gone ∙ p.gone; starts = q.starts ∙ p.starts; written = q.written ∙ p.written }
+
+-- ---- a copy of a shape
+
+-- what is made of the shape's edit
+abbrev made_of : Change → List FileAt → ℕ → ℕ → Copied
+made_of edit added next last = record {
+  edit = record {
+    comparator = edit.comparator;
+    log = Some 0;
+    prev_log = Some 0;
+    next = Some next;
+    last = Some last;
+    pointers = edit.pointers;
+    deleted = edit.deleted;
+    added = added;
+  };
+  next = next;
+  last = last;
+}
+
+pub of_copies : (From Into : ℕ → List ℕ → Type 0) (shape : Form) (edit : Change) (lent files : List FileAt) → edit ≡ whole_edit shape → lent ≡ edit.added → Copying From Into lent files → Copying From Into (files_from 0 shape.levels) files
+of_copies From Into shape edit lent files p q so = subst (λ (xs : List FileAt). Copying From Into xs files) (q ∙ ap (λ (e : Change). e.added) p) so
+
+pub copied_is : (shape : Form) (edit : Change) (files added : List FileAt) (next last : ℕ) → edit ≡ whole_edit shape → added ≡ files → last ≡ shape.last
+    → made_of edit added next last ≡ copied_of shape files next
+copied_is shape edit files added next last p q r = rw (p, q, r) refl
+
+pub of_fits : (From Into : ℕ → List ℕ → Type 0) (shape : Form) (edit : Change) (lent files added : List FileAt) (next last : ℕ) → edit ≡ whole_edit shape → IsFit (whole_edit shape) → lent ≡ edit.added → added ≡ files
+    → Copying From Into lent files → IsFitting (made_of edit added next last)
+of_fits From Into shape edit lent files added next last p whole q r so =
+    let fit = subst IsFit (sym p) whole in
+    record {
+      fits = record {
+        comparator = fit.comparator;
+        pointers = fit.pointers;
+        deleted = fit.deleted;
+        added = subst (All FitsAdded) (sym r) (copies_fit From Into lent files so.0 so.1 (subst (All FitsAdded) (sym q) fit.added));
+      };
+      none = ap (λ (e : Change). e.deleted) p;
+    }
+
+pub of_refused : (From : ℕ → List ℕ → Type 0) (Unheld Denied : Asked → ShelfFault → Type 0) (options : TableOptions) (shape : Form) (edit : Change) (lent : List FileAt) (e : ImportFault) → edit ≡ whole_edit shape → lent ≡ edit.added
+    → AreNotCopied From Unheld Denied options lent e → AreNotCopied From Unheld Denied options (files_from 0 shape.levels) e
+of_refused From Unheld Denied options shape edit lent e p q h = subst (λ (xs : List FileAt). AreNotCopied From Unheld Denied options xs e) (q ∙ ap (λ (x : Change). x.added) p) h

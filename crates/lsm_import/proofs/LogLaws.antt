@@ -51,7 +51,7 @@ table_refused Denied options es number s l b s' l' (Err e) i p q (inr x) = inl (
 -- ---- what comes in
 
 pub logs_none : (Into : ℕ → List ℕ → Type 0) (batches bs : List WriteBatch) (batch : List Write) (old : Copied) → KeepsLast (writes_of bs) batch → bs ≡ batches → length batch ≡ 0 → HasLogs Into batches old old
-logs_none Into batches bs [] old kept same zero = record {
+logs_none Into batches bs [] old kept same empty = record {
   batch = [];
   first = suc old.last + after 0 batches;
   last = subst (λ (xs : List WriteBatch). KeepsLast (writes_of xs) []) same kept;
@@ -59,7 +59,7 @@ logs_none Into batches bs [] old kept same zero = record {
   behind = omega arith;
   has = refl;
 }
-logs_none Into batches bs (w ∷ ws) old kept same zero = absurd (omega arith)
+logs_none Into batches bs (w ∷ ws) old kept same empty = absurd (omega arith)
 
 pub logs_some : (Into : ℕ → List ℕ → Type 0) (batches bs : List WriteBatch) (batch : List Write) (old new : Copied) (first count : ℕ) (file : FileAt) → KeepsLast (writes_of bs) batch → bs ≡ batches
     → count ≡ length batch → 0 < length batch → old.last < first → after 0 batches ≤ first → IsLogFile Into (entries_from first batch) old.next file → new ≡ with_file old file first count → HasLogs Into batches old new

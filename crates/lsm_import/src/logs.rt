@@ -193,15 +193,16 @@ impl Copied {
     {
         let end = logs.end();
         let batch = last_writes(alloc, logs.into_log())?;
-        if batch.len() == 0 {
+        let count = batch.len();
+        if count == 0 {
             return Ok(self);
         }
-        let first = first_sequence(self.last, end, batch.len())?;
+        let first = first_sequence(self.last, end, count)?;
         if self.next == u64::MAX {
             return Err(ImportFault::NumbersSpent);
         }
         let file = put_logs(rt, alloc, target, options, &batch, first, self.next)?;
-        let copied = self.with_file(file, first, batch.len())?;
+        let copied = self.with_file(file, first, count)?;
         Ok(copied)
     }
 }
