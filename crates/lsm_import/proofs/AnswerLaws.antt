@@ -1,17 +1,16 @@
 -- Writes at sequences above those of tables: a read finds the last of a key, or what the tables
 -- have.
-use Rattle.std.proofs.Common.{◌≡◌, ℕ, suc, ◌+◌, ◌<◌, ◌≤◌, Bool, true, false, leb, ltb, cond, List, [], ◌∷◌, ◌++◌, length, Option, None, Some, refl, sym, ap, ◌∙◌, subst, inl, inr, append_assoc, arith}
+use Rattle.std.proofs.Common.{◌≡◌, ℕ, suc, ◌+◌, ◌<◌, ◌≤◌, Bool, true, false, leb, ltb, List, [], ◌∷◌, ◌++◌, length, Option, None, Some, refl, sym, ap, ◌∙◌, subst, inl, inr, append_assoc, arith}
 use Rattle.std.proofs.lemmas.List.{append-nil}
-use Rattle.std.specs.Prelude.{nat_lt, nat_le}
 use Rattle.std.specs.Str.{bytes_eq}
-use Rattle.std.proofs.lemmas.Bool.{le-leb, lt-ltb, ltb-true, leb-true}
-use Rattle.lsm_codec.specs.Lists.{Has}
+use Rattle.std.proofs.lemmas.Bool.{le-leb, lt-ltb, ltb-true}
 use Rattle.lsm_codec.specs.Keys.{UserKey}
-use Rattle.lsm_codec.specs.Entries.{Entry, stamp, first_of_two, is_allowed, newest, shown, value_in, answer}
+use Rattle.lsm_codec.specs.Entries.{Entry, stamp, newest, shown, value_in, answer}
 use Rattle.lsm_codec.proofs.CallerLemmas.{Finds, newest_finds, stamp_lt}
 use Rattle.lsm_batch.specs.declared.write.Write.{Write}
 use Rattle.lsm_batch.specs.Batches.{kind_of, value_of, written_at, entries_from}
-use Rattle.lsm_batch.specs.LastWrites.{KeepsLast, last_write}
+use Rattle.std.specs.Option.{option_or}
+use Rattle.lsm_batch.specs.LastWrites.{KeepsLast, last_write, write_at}
 use Rattle.lsm_wal.specs.declared.write_batch.WriteBatch.{WriteBatch}
 use Rattle.lsm_wal.specs.WriteLog.{AreBatches, after, entries_of, writes_of}
 use Rattle.lsm_import.specs.Answers.{NoneAbove, value_over}
@@ -67,7 +66,7 @@ one_more key s seq w es ws base le b h = at (bytes_eq w.key key) refl (last_writ
         let l : last_write key (w ∷ ws) ≡ Some w = rw (p, t) refl in
         subst (λ (q : Option Write). Over seq (newest key s (e0 ∷ es)) q base) (sym l) (e0, fresh t base h b, shows w.value, omega arith)
     at true t (Some v) p h =
-        let l : last_write key (w ∷ ws) ≡ Some v = rw (p, t) refl in
+        let l : last_write key (w ∷ ws) ≡ Some v = ap (λ (o : Option Write). option_or o (write_at key w)) p in
         let f = h.0 in
         let yes : ltb (stamp e0) (stamp f) ≡ true = lt-ltb _ _ (stamp_lt e0 f (omega (arith, h.3))) in
         let found : newest key s (e0 ∷ es) ≡ Some f = rw (t, in_it, h.1, yes) refl in
@@ -77,7 +76,7 @@ one_more key s seq w es ws base le b h = at (bytes_eq w.key key) refl (last_writ
         let found : newest key s (e0 ∷ es) ≡ newest key s es = rw t refl in
         subst (λ (q : Option Write). Over seq (newest key s (e0 ∷ es)) q base) (sym l) (found ∙ h)
     at false t (Some v) p h =
-        let l : last_write key (w ∷ ws) ≡ Some v = rw (p, t) refl in
+        let l : last_write key (w ∷ ws) ≡ Some v = ap (λ (o : Option Write). option_or o (write_at key w)) p in
         let found : newest key s (e0 ∷ es) ≡ newest key s es = rw t refl in
         subst (λ (q : Option Write). Over seq (newest key s (e0 ∷ es)) q base) (sym l) (h.0, found ∙ h.1, h.2, omega (arith, h.3))
 

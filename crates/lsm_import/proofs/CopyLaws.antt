@@ -1,5 +1,5 @@
 -- Tables that are copied one after another.
-use Rattle.std.proofs.Common.{◌≡◌, ℕ, zero, suc, ◌+◌, ◌-◌, ◌^◌, ◌<◌, ◌≤◌, max, List, [], ◌∷◌, ◌++◌, length, get_or, take, refl, sym, ap, ◌∙◌, subst, inl, inr, append_assoc, arith}
+use Rattle.std.proofs.Common.{◌≡◌, ℕ, zero, suc, ◌+◌, ◌<◌, ◌≤◌, max, List, [], ◌∷◌, ◌++◌, length, get_or, take, refl, sym, ap, ◌∙◌, subst, inl, inr, append_assoc, arith}
 use Rattle.std.proofs.lemmas.List.{append-nil, take_all, take_more}
 use Rattle.std.specs.Prelude.{◌⊎◌, Some, Result, Ok, Err, IfOk}
 use Rattle.std.specs.List.{All}
@@ -8,20 +8,17 @@ use Rattle.lsm_codec.specs.Lists.{Has}
 use Rattle.lsm_codec.specs.Entries.{Entry, internal_key}
 use Rattle.lsm_codec.specs.Keys.{IsKey, key_bytes}
 use Rattle.lsm_codec.proofs.CallerLemmas.{all_at, has_cases}
-use Rattle.lsm_shelf.specs.Asked.{Asked}
 use Rattle.lsm_shelf.specs.Told.{Told}
-use Rattle.lsm_shelf.specs.declared.shelf_fault.ShelfFault.{ShelfFault}
 use Rattle.lsm_table.specs.Table.{IsImage}
-use Rattle.lsm_table.specs.declared.table_options.TableOptions.{TableOptions}
 use Rattle.lsm_manifest.specs.EditFit.{Change, FitsAdded, FitsKey, IsFit}
 use Rattle.lsm_manifest.specs.FileOrder.{TableFile}
 use Rattle.lsm_manifest.specs.Replay.{FileAt}
 use Rattle.lsm_manifest.specs.Shape.{Form}
-use Rattle.lsm_manifest.specs.WholeEdit.{files_from, whole_edit}
+use Rattle.lsm_manifest.specs.WholeEdit.{whole_edit}
 use Rattle.lsm_inflate.specs.PackedTable.{IsPackedTable}
 use Rattle.lsm_inflate.specs.declared.plain_table.PlainTable.{PlainTable}
-use Rattle.lsm_import.specs.Copied.{IsFitting, copied_of}
-use Rattle.lsm_import.specs.Copies.{AreCopies, AreNotCopied, HasOtherKeys, IsAbove, IsCopy, OnlyPuts}
+use Rattle.lsm_import.specs.Copied.{IsFitting}
+use Rattle.lsm_import.specs.Copies.{AreCopies, HasOtherKeys, IsAbove, IsCopy, OnlyPuts}
 use Rattle.lsm_import.specs.declared.copied.Copied.{Copied}
 use Rattle.lsm_import.specs.declared.import_fault.ImportFault.{ImportFault}
 
@@ -89,19 +86,22 @@ pub copy_from : (From Into : ℕ → List ℕ → Type 0) (file : FileAt) (packe
     → IfOk r (λ copy. copy.file.size ≡ length plain') → IfOk r (λ copy. copy.file.smallest ≡ file.file.smallest) → IfOk r (λ copy. copy.file.largest ≡ file.file.largest)
     → IfOk r (λ copy. (es : List Entry) × IsCopy From Into file copy es)
 copy_from From Into file packed plain packed' plain' (Err e) given made p q put level number size smallest largest = tt
-copy_from From Into file packed plain packed' plain' (Ok copy) given made p q put level number size smallest largest = (made.0, record {
-  packed = packed;
-  plain = plain;
-  held = given;
-  spelled = subst (λ (b : List ℕ). IsPackedTable b made.0) p made.1;
-  image = made.2;
-  put = subst (Into file.file.number) q put;
-  level = level;
-  number = number;
-  size = size ∙ ap length q;
-  smallest = smallest;
-  largest = largest;
-})
+copy_from From Into file packed plain packed' plain' (Ok copy) given made p q put level number size smallest largest = (
+  made.0,
+  record {
+    packed = packed;
+    plain = plain;
+    held = given;
+    spelled = subst (λ (b : List ℕ). IsPackedTable b made.0) p made.1;
+    image = made.2;
+    put = subst (Into file.file.number) q put;
+    level = level;
+    number = number;
+    size = size ∙ ap length q;
+    smallest = smallest;
+    largest = largest;
+  },
+)
 
 copies_push : (From Into : ℕ → List ℕ → Type 0) (fs cs : List FileAt) (f c : FileAt) (es own : List Entry) → AreCopies From Into fs cs es → IsCopy From Into f c own
     → AreCopies From Into (fs ++ f ∷ []) (cs ++ c ∷ []) (es ++ own)
@@ -189,13 +189,6 @@ made_of edit added next last = record {
   last = last;
 }
 
-pub of_copies : (From Into : ℕ → List ℕ → Type 0) (shape : Form) (edit : Change) (lent files : List FileAt) → edit ≡ whole_edit shape → lent ≡ edit.added → Copying From Into lent files → Copying From Into (files_from 0 shape.levels) files
-of_copies From Into shape edit lent files p q so = subst (λ (xs : List FileAt). Copying From Into xs files) (q ∙ ap (λ (e : Change). e.added) p) so
-
-pub copied_is : (shape : Form) (edit : Change) (files added : List FileAt) (next last : ℕ) → edit ≡ whole_edit shape → added ≡ files → last ≡ shape.last
-    → made_of edit added next last ≡ copied_of shape files next
-copied_is shape edit files added next last p q r = rw (p, q, r) refl
-
 pub of_fits : (From Into : ℕ → List ℕ → Type 0) (shape : Form) (edit : Change) (lent files added : List FileAt) (next last : ℕ) → edit ≡ whole_edit shape → IsFit (whole_edit shape) → lent ≡ edit.added → added ≡ files
     → Copying From Into lent files → IsFitting (made_of edit added next last)
 of_fits From Into shape edit lent files added next last p whole q r so =
@@ -209,7 +202,3 @@ of_fits From Into shape edit lent files added next last p whole q r so =
       };
       none = ap (λ (e : Change). e.deleted) p;
     }
-
-pub of_refused : (From : ℕ → List ℕ → Type 0) (Unheld Denied : Asked → ShelfFault → Type 0) (options : TableOptions) (shape : Form) (edit : Change) (lent : List FileAt) (e : ImportFault) → edit ≡ whole_edit shape → lent ≡ edit.added
-    → AreNotCopied From Unheld Denied options lent e → AreNotCopied From Unheld Denied options (files_from 0 shape.levels) e
-of_refused From Unheld Denied options shape edit lent e p q h = subst (λ (xs : List FileAt). AreNotCopied From Unheld Denied options xs e) (q ∙ ap (λ (x : Change). x.added) p) h

@@ -1,9 +1,9 @@
 -- The table of the logs.
-use Rattle.std.proofs.Common.{◌≡◌, ℕ, suc, ◌+◌, ◌-◌, ◌^◌, ◌<◌, ◌≤◌, List, [], ◌∷◌, ◌++◌, length, refl, sym, ap, ◌∙◌, subst, inl, inr, arith}
+use Rattle.std.proofs.Common.{◌≡◌, ℕ, suc, ◌+◌, ◌^◌, ◌<◌, ◌≤◌, List, [], ◌∷◌, length, refl, sym, ap, ◌∙◌, subst, inl, inr, arith}
 use Rattle.std.specs.Prelude.{◌⊎◌, Result, Ok, Err, IfErr, IfOk, OnOk}
 use Rattle.lsm_codec.specs.Lists.{Has}
 use Rattle.lsm_codec.specs.Entries.{Entry, internal_key}
-use Rattle.lsm_codec.specs.Keys.{IsKey, key_bytes}
+use Rattle.lsm_codec.specs.Keys.{IsKey}
 use Rattle.lsm_codec.proofs.CallerLemmas.{has_right, internal_of, length-key_bytes}
 use Rattle.lsm_shelf.specs.Asked.{Asked}
 use Rattle.lsm_shelf.specs.declared.shelf_fault.ShelfFault.{ShelfFault}
@@ -17,7 +17,7 @@ use Rattle.lsm_batch.specs.declared.write.Write.{Write}
 use Rattle.lsm_wal.specs.WriteLog.{after, writes_of}
 use Rattle.lsm_wal.specs.declared.write_batch.WriteBatch.{WriteBatch}
 use Rattle.lsm_import.specs.Copies.{IsPutRefusal}
-use Rattle.lsm_import.specs.Copied.{HasLogs, HasWrites, IsFitting, IsLarge, IsLogFile, IsTableRefusal, with_file}
+use Rattle.lsm_import.specs.Copied.{HasLogs, IsFitting, IsLogFile, IsTableRefusal, with_file}
 use Rattle.lsm_import.specs.declared.copied.Copied.{Copied}
 use Rattle.lsm_import.specs.declared.import_fault.ImportFault.{ImportFault}
 use Rattle.lsm_import.specs.declared.import_fault.ImportFault.TheVariants.{OutOfMemory, TooLarge}

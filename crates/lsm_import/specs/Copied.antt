@@ -1,7 +1,7 @@
 -- A copy of a database, before its manifest is begun (LevelDB's `VersionSet::WriteSnapshot` and
 -- `DBImpl::RecoverLogFile`; that a log's writes get new sequences is this project's rule).
-use Rattle.std.specs.Prelude.{◌≡◌, ◌≢◌, ◌⊎◌, ℕ, suc, ◌+◌, ◌-◌, ◌^◌, ◌<◌, ◌≤◌, List, [], ◌∷◌, ◌++◌}
-use Rattle.std.specs.Prelude.{length, Option, Some, None}
+use Rattle.std.specs.Prelude.{◌≡◌, ◌⊎◌, ℕ, suc, ◌+◌, ◌-◌, ◌^◌, ◌<◌, ◌≤◌, List, [], ◌∷◌, ◌++◌}
+use Rattle.std.specs.Prelude.{length, Some}
 use Rattle.lsm_codec.specs.Lists.{Has}
 use Rattle.lsm_codec.specs.Entries.{Entry}
 use Rattle.lsm_shelf.specs.Asked.{Asked, StartManifest}
@@ -84,11 +84,11 @@ pub record IsLogFile (Into : ℕ → List ℕ → Type 0) (entries : List Entry)
 abbrev pub with_file : Copied → FileAt → ℕ → ℕ → Copied
 with_file copied file first count = record {
   edit = record copied.edit {
-    next = Some (suc copied.next);
+    next = Some (copied.next + 1);
     last = Some (first + count - 1);
     added = copied.edit.added ++ file ∷ [];
   };
-  next = suc copied.next;
+  next = copied.next + 1;
   last = first + count - 1;
 }
 
@@ -140,7 +140,7 @@ IsLogsRefusal Denied options batches old fault = (fault ≡ OutOfMemory)
 
 -- the edit of the manifest, which has the first number that is left
 abbrev pub begun_edit : Copied → Change
-begun_edit copied = record copied.edit { next = Some (suc copied.next) }
+begun_edit copied = record copied.edit { next = Some (copied.next + 1) }
 
 -- the manifest's bytes
 abbrev pub manifest_of : Copied → List ℕ

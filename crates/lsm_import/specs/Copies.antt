@@ -4,7 +4,7 @@ use Rattle.std.specs.Prelude.{◌≡◌, ◌⊎◌, ℕ, ◌-◌, ◌^◌, ◌<�
 use Rattle.lsm_codec.specs.Lists.{Has}
 use Rattle.lsm_codec.specs.Entries.{Entry}
 use Rattle.lsm_shelf.specs.Asked.{Asked, Load, Put}
-use Rattle.lsm_shelf.specs.Told.{Told, Place}
+use Rattle.lsm_shelf.specs.Told.{Told}
 use Rattle.lsm_shelf.specs.declared.shelf_fault.ShelfFault.{ShelfFault}
 use Rattle.lsm_table.specs.Table.{IsImage}
 use Rattle.lsm_table.specs.declared.table_options.TableOptions.{TableOptions}

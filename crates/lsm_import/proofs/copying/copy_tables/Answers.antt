@@ -1,4 +1,4 @@
-use Rattle.std.proofs.Common.{inl, inr}
+use Rattle.std.proofs.Common.{inr}
 use Rattle.std.proofs.lemmas.Result.{err_from_is_err_and}
 use Rattle.lsm_shelf.proofs.CallerLemmas.{becomes_same, becomes_then}
 use Rattle.lsm_shelf.specs.Stored.{Stored}
@@ -29,19 +29,7 @@ returns-clause-copied g c =
     (Stored g.row.T-Receipt.Denot (g.T.Shelf.is_of g.M.Naming.place) g.T.Receipt.TableReceipt.number g.T.Receipt.TableReceipt.image)
     c.args.files.now c.loop-file.file-index c.loop-file.copies.items c.loop-file-test.false c.loop-file.invariant.copies
 
-pub returns-in_err-copy-clause-read : goal.returns-in_err-copy-clause-read
-returns-in_err-copy-clause-read g c = becomes_then _ _ _ c.loop-file.invariant.read c.copy_table.ensures.read
-
-pub returns-in_err-copy-clause-puts : goal.returns-in_err-copy-clause-puts
-returns-in_err-copy-clause-puts g c = puts_then _ _ _ c.loop-file.invariant.puts c.copy_table.ensures.puts
-
 pub returns-in_err-copy-clause-refused : goal.returns-in_err-copy-clause-refused
 returns-in_err-copy-clause-refused g c =
     let p = err_from_is_err_and c.from_residual.result c.from_residual.ensures.1 in
     rw (p.1, p.2) (inr (c.file-item.result, has_at c.args.files.now c.loop-file.file-index c.file-item.result c.loop-file-test.true c.file-item.is, c.in_err-copy.ensures.refused))
-
-pub returns-in_err-push-clause-read : goal.returns-in_err-push-clause-read
-returns-in_err-push-clause-read g c = becomes_then _ _ _ c.loop-file.invariant.read c.copy_table.ensures.read
-
-pub returns-in_err-push-clause-puts : goal.returns-in_err-push-clause-puts
-returns-in_err-push-clause-puts g c = puts_then _ _ _ c.loop-file.invariant.puts c.copy_table.ensures.puts
