@@ -360,9 +360,9 @@ DIR once with the program that wrote it, which flushes its log. With
 win over it in LevelDB, and be newer or older than it.
 
 Another program that has DIR open is `refused 52 Locked`. Each run that opens or
-begins a database begins a new manifest, also where the batch is then refused;
-old manifests stay until `lsm clean DIR`. At 12 tables in level 0 the batch is
-`refused 40 LevelZeroFull`: run `lsm compact DIR`, and then ingest again.
+begins a database begins a new manifest, also where the batch is then refused,
+and first removes those that CURRENT does not name. At 12 tables in level 0 the
+batch is `refused 40 LevelZeroFull`: run `lsm compact DIR`, and then ingest again.
 
 Exit status: 0 the batch came in, 1 refused, 2 bad command line. After a `write
 fault` the batch is in; after `refused 9 Device` it may be.",
@@ -496,8 +496,9 @@ bytes.
 What stands in a write-ahead log (`N.log`) is not read, and stays there. Another
 program that has DIR open is `refused 52 Locked`, and a manifest whose last B
 bytes are no whole record `refused 61 TornManifest B`, as `clean` says, unless
---accept-rest is said. Each run begins a new manifest; old manifests stay until
-`lsm clean DIR`. Run this after an `ingest` that is `refused 40 LevelZeroFull`.
+--accept-rest is said. Each run begins a new manifest, and first removes those
+that CURRENT does not name. Run this after an `ingest` that is `refused 40
+LevelZeroFull`.
 
 Exit status: 0 done, 1 refused, 2 bad command line. After a refusal what was
 installed before it stands, and no table was removed, but by a removal that then
