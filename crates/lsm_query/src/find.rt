@@ -6,7 +6,7 @@ ghost use Rattle.lsm_codec.specs.Entries.{newest};
 ghost use Rattle.lsm_table.specs.Found.{found_in, seen};
 ghost use Rattle.lsm_table.specs.HeldTable.{entries_in};
 ghost use Rattle.lsm_table.specs.ReadFault.{IsMemoryOrShelf, ReadCounted};
-ghost use Rattle.lsm_table.specs.Told.{Becomes};
+ghost use Rattle.lsm_table.specs.Told.{AreTrue, Becomes};
 ghost use Rattle.lsm_reader.specs.Refusals.{IsSomeReadRefusal};
 ghost use Rattle.lsm_model.specs.Files.{all_entries};
 ghost use Rattle.lsm_version.specs.Reads.{AreSound, IsSoundLevel};
@@ -27,9 +27,9 @@ fn find_in_table<N: Naming, S: Shelf, B: Blocks<N, S>>(
     user: &[u8],
     seq: u64,
 ) -> Result<Option<Found>, ReadFault>
-    ensures found { S.honest → IsWhole table.now
+    ensures found { AreTrue (B.told blocks.new) → IsWhole table.now
         → IfOk result (λ f. seen f ≡ found_in (newest user.now seq (entries_in table.now.image))) }
-    ensures sound { S.honest → IsWhole table.now → IfErr result IsMemoryOrShelf }
+    ensures sound { AreTrue (B.told blocks.new) → IsWhole table.now → IfErr result IsMemoryOrShelf }
     ensures told { Becomes (B.told blocks.old) (B.told blocks.new) }
     ensures loan { B.loan blocks.new ≡ B.loan blocks.old }
     ensures cause { IfErr result (λ e. ReadCounted e (B.told blocks.old) (B.told blocks.new)) }
@@ -48,9 +48,9 @@ fn find_by_number<N: Naming, S: Shelf, B: Blocks<N, S>>(
     user: &[u8],
     seq: u64,
 ) -> Result<Option<Found>, ReadFault>
-    ensures found { S.honest → IsSoundLevel 0 level.now → IfOk result (λ f.
+    ensures found { AreTrue (B.told blocks.new) → IsSoundLevel 0 level.now → IfOk result (λ f.
         seen f ≡ found_in (newest user.now seq (all_entries (files_of 0 level.now)))) }
-    ensures sound { S.honest → IsSoundLevel 0 level.now → IfErr result IsMemoryOrShelf }
+    ensures sound { AreTrue (B.told blocks.new) → IsSoundLevel 0 level.now → IfErr result IsMemoryOrShelf }
     ensures told { Becomes (B.told blocks.old) (B.told blocks.new) }
     ensures loan { B.loan blocks.new ≡ B.loan blocks.old }
     ensures cause { IfErr result (λ e. ReadCounted e (B.told blocks.old) (B.told blocks.new)) }
@@ -76,9 +76,9 @@ fn find_by_range<N: Naming, S: Shelf, B: Blocks<N, S>>(
     user: &[u8],
     seq: u64,
 ) -> Result<Option<Found>, ReadFault>
-    ensures found { (n : ℕ) → 1 ≤ n → S.honest → IsSoundLevel n level.now → IfOk result (λ f.
+    ensures found { (n : ℕ) → 1 ≤ n → AreTrue (B.told blocks.new) → IsSoundLevel n level.now → IfOk result (λ f.
         seen f ≡ found_in (newest user.now seq (all_entries (files_of n level.now)))) }
-    ensures sound { (n : ℕ) → S.honest → IsSoundLevel n level.now → IfErr result IsMemoryOrShelf }
+    ensures sound { (n : ℕ) → AreTrue (B.told blocks.new) → IsSoundLevel n level.now → IfErr result IsMemoryOrShelf }
     ensures told { Becomes (B.told blocks.old) (B.told blocks.new) }
     ensures loan { B.loan blocks.new ≡ B.loan blocks.old }
     ensures cause { IfErr result (λ e. ReadCounted e (B.told blocks.old) (B.told blocks.new)) }
@@ -107,9 +107,9 @@ fn find_at_level<N: Naming, S: Shelf, B: Blocks<N, S>>(
     user: &[u8],
     seq: u64,
 ) -> Result<Option<Found>, ReadFault>
-    ensures found { S.honest → IsSoundLevel number level.now → IfOk result (λ f.
+    ensures found { AreTrue (B.told blocks.new) → IsSoundLevel number level.now → IfOk result (λ f.
         seen f ≡ found_in (newest user.now seq (all_entries (files_of number level.now)))) }
-    ensures sound { S.honest → IsSoundLevel number level.now → IfErr result IsMemoryOrShelf }
+    ensures sound { AreTrue (B.told blocks.new) → IsSoundLevel number level.now → IfErr result IsMemoryOrShelf }
     ensures told { Becomes (B.told blocks.old) (B.told blocks.new) }
     ensures loan { B.loan blocks.new ≡ B.loan blocks.old }
     ensures cause { IfErr result (λ e. ReadCounted e (B.told blocks.old) (B.told blocks.new)) }
@@ -131,10 +131,10 @@ pub(crate) fn find<N: Naming, S: Shelf, B: Blocks<N, S>>(
     user: &[u8],
     seq: u64,
 ) -> Result<Option<Found>, ReadFault>
-    ensures found { S.honest → AreSound 0 (map (λ l. l.items) levels.now)
+    ensures found { AreTrue (B.told blocks.new) → AreSound 0 (map (λ l. l.items) levels.now)
         → IfOk result (λ f. seen f ≡ found_in
         (newest user.now seq (all_entries (files_from 0 (map (λ l. l.items) levels.now))))) }
-    ensures sound { S.honest → AreSound 0 (map (λ l. l.items) levels.now)
+    ensures sound { AreTrue (B.told blocks.new) → AreSound 0 (map (λ l. l.items) levels.now)
         → IfErr result IsMemoryOrShelf }
     ensures told { Becomes (B.told blocks.old) (B.told blocks.new) }
     ensures loan { B.loan blocks.new ≡ B.loan blocks.old }

@@ -4,7 +4,8 @@ ghost use Rattle.std.specs.Prelude.{◌≡◌, IfOk, IfErr};
 ghost use Rattle.std.specs.Option.{option_map};
 ghost use Rattle.lsm_codec.specs.Entries.{answer};
 ghost use Rattle.lsm_table.specs.ReadFault.{IsMemoryOrShelf, ReadCounted};
-ghost use Rattle.lsm_table.specs.Told.{Becomes};
+ghost use Rattle.lsm_shelf.specs.Reads.{AllTrue};
+ghost use Rattle.lsm_table.specs.Told.{AreTrue, Becomes};
 ghost use Rattle.lsm_reader.specs.Refusals.{IsSomeReadRefusal};
 ghost use Rattle.lsm_model.specs.Files.{all_entries};
 ghost use Rattle.lsm_version.specs.Versions.{files};
@@ -28,9 +29,9 @@ pub fn get<N: Naming, S: Shelf>(
     user: &[u8],
     seq: u64,
 ) -> Result<Option<Vec<u8>>, ReadFault>
-    ensures answer { S.honest → IfOk result (λ v.
+    ensures answer { AllTrue version.now.reads → AreTrue shelf.new → IfOk result (λ v.
         option_map (λ b. b.items) v ≡ answer (all_entries (files version.now)) user.now seq) }
-    ensures sound { S.honest → IfErr result IsMemoryOrShelf }
+    ensures sound { AllTrue version.now.reads → AreTrue shelf.new → IfErr result IsMemoryOrShelf }
     ensures told { Becomes shelf.old shelf.new }
     ensures cause { IfErr result (λ e. ReadCounted e shelf.old shelf.new) }
     ensures refused { IfErr result (IsSomeReadRefusal (S.refuses N.place)) }
@@ -47,9 +48,11 @@ pub fn get_by<N: Naming, S: Shelf, B: Blocks<N, S>>(
     user: &[u8],
     seq: u64,
 ) -> Result<Option<Vec<u8>>, ReadFault>
-    ensures answer { S.honest → IfOk result (λ v.
+    ensures answer { AllTrue version.now.reads
+        → AreTrue (B.told blocks.new) → IfOk result (λ v.
         option_map (λ b. b.items) v ≡ answer (all_entries (files version.now)) user.now seq) }
-    ensures sound { S.honest → IfErr result IsMemoryOrShelf }
+    ensures sound { AllTrue version.now.reads
+        → AreTrue (B.told blocks.new) → IfErr result IsMemoryOrShelf }
     ensures told { Becomes (B.told blocks.old) (B.told blocks.new) }
     ensures loan { B.loan blocks.new ≡ B.loan blocks.old }
     ensures cause { IfErr result (λ e. ReadCounted e (B.told blocks.old) (B.told blocks.new)) }

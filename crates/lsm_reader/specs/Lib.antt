@@ -4,3 +4,4 @@ pub mod Refusals
 pub mod Getting
 pub mod Stepping
 pub mod Parts
+pub mod Resting

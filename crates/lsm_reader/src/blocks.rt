@@ -7,10 +7,10 @@ ghost use Rattle.lsm_reader.specs.Blocks.{Reads, last_part, stored_block};
 ghost use Rattle.lsm_reader.specs.Refusals.{IsReadRefusal};
 ghost use Rattle.lsm_table.specs.OpenTable.{opening_at};
 ghost use Rattle.lsm_table.specs.ReadFault.{ReadCounted};
-ghost use Rattle.lsm_shelf.specs.Told.{Becomes};
+ghost use Rattle.lsm_shelf.specs.Told.{AreTrue, Becomes};
 
 use lsm_block::Block;
-use lsm_table::{Naming, ReadFault, Shelf};
+use lsm_table::{Basis, Naming, ReadFault, Shelf};
 use std::alloc::Global;
 use std::sync::Arc;
 
@@ -33,7 +33,7 @@ pub trait Blocks<N: Naming, S: Shelf> {
     /// `Missing`.
     fn footer(&mut self, alloc: Global, receipt: &S::Receipt) -> Result<[u8; 48], ReadFault>
         requires here { S.is_of N.place receipt.now }
-        ensures exact { S.honest → Reads (λ f. f) result (last_part (S.Receipt.image receipt.now)) }
+        ensures exact { AreTrue (told self.new) → Reads (λ f. f) result (last_part (S.Receipt.image receipt.now)) }
         ensures told { Becomes (told self.old) (told self.new) }
         ensures loan { loan self.new ≡ loan self.old }
         ensures cause { IfErr result (λ e. ReadCounted e (told self.old) (told self.new)) }
@@ -44,7 +44,7 @@ pub trait Blocks<N: Naming, S: Shelf> {
     /// fault is the first one of both.
     fn index(&mut self, alloc: Global, receipt: &S::Receipt) -> Result<Arc<Block>, ReadFault>
         requires here { S.is_of N.place receipt.now }
-        ensures exact { S.honest → Reads (λ b. (arc_value {X = HeldBlock} b).entries) result
+        ensures exact { AreTrue (told self.new) → Reads (λ b. (arc_value {X = HeldBlock} b).entries) result
             (opening_at (S.Receipt.image receipt.now)) }
         ensures told { Becomes (told self.old) (told self.new) }
         ensures loan { loan self.new ≡ loan self.old }
@@ -65,13 +65,17 @@ pub trait Blocks<N: Naming, S: Shelf> {
         size: u64,
     ) -> Result<Arc<Block>, ReadFault>
         requires here { S.is_of N.place receipt.now }
-        ensures exact { S.honest → Reads (λ b. (arc_value {X = HeldBlock} b).entries) result
+        ensures exact { AreTrue (told self.new) → Reads (λ b. (arc_value {X = HeldBlock} b).entries) result
             (stored_block (S.Receipt.image receipt.now) record { offset = offset; size = size }) }
         ensures told { Becomes (told self.old) (told self.new) }
         ensures loan { loan self.new ≡ loan self.old }
         ensures cause { IfErr result (λ e. ReadCounted e (told self.old) (told self.new)) }
         ensures refused { IfErr result
             (IsReadRefusal (S.refuses N.place) (S.Receipt.number receipt.now)) };
+
+    /// The reads on which its answers rest. They have no bytes.
+    fn basis(&self) -> Basis
+        ensures { result.list ≡ (told self.now).reads };
 
     /// The same receipt once more, which its shelf makes. It takes no memory.
     fn copy_receipt(&self, receipt: &S::Receipt) -> S::Receipt

@@ -8,9 +8,10 @@ use crate::kept_block::KeptBlock;
 use crate::open_table::OpenTable;
 use crate::parts::share;
 use crate::recent::keep;
+use crate::rested_shelf::RestedShelf;
 use lru::LruCache;
 use lsm_block::Block;
-use lsm_table::{Handle, NamedShelf, Naming, ReadFault, Shelf, TableReceipt};
+use lsm_table::{Basis, Handle, NamedShelf, Naming, ReadFault, Shelf, TableReceipt};
 use std::alloc::{AllocError, Global};
 use std::marker::{Model, PhantomData};
 use std::num::NonZeroUsize;
@@ -19,9 +20,10 @@ use std::sync::Arc;
 /// Gives index blocks and blocks from those that were used last, and else by a shelf of its own. It
 /// keeps so many open tables at most, each with its index block, and so many blocks that were asked
 /// for by their places: data blocks push out no table. An open table is found by its number, and
-/// its footer is not read again. Contracts see it as its shelf.
+/// its footer is not read again. Contracts see it as its shelf, but that its answers rest on the
+/// reads too by which what it kept was read.
 pub struct Cached<N: Naming, S: Shelf> {
-    shelf: NamedShelf<N, S>,
+    shelf: RestedShelf<N, S>,
     tables: LruCache<u64, OpenTable<N, S>>,
     blocks: LruCache<BlockKey, KeptBlock<N, S>>,
 }
@@ -37,7 +39,6 @@ impl<N: Naming, S: Shelf> Drop for Cached<N, S> {
 }
 
 impl<N: Naming, S: Shelf> Model for Cached<N, S> {
-    ghost use Rattle.std.specs.Prelude.{◌≡◌};
     ghost use Rattle.lsm_shelf.specs.Told.{Told};
 
     ghost Value = { Told };
@@ -58,7 +59,7 @@ impl<N: Naming, S: Shelf> Cached<N, S> {
         Ok(Cached {
             tables: LruCache::new(alloc, blocks)?,
             blocks: LruCache::new(alloc, blocks)?,
-            shelf,
+            shelf: RestedShelf::new(shelf),
         })
     }
 }
@@ -78,7 +79,8 @@ impl<N: Naming, S: Shelf> Blocks<N, S> for Cached<N, S> {
         let Cached { shelf, tables, .. } = self;
         let number = receipt.number();
         if let Some(kept) = tables.get(&number) {
-            if shelf.shelf.same(&kept.receipt, receipt) {
+            if shelf.shelf.shelf.same(&kept.receipt, receipt) {
+                shelf.rest_on(&kept.reads);
                 return share(&kept.index);
             }
         }
@@ -89,8 +91,9 @@ impl<N: Naming, S: Shelf> Blocks<N, S> for Cached<N, S> {
             Err(_) => return Ok(index),
         };
         let kept = OpenTable {
-            receipt: shelf.shelf.copy_receipt(receipt),
+            receipt: shelf.shelf.shelf.copy_receipt(receipt),
             index: shared,
+            reads: shelf.basis(),
             of: PhantomData,
         };
         keep(tables, number, kept);
@@ -111,7 +114,8 @@ impl<N: Naming, S: Shelf> Blocks<N, S> for Cached<N, S> {
             offset,
         };
         if let Some(kept) = blocks.get(&key) {
-            if kept.handle == handle && shelf.shelf.same(&kept.receipt, receipt) {
+            if kept.handle == handle && shelf.shelf.shelf.same(&kept.receipt, receipt) {
+                shelf.rest_on(&kept.reads);
                 return share(&kept.block);
             }
         }
@@ -122,16 +126,21 @@ impl<N: Naming, S: Shelf> Blocks<N, S> for Cached<N, S> {
             Err(_) => return Ok(block),
         };
         let kept = KeptBlock {
-            receipt: shelf.shelf.copy_receipt(receipt),
+            receipt: shelf.shelf.shelf.copy_receipt(receipt),
             handle,
             block: shared,
+            reads: shelf.basis(),
             of: PhantomData,
         };
         keep(blocks, key, kept);
         Ok(block)
     }
 
+    fn basis(&self) -> Basis {
+        self.shelf.basis()
+    }
+
     fn copy_receipt(&self, receipt: &S::Receipt) -> S::Receipt {
-        self.shelf.shelf.copy_receipt(receipt)
+        self.shelf.shelf.shelf.copy_receipt(receipt)
     }
 }

@@ -4,7 +4,7 @@ ghost use Rattle.std.specs.Prelude.{◌≡◌};
 
 use crate::blocks::Blocks;
 use lsm_block::Block;
-use lsm_table::{NamedShelf, Naming, ReadFault, Shelf};
+use lsm_table::{Basis, NamedShelf, Naming, ReadFault, Shelf};
 use std::alloc::Global;
 use std::sync::Arc;
 
@@ -47,6 +47,11 @@ impl<'a, N: Naming, S: Shelf> Blocks<N, S> for Direct<'a, N, S> {
     ) -> Result<Arc<Block>, ReadFault> {
         let named = &mut *self.shelf;
         named.block(alloc, receipt, offset, size)
+    }
+
+    fn basis(&self) -> Basis {
+        let named = &*self.shelf;
+        named.shelf.basis()
     }
 
     fn copy_receipt(&self, receipt: &S::Receipt) -> S::Receipt {

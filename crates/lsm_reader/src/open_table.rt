@@ -4,7 +4,8 @@ ghost use Rattle.std.specs.Prelude.{◌≡◌, ℕ, List, None, IfOk, IfErr};
 ghost use Rattle.std.specs.Arc.{arc_value};
 ghost use Rattle.lsm_codec.specs.Entries.{Entry, newest};
 ghost use Rattle.lsm_block.specs.Held.{HeldBlock};
-ghost use Rattle.lsm_shelf.specs.Told.{Becomes};
+ghost use Rattle.lsm_shelf.specs.Reads.{AllTrue};
+ghost use Rattle.lsm_shelf.specs.Told.{AreTrue, Becomes};
 ghost use Rattle.lsm_table.specs.Found.{seen, found_in};
 ghost use Rattle.lsm_table.specs.OpenTable.{Opens, opening_at};
 ghost use Rattle.lsm_table.specs.ReadFault.{ReadCounted, IsMemoryOrShelf};
@@ -18,7 +19,7 @@ use crate::opening::index_by;
 use crate::reads::get_from;
 use crate::table_reader::TableReader;
 use lsm_block::Block;
-use lsm_table::{Found, NamedShelf, Naming, ReadFault, Shelf};
+use lsm_table::{Basis, Found, NamedShelf, Naming, ReadFault, Shelf};
 use std::alloc::Global;
 use std::marker::{Model, PhantomData};
 use std::sync::Arc;
@@ -28,6 +29,7 @@ use std::sync::Arc;
 pub struct OpenTable<N: Naming, S: Shelf> {
     pub(crate) receipt: S::Receipt,
     pub(crate) index: Arc<Block>,
+    pub(crate) reads: Basis,
     pub(crate) of: PhantomData<N>,
 }
 
@@ -36,22 +38,25 @@ impl<N: Naming, S: Shelf> Drop for OpenTable<N, S> {
         let Self {
             receipt: _,
             index: _,
+            reads: _,
             of: _,
         } = self;
     }
 }
 
 impl<N: Naming, S: Shelf> Model for OpenTable<N, S> {
-    ghost use Rattle.std.specs.Prelude.{◌≡◌, ℕ, List, Ok};
+    ghost use Rattle.std.specs.Prelude.{◌≡◌, Ok};
     ghost use Rattle.std.specs.Arc.{arc_value};
     ghost use Rattle.lsm_block.specs.Held.{HeldBlock};
+    ghost use Rattle.lsm_shelf.specs.Reads.{AllTrue};
     ghost use Rattle.lsm_table.specs.OpenTable.{opening_at};
+    ghost use Rattle.lsm_reader.specs.Resting.{RestedImage};
 
-    ghost Value = { List ℕ };
+    ghost Value = { RestedImage };
 
-    ghost view = { λ t. S.Receipt.image t.receipt };
+    ghost view = { λ t. record { image = S.Receipt.image t.receipt; reads = t.reads.list } };
 
-    ghost invariant = { λ t. S.is_of N.place t.receipt × (S.honest → opening_at
+    ghost invariant = { λ t. S.is_of N.place t.receipt × (AllTrue t.reads.list → opening_at
         (S.Receipt.image t.receipt) ≡ Ok (arc_value {X = HeldBlock} t.index).entries) };
 }
 
@@ -64,9 +69,12 @@ impl<N: Naming, S: Shelf> OpenTable<N, S> {
         receipt: &S::Receipt,
     ) -> Result<OpenTable<N, S>, ReadFault>
         requires named { S.is_of N.place receipt.now }
-        ensures image { IfOk result (λ t. t ≡ S.Receipt.image receipt.now) }
+        ensures table { IfOk result (λ t. t ≡ record {
+          image = S.Receipt.image receipt.now;
+          reads = (B.told blocks.new).reads;
+        }) }
         // Which fault it is.
-        ensures exact { S.honest → Opens result (opening_at (S.Receipt.image receipt.now)) }
+        ensures exact { AreTrue (B.told blocks.new) → Opens result (opening_at (S.Receipt.image receipt.now)) }
         ensures told { Becomes (B.told blocks.old) (B.told blocks.new) }
         ensures loan { B.loan blocks.new ≡ B.loan blocks.old }
         ensures cause { IfErr result (λ e. ReadCounted e (B.told blocks.old) (B.told blocks.new)) }
@@ -77,6 +85,7 @@ impl<N: Naming, S: Shelf> OpenTable<N, S> {
         Ok(OpenTable {
             receipt: blocks.copy_receipt(receipt),
             index,
+            reads: blocks.basis(),
             of: PhantomData,
         })
     }
@@ -88,8 +97,11 @@ impl<N: Naming, S: Shelf> OpenTable<N, S> {
         receipt: &S::Receipt,
     ) -> Result<OpenTable<N, S>, ReadFault>
         requires named { S.is_of N.place receipt.now }
-        ensures image { IfOk result (λ t. t ≡ S.Receipt.image receipt.now) }
-        ensures exact { S.honest → Opens result (opening_at (S.Receipt.image receipt.now)) }
+        ensures table { IfOk result (λ t. t ≡ record {
+          image = S.Receipt.image receipt.now;
+          reads = shelf.new.reads;
+        }) }
+        ensures exact { AreTrue shelf.new → Opens result (opening_at (S.Receipt.image receipt.now)) }
         ensures told { Becomes shelf.old shelf.new }
         ensures cause { IfErr result (λ e. ReadCounted e shelf.old shelf.new) }
         ensures refused { IfErr result
@@ -109,10 +121,13 @@ impl<N: Naming, S: Shelf> OpenTable<N, S> {
         seq: u64,
     ) -> Result<Option<Found>, ReadFault>
         // Whatever the image is.
-        ensures exact { S.honest → Reads seen result (got self.now user.now seq) }
-        ensures found { S.honest → (es : List Entry) → IsTable self.now es
+        ensures exact { AllTrue self.now.reads → AreTrue (B.told blocks.new)
+            → Reads seen result (got self.now.image user.now seq) }
+        ensures found { AllTrue self.now.reads → AreTrue (B.told blocks.new)
+            → (es : List Entry) → IsTable self.now.image es
             → IfOk result (λ f. seen f ≡ found_in (newest user.now seq es)) }
-        ensures sound { S.honest → (es : List Entry) → IsTable self.now es
+        ensures sound { AllTrue self.now.reads → AreTrue (B.told blocks.new)
+            → (es : List Entry) → IsTable self.now.image es
             → IfErr result IsMemoryOrShelf }
         ensures told { Becomes (B.told blocks.old) (B.told blocks.new) }
         ensures loan { B.loan blocks.new ≡ B.loan blocks.old }
@@ -131,10 +146,13 @@ impl<N: Naming, S: Shelf> OpenTable<N, S> {
         user: &[u8],
         seq: u64,
     ) -> Result<Option<Found>, ReadFault>
-        ensures exact { S.honest → Reads seen result (got self.now user.now seq) }
-        ensures found { S.honest → (es : List Entry) → IsTable self.now es
+        ensures exact { AllTrue self.now.reads → AreTrue shelf.new
+            → Reads seen result (got self.now.image user.now seq) }
+        ensures found { AllTrue self.now.reads → AreTrue shelf.new
+            → (es : List Entry) → IsTable self.now.image es
             → IfOk result (λ f. seen f ≡ found_in (newest user.now seq es)) }
-        ensures sound { S.honest → (es : List Entry) → IsTable self.now es
+        ensures sound { AllTrue self.now.reads → AreTrue shelf.new
+            → (es : List Entry) → IsTable self.now.image es
             → IfErr result IsMemoryOrShelf }
         ensures told { Becomes shelf.old shelf.new }
         ensures cause { IfErr result (λ e. ReadCounted e shelf.old shelf.new) }
@@ -143,18 +161,21 @@ impl<N: Naming, S: Shelf> OpenTable<N, S> {
         self.get_by(shelf, alloc, user, seq)
     }
 
-    /// Before the first entry of the table, which over an honest shelf has to be one. Reads nothing
+    /// Before the first entry of the table, which where the reads were true has to be one. Reads nothing
     /// yet.
     pub fn iter(self) -> TableReader<N, S>
-        requires table { S.honest → (es : List Entry) × IsTable self es }
-        ensures entry { result.entry ≡ None }
-        ensures left { S.honest → (es : List Entry) → IsTable self es → result.left ≡ es }
+        requires table { AllTrue self.reads → (es : List Entry) × IsTable self.image es }
+        ensures entry { result.at.entry ≡ None }
+        ensures left { AllTrue self.reads
+            → (es : List Entry) → IsTable self.image es → result.at.left ≡ es }
+        ensures reads { result.reads ≡ self.reads }
     {
         let Self {
             receipt,
             index,
+            reads,
             of: _,
         } = self;
-        TableReader::over(receipt, index)
+        TableReader::over(receipt, index, reads)
     }
 }

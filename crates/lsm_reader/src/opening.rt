@@ -9,7 +9,7 @@ ghost use Rattle.lsm_reader.specs.Refusals.{IsReadRefusal};
 ghost use Rattle.lsm_table.specs.Footer.{body_of};
 ghost use Rattle.lsm_table.specs.OpenTable.{opening_at, block_named};
 ghost use Rattle.lsm_table.specs.ReadFault.{ReadCounted};
-ghost use Rattle.lsm_shelf.specs.Told.{Becomes};
+ghost use Rattle.lsm_shelf.specs.Told.{AreTrue, Becomes};
 
 use crate::blocks::Blocks;
 use lsm_block::Block;
@@ -24,7 +24,7 @@ pub fn index_by<N: Naming, S: Shelf, B: Blocks<N, S>>(
     receipt: &S::Receipt,
 ) -> Result<Arc<Block>, ReadFault>
     requires here { S.is_of N.place receipt.now }
-    ensures exact { S.honest → Reads (λ b.
+    ensures exact { AreTrue (B.told blocks.new) → Reads (λ b.
         (arc_value {X = HeldBlock} b).entries) result (opening_at (S.Receipt.image receipt.now)) }
     ensures told { Becomes (B.told blocks.old) (B.told blocks.new) }
     ensures loan { B.loan blocks.new ≡ B.loan blocks.old }
@@ -43,7 +43,7 @@ pub(crate) fn data_block_by<N: Naming, S: Shelf, B: Blocks<N, S>>(
     spelled: &[u8],
 ) -> Result<Arc<Block>, ReadFault>
     requires here { S.is_of N.place receipt.now }
-    ensures exact { S.honest → Reads (λ b. (arc_value {X = HeldBlock} b).entries) result
+    ensures exact { AreTrue (B.told blocks.new) → Reads (λ b. (arc_value {X = HeldBlock} b).entries) result
         (block_named (body_of (S.Receipt.image receipt.now)) spelled.now) }
     ensures told { Becomes (B.told blocks.old) (B.told blocks.new) }
     ensures loan { B.loan blocks.new ≡ B.loan blocks.old }

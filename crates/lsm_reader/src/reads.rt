@@ -13,7 +13,7 @@ ghost use Rattle.lsm_table.specs.Found.{seen, found_in};
 ghost use Rattle.lsm_table.specs.ReadFault.{ReadCounted, IsMemoryOrShelf};
 ghost use Rattle.lsm_table.specs.Searching.{of_user};
 ghost use Rattle.lsm_table.specs.Table.{IsTable};
-ghost use Rattle.lsm_shelf.specs.Told.{Becomes};
+ghost use Rattle.lsm_shelf.specs.Told.{AreTrue, Becomes};
 
 use crate::blocks::Blocks;
 use crate::opening::index_by;
@@ -44,12 +44,12 @@ pub(crate) fn get_from<N: Naming, S: Shelf, B: Blocks<N, S>>(
     seq: u64,
 ) -> Result<Option<Found>, ReadFault>
     requires here { S.is_of N.place receipt.now }
-    ensures exact { S.honest → Reads seen result (got_by (body_of (S.Receipt.image receipt.now))
+    ensures exact { AreTrue (B.told blocks.new) → Reads seen result (got_by (body_of (S.Receipt.image receipt.now))
         user.now seq (arc_value {X = HeldBlock} index).entries) }
-    ensures found { S.honest → (es : List Entry)
+    ensures found { AreTrue (B.told blocks.new) → (es : List Entry)
         → Names (body_of (S.Receipt.image receipt.now)) (arc_value {X = HeldBlock} index).entries es
         → IfOk result (λ f. seen f ≡ found_in (newest user.now seq es)) }
-    ensures sound { S.honest → (es : List Entry)
+    ensures sound { AreTrue (B.told blocks.new) → (es : List Entry)
         → Names (body_of (S.Receipt.image receipt.now)) (arc_value {X = HeldBlock} index).entries es
         → IfErr result IsMemoryOrShelf }
     ensures told { Becomes (B.told blocks.old) (B.told blocks.new) }
@@ -75,10 +75,10 @@ pub fn get_by<N: Naming, S: Shelf, B: Blocks<N, S>>(
 ) -> Result<Option<Found>, ReadFault>
     requires here { S.is_of N.place receipt.now }
     // Whatever the image is.
-    ensures exact { S.honest → Reads seen result (got (S.Receipt.image receipt.now) user.now seq) }
-    ensures found { S.honest → (es : List Entry) → IsTable (S.Receipt.image receipt.now) es
+    ensures exact { AreTrue (B.told blocks.new) → Reads seen result (got (S.Receipt.image receipt.now) user.now seq) }
+    ensures found { AreTrue (B.told blocks.new) → (es : List Entry) → IsTable (S.Receipt.image receipt.now) es
         → IfOk result (λ f. seen f ≡ found_in (newest user.now seq es)) }
-    ensures sound { S.honest → (es : List Entry) → IsTable (S.Receipt.image receipt.now) es
+    ensures sound { AreTrue (B.told blocks.new) → (es : List Entry) → IsTable (S.Receipt.image receipt.now) es
         → IfErr result IsMemoryOrShelf }
     ensures told { Becomes (B.told blocks.old) (B.told blocks.new) }
     ensures loan { B.loan blocks.new ≡ B.loan blocks.old }
@@ -99,10 +99,10 @@ pub fn get<N: Naming, S: Shelf>(
     seq: u64,
 ) -> Result<Option<Found>, ReadFault>
     requires here { S.is_of N.place receipt.now }
-    ensures exact { S.honest → Reads seen result (got (S.Receipt.image receipt.now) user.now seq) }
-    ensures found { S.honest → (es : List Entry) → IsTable (S.Receipt.image receipt.now) es
+    ensures exact { AreTrue shelf.new → Reads seen result (got (S.Receipt.image receipt.now) user.now seq) }
+    ensures found { AreTrue shelf.new → (es : List Entry) → IsTable (S.Receipt.image receipt.now) es
         → IfOk result (λ f. seen f ≡ found_in (newest user.now seq es)) }
-    ensures sound { S.honest → (es : List Entry) → IsTable (S.Receipt.image receipt.now) es
+    ensures sound { AreTrue shelf.new → (es : List Entry) → IsTable (S.Receipt.image receipt.now) es
         → IfErr result IsMemoryOrShelf }
     ensures told { Becomes shelf.old shelf.new }
     ensures cause { IfErr result (λ e. ReadCounted e shelf.old shelf.new) }

@@ -6,7 +6,8 @@ use crate::blocks::Blocks;
 use crate::judging::{footer_from, is_inside, judge};
 use lsm_block::Block;
 use lsm_table::{
-    FOOTER, Footer, Handle, NamedShelf, Naming, ReadFault, Shelf, TRAILER, TableFault, TableReceipt,
+    Basis, FOOTER, Footer, Handle, NamedShelf, Naming, ReadFault, Shelf, TRAILER, TableFault,
+    TableReceipt,
 };
 use std::alloc::Global;
 use std::sync::Arc;
@@ -48,6 +49,10 @@ impl<N: Naming, S: Shelf> Blocks<N, S> for NamedShelf<N, S> {
             .shelf
             .read_at(alloc, receipt, offset, size as usize + TRAILER)?;
         Ok(judge(alloc, handle, text)?)
+    }
+
+    fn basis(&self) -> Basis {
+        self.shelf.basis()
     }
 
     fn copy_receipt(&self, receipt: &S::Receipt) -> S::Receipt {

@@ -19,7 +19,7 @@ ghost use Rattle.lsm_table.specs.HeldTable.{AreNamed, Names};
 ghost use Rattle.lsm_table.specs.ReadFault.{ReadCounted, IsMemoryOrShelf};
 ghost use Rattle.lsm_table.specs.Searching.{Sought};
 ghost use Rattle.lsm_table.specs.Table.{DataBlock};
-ghost use Rattle.lsm_shelf.specs.Told.{Becomes};
+ghost use Rattle.lsm_shelf.specs.Told.{AreTrue, Becomes};
 
 use crate::blocks::Blocks;
 use crate::opening::data_block_by;
@@ -61,12 +61,12 @@ fn enter_by<N: Naming, S: Shelf, B: Blocks<N, S>>(
 ) -> Result<BlockIter, ReadFault>
     requires here { S.is_of N.place receipt.now }
     ensures some { IfOk result (λ i. IsSome (key_of_first i)) }
-    ensures exact { S.honest → Reads (λ i. i) result
+    ensures exact { AreTrue (B.told blocks.new) → Reads (λ i. i) result
         (entered_there (body_of (S.Receipt.image receipt.now)) spelled.now) }
-    ensures found { S.honest → (e : Entry) (es : List Entry)
+    ensures found { AreTrue (B.told blocks.new) → (e : Entry) (es : List Entry)
         → DataBlock (body_of (S.Receipt.image receipt.now)) spelled.now (e ∷ es)
         → IfOk result (λ i. i ≡ e ∷ es) }
-    ensures sound { S.honest → (e : Entry) (es : List Entry)
+    ensures sound { AreTrue (B.told blocks.new) → (e : Entry) (es : List Entry)
         → DataBlock (body_of (S.Receipt.image receipt.now)) spelled.now (e ∷ es)
         → IfErr result IsMemoryOrShelf }
     ensures told { Becomes (B.told blocks.old) (B.told blocks.new) }
@@ -95,13 +95,13 @@ fn enter_next_by<N: Naming, S: Shelf, B: Blocks<N, S>>(
     ensures stands { IfOk result (λ h. IsAtEntry (or_none h) index.new) }
     // It stands at an entry, unless no data block was left.
     ensures some { IfOk result (λ h. is_end index.old ≡ false → IsSome (key_of_first (or_none h))) }
-    ensures exact { S.honest → Reads or_none result
+    ensures exact { AreTrue (B.told blocks.new) → Reads or_none result
         (first_entered (body_of (S.Receipt.image receipt.now)) index.old) }
-    ensures entered { S.honest → AreNamed (body_of (S.Receipt.image receipt.now)) index.old
+    ensures entered { AreTrue (B.told blocks.new) → AreNamed (body_of (S.Receipt.image receipt.now)) index.old
         → IfOk result (λ h. AreNamed (body_of (S.Receipt.image receipt.now)) index.new
         × (left_at (S.Receipt.image receipt.now) record { here = or_none h; index = index.new }
         ≡ left_at (S.Receipt.image receipt.now) record { here = []; index = index.old })) }
-    ensures sound { S.honest → AreNamed (body_of (S.Receipt.image receipt.now)) index.old
+    ensures sound { AreTrue (B.told blocks.new) → AreNamed (body_of (S.Receipt.image receipt.now)) index.old
         → IfErr result IsMemoryOrShelf }
     ensures err { OnErr result (index.new ≡ index.old) }
     ensures told { Becomes (B.told blocks.old) (B.told blocks.new) }
@@ -128,13 +128,13 @@ fn seek_next_by<N: Naming, S: Shelf, B: Blocks<N, S>>(
 ) -> Result<BlockIter, ReadFault>
     requires here { S.is_of N.place receipt.now }
     requires some { is_end index.old ≡ false }
-    ensures found { S.honest → (es : List Entry)
+    ensures found { AreTrue (B.told blocks.new) → (es : List Entry)
         → Sought (key_of key.now) (body_of (S.Receipt.image receipt.now)) index.old es → IfOk result
         (λ i. IsSought (key_of key.now) (S.Receipt.image receipt.now) i index.new es) }
-    ensures sound { S.honest → (es : List Entry)
+    ensures sound { AreTrue (B.told blocks.new) → (es : List Entry)
         → Sought (key_of key.now) (body_of (S.Receipt.image receipt.now)) index.old es
         → IfErr result IsMemoryOrShelf }
-    ensures exact { S.honest → Reads (λ i. i) result
+    ensures exact { AreTrue (B.told blocks.new) → Reads (λ i. i) result
         (sought_there (key_of key.now) (body_of (S.Receipt.image receipt.now)) index.old) }
     ensures passed { OnOk result (index.new ≡ but_first index.old) }
     ensures told { Becomes (B.told blocks.old) (B.told blocks.new) }
@@ -158,14 +158,14 @@ impl TableCursor {
         index: Arc<Block>,
     ) -> Result<TableCursor, ReadFault>
         requires here { S.is_of N.place receipt.now }
-        ensures found { S.honest → (es : List Entry) → Names (body_of (S.Receipt.image receipt.now))
+        ensures found { AreTrue (B.told blocks.new) → (es : List Entry) → Names (body_of (S.Receipt.image receipt.now))
             (arc_value {X = HeldBlock} index).entries es
             → IfOk result (λ c. AreNamed (body_of (S.Receipt.image receipt.now)) c.index
             × (left_at (S.Receipt.image receipt.now) c ≡ es)) }
         // Whatever the image is.
-        ensures exact { S.honest → Reads (λ c. c.here) result (first_entered
+        ensures exact { AreTrue (B.told blocks.new) → Reads (λ c. c.here) result (first_entered
             (body_of (S.Receipt.image receipt.now)) (arc_value {X = HeldBlock} index).entries) }
-        ensures sound { S.honest → (es : List Entry) → Names (body_of (S.Receipt.image receipt.now))
+        ensures sound { AreTrue (B.told blocks.new) → (es : List Entry) → Names (body_of (S.Receipt.image receipt.now))
             (arc_value {X = HeldBlock} index).entries es → IfErr result IsMemoryOrShelf }
         ensures told { Becomes (B.told blocks.old) (B.told blocks.new) }
         ensures loan { B.loan blocks.new ≡ B.loan blocks.old }
@@ -191,15 +191,15 @@ impl TableCursor {
         key: &KeyRef<'_>,
     ) -> Result<TableCursor, ReadFault>
         requires here { S.is_of N.place receipt.now }
-        ensures found { S.honest → (es : List Entry) → Names (body_of (S.Receipt.image receipt.now))
+        ensures found { AreTrue (B.told blocks.new) → (es : List Entry) → Names (body_of (S.Receipt.image receipt.now))
             (arc_value {X = HeldBlock} index).entries es
             → IfOk result (λ c. AreNamed (body_of (S.Receipt.image receipt.now)) c.index
             × (left_at (S.Receipt.image receipt.now) c ≡ not_below (key_of key.now) es)) }
         // Whatever the image is.
-        ensures exact { S.honest → Reads (λ c.
+        ensures exact { AreTrue (B.told blocks.new) → Reads (λ c.
             c.here) result (first_named (key_of key.now) (body_of (S.Receipt.image receipt.now))
             (not_below (key_of key.now) (arc_value {X = HeldBlock} index).entries)) }
-        ensures sound { S.honest → (es : List Entry) → Names (body_of (S.Receipt.image receipt.now))
+        ensures sound { AreTrue (B.told blocks.new) → (es : List Entry) → Names (body_of (S.Receipt.image receipt.now))
             (arc_value {X = HeldBlock} index).entries es → IfErr result IsMemoryOrShelf }
         ensures told { Becomes (B.told blocks.old) (B.told blocks.new) }
         ensures loan { B.loan blocks.new ≡ B.loan blocks.old }
@@ -281,13 +281,13 @@ impl TableCursor {
         // It stands at an entry, unless no data block was left.
         ensures some { OnOk result (is_end self.old.index ≡ false
             → IsSome (key_of_first self.new.here)) }
-        ensures exact { S.honest → Reads (λ _. self.new.here) result
+        ensures exact { AreTrue (B.told blocks.new) → Reads (λ _. self.new.here) result
             (first_entered (body_of (S.Receipt.image receipt.now)) self.old.index) }
-        ensures entered { S.honest → AreNamed (body_of (S.Receipt.image receipt.now)) self.old.index
+        ensures entered { AreTrue (B.told blocks.new) → AreNamed (body_of (S.Receipt.image receipt.now)) self.old.index
             → OnOk result (AreNamed (body_of (S.Receipt.image receipt.now)) self.new.index
             × (left_at (S.Receipt.image receipt.now) self.new
             ≡ left_at (S.Receipt.image receipt.now) record { here = []; index = self.old.index })) }
-        ensures sound { S.honest → AreNamed (body_of (S.Receipt.image receipt.now)) self.old.index
+        ensures sound { AreTrue (B.told blocks.new) → AreNamed (body_of (S.Receipt.image receipt.now)) self.old.index
             → IfErr result IsMemoryOrShelf }
         ensures err { OnErr result (self.new ≡ self.old) }
         ensures told { Becomes (B.told blocks.old) (B.told blocks.new) }
@@ -308,14 +308,14 @@ impl TableCursor {
         receipt: &S::Receipt,
     ) -> Result<(), ReadFault>
         requires here { S.is_of N.place receipt.now }
-        ensures steps { S.honest → AreNamed (body_of (S.Receipt.image receipt.now)) self.old.index
+        ensures steps { AreTrue (B.told blocks.new) → AreNamed (body_of (S.Receipt.image receipt.now)) self.old.index
             → OnOk result (AreNamed (body_of (S.Receipt.image receipt.now)) self.new.index
             × (left_at (S.Receipt.image receipt.now) self.new
             ≡ but_first (left_at (S.Receipt.image receipt.now) self.old))) }
         // Whatever the image is.
-        ensures exact { S.honest → Reads (λ _.
+        ensures exact { AreTrue (B.told blocks.new) → Reads (λ _.
             self.new.here) result (stepped_on (body_of (S.Receipt.image receipt.now)) self.old) }
-        ensures sound { S.honest → AreNamed (body_of (S.Receipt.image receipt.now)) self.old.index
+        ensures sound { AreTrue (B.told blocks.new) → AreNamed (body_of (S.Receipt.image receipt.now)) self.old.index
             → IfErr result IsMemoryOrShelf }
         ensures err { OnErr result (self.new ≡ self.old) }
         ensures told { Becomes (B.told blocks.old) (B.told blocks.new) }
@@ -340,7 +340,7 @@ impl TableCursor {
         receipt: &S::Receipt,
     ) -> Result<Option<usize>, ReadFault>
         requires here { S.is_of N.place receipt.now }
-        ensures moved { S.honest → AreNamed (body_of (S.Receipt.image receipt.now)) self.old.index
+        ensures moved { AreTrue (B.told blocks.new) → AreNamed (body_of (S.Receipt.image receipt.now)) self.old.index
             → IfOk result (λ m. AreNamed (body_of (S.Receipt.image receipt.now)) self.new.index
             × IsMovedBy m (left_at (S.Receipt.image receipt.now) self.old)
             (left_at (S.Receipt.image receipt.now) self.new)) }
@@ -349,9 +349,9 @@ impl TableCursor {
             MatchOption m (self.new ≡ self.old) (λ _. IsSome (key_of_first self.new.here))) }
         ensures shared { IfOk result (λ m. IfSome m (λ n.
             SharesFront n (user_of_first self.old.here) (user_of_first self.new.here))) }
-        ensures exact { S.honest → Reads (λ _. self.new.here) result
+        ensures exact { AreTrue (B.told blocks.new) → Reads (λ _. self.new.here) result
             (stepped_or_stays (body_of (S.Receipt.image receipt.now)) self.old) }
-        ensures sound { S.honest → AreNamed (body_of (S.Receipt.image receipt.now)) self.old.index
+        ensures sound { AreTrue (B.told blocks.new) → AreNamed (body_of (S.Receipt.image receipt.now)) self.old.index
             → IfErr result IsMemoryOrShelf }
         ensures err { OnErr result (self.new ≡ self.old) }
         ensures told { Becomes (B.told blocks.old) (B.told blocks.new) }

@@ -6,7 +6,8 @@ ghost use Rattle.std.specs.Arc.{arc_value};
 ghost use Rattle.lsm_codec.specs.KeyRef.{key_of};
 ghost use Rattle.lsm_codec.specs.Entries.{Entry, internal_key};
 ghost use Rattle.lsm_block.specs.Held.{HeldBlock};
-ghost use Rattle.lsm_shelf.specs.Told.{Becomes};
+ghost use Rattle.lsm_shelf.specs.Reads.{AllTrue};
+ghost use Rattle.lsm_shelf.specs.Told.{AreTrue, Becomes};
 ghost use Rattle.lsm_table.specs.Footer.{body_of};
 ghost use Rattle.lsm_table.specs.HeldTable.{AreNamed, Names};
 ghost use Rattle.lsm_table.specs.ReadFault.{ReadCounted, IsMemoryOrShelf};
@@ -17,7 +18,7 @@ use crate::blocks::Blocks;
 use crate::table_cursor::TableCursor;
 use lsm_block::Block;
 use lsm_codec::KeyRef;
-use lsm_table::{NamedShelf, Naming, ReadFault, Shelf};
+use lsm_table::{Basis, NamedShelf, Naming, ReadFault, Shelf};
 use std::alloc::Global;
 use std::marker::{Model, PhantomData};
 use std::sync::Arc;
@@ -30,45 +31,54 @@ pub struct TableReader<N: Naming, S: Shelf> {
     index: Arc<Block>,
     // None before the first entry.
     cursor: Option<TableCursor>,
+    // By which it was read.
+    reads: Basis,
     of: PhantomData<N>,
 }
 
 impl<N: Naming, S: Shelf> Model for TableReader<N, S> {
     ghost use Rattle.std.specs.Arc.{arc_value};
     ghost use Rattle.lsm_block.specs.Held.{HeldBlock};
-    ghost use Rattle.lsm_reader.specs.Stepping.{Reading, reading_of, IsNamedFrom};
+    ghost use Rattle.lsm_shelf.specs.Reads.{AllTrue};
+    ghost use Rattle.lsm_reader.specs.Resting.{RestedReading};
+    ghost use Rattle.lsm_reader.specs.Stepping.{reading_of, IsNamedFrom};
 
-    ghost Value = { Reading };
+    ghost Value = { RestedReading };
 
-    ghost view = { λ t. reading_of (S.Receipt.image t.receipt)
-        (arc_value {X = HeldBlock} t.index).entries t.cursor };
+    ghost view = { λ t. record {
+      at = reading_of (S.Receipt.image t.receipt)
+          (arc_value {X = HeldBlock} t.index).entries t.cursor;
+      reads = t.reads.list;
+    } };
 
-    ghost invariant = { λ t. S.is_of N.place t.receipt × (S.honest → IsNamedFrom
+    ghost invariant = { λ t. S.is_of N.place t.receipt × (AllTrue t.reads.list → IsNamedFrom
         (S.Receipt.image t.receipt) (arc_value {X = HeldBlock} t.index).entries t.cursor) };
 }
 
 impl<N: Naming, S: Shelf> TableReader<N, S> {
     /// Before the first entry of the table of a receipt, where this is its index block.
-    pub(crate) fn over(receipt: S::Receipt, index: Arc<Block>) -> TableReader<N, S>
+    pub(crate) fn over(receipt: S::Receipt, index: Arc<Block>, reads: Basis) -> TableReader<N, S>
         requires named { S.is_of N.place receipt }
-        requires table { S.honest → AreNamed (body_of (S.Receipt.image receipt))
+        requires table { AllTrue reads.list → AreNamed (body_of (S.Receipt.image receipt))
             (arc_value {X = HeldBlock} index).entries }
-        ensures entry { result.entry ≡ None }
+        ensures entry { result.at.entry ≡ None }
+        ensures reads { result.reads ≡ reads.list }
         ensures left { (es : List Entry)
             → Names (body_of (S.Receipt.image receipt)) (arc_value {X = HeldBlock} index).entries es
-            → result.left ≡ es }
+            → result.at.left ≡ es }
     {
         TableReader {
             receipt,
             index,
             cursor: None,
+            reads,
             of: PhantomData,
         }
     }
 
     /// The key of the entry at which it stands, if it stands at one.
     pub fn key(&self) -> Option<KeyRef<'_>>
-        ensures { option_map key_of result ≡ option_map internal_key self.now.entry }
+        ensures { option_map key_of result ≡ option_map internal_key self.now.at.entry }
     {
         match &self.cursor {
             None => None,
@@ -78,7 +88,7 @@ impl<N: Naming, S: Shelf> TableReader<N, S> {
 
     /// The value of the entry at which it stands; no bytes where it stands at none.
     pub fn value(&self) -> &[u8]
-        ensures { result.now ≡ value_in self.now.entry }
+        ensures { result.now ≡ value_in self.now.at.entry }
     {
         match &self.cursor {
             None => &[],
@@ -93,8 +103,12 @@ impl<N: Naming, S: Shelf> TableReader<N, S> {
         blocks: &mut B,
         alloc: Global,
     ) -> Result<bool, ReadFault>
-        ensures steps { S.honest → IfOk result (λ more. StepsOn more self.old self.new) }
-        ensures sound { S.honest → IfErr result IsMemoryOrShelf }
+        ensures steps { AllTrue self.old.reads → AreTrue (B.told blocks.new)
+            → IfOk result (λ more. StepsOn more self.old.at self.new.at) }
+        ensures sound { AllTrue self.old.reads → AreTrue (B.told blocks.new)
+            → IfErr result IsMemoryOrShelf }
+        ensures rests { AllTrue self.old.reads → AreTrue (B.told blocks.new)
+            → AllTrue self.new.reads }
         ensures err { OnErr result (self.new ≡ self.old) }
         ensures told { Becomes (B.told blocks.old) (B.told blocks.new) }
         ensures loan { B.loan blocks.new ≡ B.loan blocks.old }
@@ -103,19 +117,23 @@ impl<N: Naming, S: Shelf> TableReader<N, S> {
     {
         if let Some(cursor) = &mut self.cursor {
             cursor.advance_by(blocks, alloc, &self.receipt)?;
+            self.reads = blocks.basis().and(&self.reads);
             return Ok(!cursor.is_at_end());
         }
         let index = Arc::try_clone(&self.index)?;
         let first = TableCursor::first_by(blocks, alloc, &self.receipt, index)?;
         let more = !first.is_at_end();
         self.cursor = Some(first);
+        self.reads = blocks.basis().and(&self.reads);
         Ok(more)
     }
 
     /// The same by the shelf itself.
     pub fn next(&mut self, shelf: &mut NamedShelf<N, S>, alloc: Global) -> Result<bool, ReadFault>
-        ensures steps { S.honest → IfOk result (λ more. StepsOn more self.old self.new) }
-        ensures sound { S.honest → IfErr result IsMemoryOrShelf }
+        ensures steps { AllTrue self.old.reads → AreTrue shelf.new → IfOk result (λ more. StepsOn more self.old.at self.new.at) }
+        ensures sound { AllTrue self.old.reads → AreTrue shelf.new → IfErr result IsMemoryOrShelf }
+        ensures rests { AllTrue self.old.reads → AreTrue shelf.new
+            → AllTrue self.new.reads }
         ensures err { OnErr result (self.new ≡ self.old) }
         ensures told { Becomes shelf.old shelf.new }
         ensures cause { IfErr result (λ e. ReadCounted e shelf.old shelf.new) }

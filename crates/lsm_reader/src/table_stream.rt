@@ -1,6 +1,6 @@
 //! A table as a source of a merge.
 
-ghost use Rattle.std.specs.Prelude.{◌≡◌, [], ℕ, List, false, IfOk, IfErr, IfSome, MatchOption};
+ghost use Rattle.std.specs.Prelude.{◌≡◌, ◌++◌, [], List, false, IfOk, IfErr, IfSome, MatchOption};
 ghost use Rattle.std.specs.Prelude.{OnOk, OnErr};
 ghost use Rattle.std.specs.Option.{option_map};
 ghost use Rattle.lsm_codec.specs.KeyRef.{key_of};
@@ -9,14 +9,15 @@ ghost use Rattle.lsm_block.specs.Standing.{user_of_first, value_of_first};
 ghost use Rattle.lsm_codec.specs.Entries.{Entry};
 ghost use Rattle.lsm_table.specs.Table.{IsTable};
 ghost use Rattle.lsm_table.specs.ReadFault.{ReadCounted, IsMemoryOrShelf};
-ghost use Rattle.lsm_shelf.specs.Told.{Becomes};
+ghost use Rattle.lsm_shelf.specs.Reads.{AllTrue};
+ghost use Rattle.lsm_shelf.specs.Told.{AreTrue, Becomes};
 ghost use Rattle.lsm_reader.specs.Refusals.{IsReadRefusal, IsSomeReadRefusal};
 
 use crate::blocks::Blocks;
 use crate::opening::index_by;
 use crate::table_cursor::TableCursor;
 use lsm_codec::KeyRef;
-use lsm_table::{Naming, ReadFault, Shelf};
+use lsm_table::{Basis, Naming, ReadFault, Shelf};
 use std::alloc::Global;
 use std::marker::{Model, PhantomData};
 
@@ -26,36 +27,47 @@ use std::marker::{Model, PhantomData};
 pub struct TableStream<N: Naming, S: Shelf> {
     receipt: S::Receipt,
     cursor: TableCursor,
+    // By which it was read, and those on which it rests that it is a table.
+    reads: Basis,
     of: PhantomData<N>,
 }
 
 impl<N: Naming, S: Shelf> Model for TableStream<N, S> {
-    ghost use Rattle.std.specs.Prelude.{List};
-    ghost use Rattle.lsm_codec.specs.Entries.{Entry};
+    ghost use Rattle.lsm_shelf.specs.Reads.{AllTrue};
     ghost use Rattle.lsm_reader.specs.Blocks.{left_at, IsAtEntry};
+    ghost use Rattle.lsm_reader.specs.Resting.{RestedEntries};
     ghost use Rattle.lsm_table.specs.Footer.{body_of};
     ghost use Rattle.lsm_table.specs.HeldTable.{AreNamed};
 
-    ghost Value = { List Entry };
+    ghost Value = { RestedEntries };
 
-    ghost view = { λ t. left_at (S.Receipt.image t.receipt) t.cursor };
+    ghost view = { λ t. record {
+      left = left_at (S.Receipt.image t.receipt) t.cursor;
+      reads = t.reads.list;
+    } };
 
     ghost invariant = { λ t. S.is_of N.place t.receipt
-        × (S.honest → AreNamed (body_of (S.Receipt.image t.receipt)) t.cursor.index) };
+        × (AllTrue t.reads.list → AreNamed (body_of (S.Receipt.image t.receipt)) t.cursor.index) };
 }
 
 impl<N: Naming, S: Shelf> TableStream<N, S> {
-    /// At the first entry of the table of a receipt, which over an honest shelf has to be one.
+    /// At the first entry of the table of a receipt, which has to be one where
+    /// `basis` was true.
     pub fn open_by<B: Blocks<N, S>>(
         blocks: &mut B,
         alloc: Global,
         receipt: S::Receipt,
+        basis: &Basis,
     ) -> Result<TableStream<N, S>, ReadFault>
         requires named { S.is_of N.place receipt }
-        requires table { S.honest → (es : List Entry) × IsTable (S.Receipt.image receipt) es }
-        ensures entries { S.honest → (es : List Entry) → IsTable (S.Receipt.image receipt) es
-            → IfOk result (λ t. t ≡ es) }
-        ensures sound { S.honest → IfErr result IsMemoryOrShelf }
+        requires table { AllTrue basis.now.list
+            → (es : List Entry) × IsTable (S.Receipt.image receipt) es }
+        ensures entries { AreTrue (B.told blocks.new)
+            → (es : List Entry) → IsTable (S.Receipt.image receipt) es
+            → IfOk result (λ t. t.left ≡ es) }
+        ensures rests { AllTrue basis.now.list → AreTrue (B.told blocks.new)
+            → IfOk result (λ t. AllTrue t.reads) }
+        ensures sound { AllTrue basis.now.list → AreTrue (B.told blocks.new) → IfErr result IsMemoryOrShelf }
         ensures told { Becomes (B.told blocks.old) (B.told blocks.new) }
         ensures loan { B.loan blocks.new ≡ B.loan blocks.old }
         ensures cause { IfErr result (λ e. ReadCounted e (B.told blocks.old) (B.told blocks.new)) }
@@ -67,27 +79,28 @@ impl<N: Naming, S: Shelf> TableStream<N, S> {
         Ok(TableStream {
             receipt,
             cursor,
+            reads: blocks.basis().and(basis),
             of: PhantomData,
         })
     }
 
     /// The key of the entry at which it stands, if it stands at one.
     pub fn key(&self) -> Option<KeyRef<'_>>
-        ensures { option_map key_of result ≡ key_of_first self.now }
+        ensures { option_map key_of result ≡ key_of_first self.now.left }
     {
         self.cursor.key()
     }
 
     /// Whether it stands at no entry. Then none is left.
     pub fn is_at_end(&self) -> bool
-        ensures { result ≡ is_end self.now }
+        ensures { result ≡ is_end self.now.left }
     {
         self.cursor.is_at_end()
     }
 
     /// The value of the entry at which it stands; no bytes where it stands at none.
     pub fn value(&self) -> &[u8]
-        ensures { result.now ≡ value_of_first self.now }
+        ensures { result.now ≡ value_of_first self.now.left }
     {
         self.cursor.value()
     }
@@ -98,15 +111,21 @@ impl<N: Naming, S: Shelf> TableStream<N, S> {
         blocks: &mut B,
         alloc: Global,
     ) -> Result<(), ReadFault>
-        ensures ok { S.honest → OnOk result (self.new ≡ but_first self.old) }
-        ensures sound { S.honest → IfErr result IsMemoryOrShelf }
+        ensures ok { AllTrue self.old.reads → AreTrue (B.told blocks.new)
+            → OnOk result (self.new.left ≡ but_first self.old.left) }
+        ensures sound { AllTrue self.old.reads → AreTrue (B.told blocks.new)
+            → IfErr result IsMemoryOrShelf }
+        ensures rests { AllTrue self.old.reads → AreTrue (B.told blocks.new)
+            → AllTrue self.new.reads }
         ensures err { OnErr result (self.new ≡ self.old) }
         ensures told { Becomes (B.told blocks.old) (B.told blocks.new) }
         ensures loan { B.loan blocks.new ≡ B.loan blocks.old }
         ensures cause { IfErr result (λ e. ReadCounted e (B.told blocks.old) (B.told blocks.new)) }
         ensures refused { IfErr result (IsSomeReadRefusal (S.refuses N.place)) }
     {
-        self.cursor.advance_by(blocks, alloc, &self.receipt)
+        self.cursor.advance_by(blocks, alloc, &self.receipt)?;
+        self.reads = blocks.basis().and(&self.reads);
+        Ok(())
     }
 
     /// Goes on to the next entry, and tells how many bytes of its user key are those of the user
@@ -117,19 +136,25 @@ impl<N: Naming, S: Shelf> TableStream<N, S> {
         blocks: &mut B,
         alloc: Global,
     ) -> Result<Option<usize>, ReadFault>
-        ensures moved { S.honest → IfOk result (λ m. IsMovedBy m self.old self.new) }
+        ensures moved { AllTrue self.old.reads → AreTrue (B.told blocks.new)
+            → IfOk result (λ m. IsMovedBy m self.old.left self.new.left) }
         // Whatever the image is.
         ensures stands { IfOk result (λ m.
-            MatchOption m (self.new ≡ self.old) (λ _. is_end self.new ≡ false)) }
+            MatchOption m (self.new ≡ self.old) (λ _. is_end self.new.left ≡ false)) }
         ensures shared { IfOk result (λ m.
-            IfSome m (λ n. SharesFront n (user_of_first self.old) (user_of_first self.new))) }
-        ensures sound { S.honest → IfErr result IsMemoryOrShelf }
+            IfSome m (λ n. SharesFront n (user_of_first self.old.left) (user_of_first self.new.left))) }
+        ensures sound { AllTrue self.old.reads → AreTrue (B.told blocks.new)
+            → IfErr result IsMemoryOrShelf }
+        ensures rests { AllTrue self.old.reads → AreTrue (B.told blocks.new)
+            → AllTrue self.new.reads }
         ensures err { OnErr result (self.new ≡ self.old) }
         ensures told { Becomes (B.told blocks.old) (B.told blocks.new) }
         ensures loan { B.loan blocks.new ≡ B.loan blocks.old }
         ensures cause { IfErr result (λ e. ReadCounted e (B.told blocks.old) (B.told blocks.new)) }
         ensures refused { IfErr result (IsSomeReadRefusal (S.refuses N.place)) }
     {
-        self.cursor.step_by(blocks, alloc, &self.receipt)
+        let moved = self.cursor.step_by(blocks, alloc, &self.receipt)?;
+        self.reads = blocks.basis().and(&self.reads);
+        Ok(moved)
     }
 }

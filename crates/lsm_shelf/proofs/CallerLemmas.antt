@@ -1,13 +1,53 @@
 -- Calls of a shelf one after another.
-use Rattle.std.proofs.Common.{◌≡◌, ◌+◌, refl, ◌∙◌, arith}
+use Rattle.std.proofs.Common.{◌≡◌, ◌+◌, refl, sym, ◌∙◌, ap, subst, arith, List, [], ◌∷◌, ◌++◌}
+use mathlib.Core.List.{append_assoc}
+use Rattle.lsm_shelf.specs.Reads.{Read, IsTrueRead, AllTrue, Grows}
 use Rattle.lsm_shelf.specs.Refusals.{IsWantOr}
-use Rattle.lsm_shelf.specs.Told.{Told, Becomes, Counted, Forked, forking}
+use Rattle.lsm_shelf.specs.Told.{Told, AreTrue, Becomes, resting, Counted, Forked, forking}
 use Rattle.lsm_shelf.specs.declared.shelf_fault.ShelfFault.{ShelfFault}
 use Rattle.lsm_shelf.specs.declared.shelf_fault.ShelfFault.TheVariants as why
 
+-- ---- reads
+
+pub grows_then : (a b c : List Read) → Grows a b → Grows b c → Grows a c
+grows_then a b c p q = (q.0 ++ p.0, q.1 ∙ ap (λ l. q.0 ++ l) p.1 ∙ sym (append_assoc q.0 p.0 a))
+
+-- of true reads those behind are true
+true_behind : (more old : List Read) → AllTrue (more ++ old) → AllTrue old
+unfolding AllTrue
+true_behind [] old all = all
+true_behind (r ∷ more) old all = true_behind more old all.1
+
+-- of true reads those in front are true
+true_front : (more old : List Read) → AllTrue (more ++ old) → AllTrue more
+unfolding AllTrue
+true_front [] old all = tt
+true_front (r ∷ more) old all = (all.0, true_front more old all.1)
+
+pub all_joined : (newer older : List Read) → AllTrue newer → AllTrue older → AllTrue (newer ++ older)
+unfolding AllTrue
+all_joined [] older n o = o
+all_joined (r ∷ newer) older n o = (n.0, all_joined newer older n.1 o)
+
+-- both lists are true
+pub both_true : (newer older all : List Read) → all ≡ newer ++ older → AllTrue all → AllTrue newer × AllTrue older
+both_true newer older all e t = let p = subst AllTrue e t in (true_front newer older p, true_behind newer older p)
+
+-- the last of true reads
+pub first_true : (r : Read) (old new : List Read) → new ≡ r ∷ old → AllTrue new → IsTrueRead r
+unfolding AllTrue
+first_true r old new e t = (subst AllTrue e t).0
+
+pub true_older : (old new : List Read) → Grows old new → AllTrue new → AllTrue old
+true_older old new g all = true_behind g.0 old (subst AllTrue g.1 all)
+
+-- what was true at the end was true before
+pub true_before : (a b : Told) → Becomes a b → AreTrue b → AreTrue a
+true_before a b p all = true_older a.reads b.reads p.reads all
+
 -- no call
 pub becomes_same : (t : Told) → Becomes t t
-becomes_same t = record { place = refl; faults = omega arith; misses = omega arith; puts = refl; gone = refl; listed = refl; manifest = refl; sent = refl; found = refl; starts = refl; written = refl; forks = refl; made = refl }
+becomes_same t = record { place = refl; faults = omega arith; misses = omega arith; puts = refl; gone = refl; listed = refl; manifest = refl; sent = refl; found = refl; starts = refl; written = refl; forks = refl; made = refl; reads = ([], refl) }
 
 pub becomes_then : (a b c : Told) → Becomes a b → Becomes b c → Becomes a c
 becomes_then a b c p q = record {
@@ -24,7 +64,12 @@ becomes_then a b c p q = record {
   written = q.written ∙ p.written;
   forks = q.forks ∙ p.forks;
   made = q.made ∙ p.made;
+  reads = grows_then a.reads b.reads c.reads p.reads q.reads;
 }
+
+-- the same where the answers rest on other reads
+pub becomes_resting : (r q : List Read) (a b : Told) → Becomes a b → Grows r q → Becomes (resting r a) (resting q b)
+becomes_resting r q a b p g = record { place = p.place; faults = p.faults; misses = p.misses; puts = p.puts; gone = p.gone; listed = p.listed; manifest = p.manifest; sent = p.sent; found = p.found; starts = p.starts; written = p.written; forks = p.forks; made = p.made; reads = g }
 
 pub place_then : (a b : Told) → Becomes a b → b.place ≡ a.place
 place_then a b p = p.place
@@ -46,7 +91,7 @@ counted_before (why.Taken n) a b c p q = let x = q.misses in omega arith
 -- ---- forks
 
 pub forked_none : (t : Told) → Forked t t
-forked_none t = (0, record { place = refl; faults = omega arith; misses = omega arith; puts = refl; gone = refl; listed = refl; manifest = refl; sent = refl; found = refl; starts = refl; written = refl; forks = omega arith; made = refl })
+forked_none t = (0, record { place = refl; faults = omega arith; misses = omega arith; puts = refl; gone = refl; listed = refl; manifest = refl; sent = refl; found = refl; starts = refl; written = refl; forks = omega arith; made = refl; reads = ([], refl) })
 
 -- one fork
 pub forked_once : (a b : Told) → Becomes (forking 1 a) b → Forked a b
@@ -54,7 +99,7 @@ forked_once a b p = (1, p)
 
 -- other calls give none
 pub forked_same : (a b : Told) → Becomes a b → Forked a b
-forked_same a b p = (0, record { place = p.place; faults = p.faults; misses = p.misses; puts = p.puts; gone = p.gone; listed = p.listed; manifest = p.manifest; sent = p.sent; found = p.found; starts = p.starts; written = p.written; forks = (let x = p.forks in omega arith); made = p.made })
+forked_same a b p = (0, record { place = p.place; faults = p.faults; misses = p.misses; puts = p.puts; gone = p.gone; listed = p.listed; manifest = p.manifest; sent = p.sent; found = p.found; starts = p.starts; written = p.written; forks = (let x = p.forks in omega arith); made = p.made; reads = p.reads })
 
 pub forked_then : (a b c : Told) → Forked a b → Forked b c → Forked a c
 forked_then a b c p q = (
@@ -73,6 +118,7 @@ forked_then a b c p q = (
     written = q.1.written ∙ p.1.written;
     forks = (let x = p.1.forks in let y = q.1.forks in omega arith);
     made = q.1.made ∙ p.1.made;
+    reads = grows_then a.reads b.reads c.reads p.1.reads q.1.reads;
   },
 )
 

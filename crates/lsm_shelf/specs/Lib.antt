@@ -5,3 +5,4 @@ pub mod Told
 pub mod Asked
 pub mod Refusals
 pub mod Stored
+pub mod Reads

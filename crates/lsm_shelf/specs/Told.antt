@@ -2,6 +2,7 @@
 use Rattle.std.specs.Prelude.{◌≡◌, ℕ, ◌+◌, ◌-◌, ◌^◌, ◌≤◌, min, List, [], ◌∷◌, ◌++◌, Option, None}
 use Rattle.std.specs.Prelude.{Some, Result, Ok, Err}
 pub use Rattle.lsm_shelf.specs.Place.{Place, in_memory, at_path}
+use Rattle.lsm_shelf.specs.Reads.{Read, AllTrue, Grows}
 use Rattle.lsm_shelf.specs.Asked.{Asked, Put, Remove, StartManifest, AppendManifest}
 use Rattle.lsm_shelf.specs.declared.shelf_fault.ShelfFault.{ShelfFault}
 use Rattle.lsm_shelf.specs.declared.shelf_fault.ShelfFault.TheVariants.{OutOfMemory, Device}
@@ -36,6 +37,16 @@ pub record Told : Type 0 where
   -- the calls by which it changed what lies there, the last first: puts, starts and appends that
   -- were answered Ok, and removals that were asked of the device
   pub made : List Asked
+  -- the reads of parts that it answered, on which its answers rest, the last first
+  pub reads : List Read
+
+-- these reads are all true
+abbrev pub AreTrue : Told → Type 0
+AreTrue t = AllTrue t.reads
+
+-- its answers rest on these reads
+abbrev pub resting : List Read → Told → Told
+resting reads t = record t { reads = reads }
 
 -- a value to which nothing was told yet
 abbrev pub fresh : Place → Told
@@ -53,9 +64,10 @@ fresh p = record {
   written = [];
   forks = 0;
   made = [];
+  reads = [];
 }
 
--- the second is the first, but for counts, which do not fall
+-- the second is the first, but for counts, which do not fall, and for reads
 pub record Becomes (old new : Told) : Type 0 where
   pub place : new.place ≡ old.place
   pub faults : old.faults ≤ new.faults
@@ -70,6 +82,7 @@ pub record Becomes (old new : Told) : Type 0 where
   pub written : new.written ≡ old.written
   pub forks : new.forks ≡ old.forks
   pub made : new.made ≡ old.made
+  pub reads : Grows old.reads new.reads
 
 -- it put a table of this number, with this image
 abbrev pub putting : ℕ → List ℕ → Told → Told

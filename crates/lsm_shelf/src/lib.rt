@@ -6,10 +6,12 @@
 //! shelves that keep data, `lsm_test_shelves` those for tests.
 #![tactic(auto)]
 
+mod basis;
 mod shelf;
 mod shelf_fault;
 mod table_receipt;
 
+pub use basis::{Basis, TellsReads};
 pub use shelf::Shelf;
 pub use shelf_fault::ShelfFault;
 pub use table_receipt::{MAX_IMAGE, TableReceipt};

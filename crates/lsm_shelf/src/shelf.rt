@@ -1,9 +1,10 @@
 //! Where tables and the manifest lie.
 
-ghost use Rattle.std.specs.Prelude.{◌≡◌, ◌+◌, ◌≤◌, ℕ, length, take, drop, IfOk, IfErr, OnOk, OnErr};
+ghost use Rattle.std.specs.Prelude.{◌≡◌, ◌+◌, ◌≤◌, ◌∷◌, ℕ, length, IfOk, IfErr, OnOk, OnErr};
 ghost use Rattle.std.specs.Prelude.{IsTrue};
 ghost use Rattle.std.specs.List.Sorted.{IsStrictlyIncreasing};
 
+use crate::basis::Basis;
 use crate::shelf_fault::ShelfFault;
 use crate::table_receipt::TableReceipt;
 use std::alloc::Global;
@@ -25,10 +26,6 @@ pub trait Shelf: Drop + Send + Sync {
 
     /// What stands for an image that was put or loaded.
     type Receipt: TableReceipt;
-
-    /// The premise under which reads give the bytes of the image put. One for the type, so the same
-    /// for all its values.
-    ghost honest: { Type 0 };
 
     /// What the value's calls told it.
     ghost told: { Self → Told };
@@ -72,8 +69,12 @@ pub trait Shelf: Drop + Send + Sync {
     ) -> Result<Vec<u8>, ShelfFault>
         requires here { is_of (told self.old).place receipt.now }
         requires inside { offset + len ≤ length (Self.Receipt.image receipt.now) }
-        ensures bytes { honest
-            → IfOk result (λ v. v.items ≡ take len (drop offset (Self.Receipt.image receipt.now))) }
+        ensures read { IfOk result (λ v. (told self.new).reads ≡ record {
+          image = Self.Receipt.image receipt.now;
+          offset = offset;
+          len = len;
+          bytes = v.items;
+        } ∷ (told self.old).reads) }
         ensures told { Becomes (told self.old) (told self.new) }
         ensures refused { IfErr result
             (refuses (told self.old).place (ReadAt (Self.Receipt.number receipt.now) offset len)) }
@@ -179,9 +180,13 @@ pub trait Shelf: Drop + Send + Sync {
     fn same(&self, a: &Self::Receipt, b: &Self::Receipt) -> bool
         requires here { is_of (told self.now).place a.now × is_of (told self.now).place b.now }
         ensures copy { a.now ≡ b.now → IsTrue result }
-        ensures one { honest → IsTrue result
+        ensures one { IsTrue result
             → (Self.Receipt.number a.now ≡ Self.Receipt.number b.now)
             × (Self.Receipt.image a.now ≡ Self.Receipt.image b.now) };
+
+    /// The reads on which its answers rest. They have no bytes.
+    fn basis(&self) -> Basis
+        ensures { result.list ≡ (told self.now).reads };
 
     /// The same receipt once more. It takes no memory.
     fn copy_receipt(&self, receipt: &Self::Receipt) -> Self::Receipt

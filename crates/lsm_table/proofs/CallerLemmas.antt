@@ -7,4 +7,4 @@ pub use Rattle.lsm_table.proofs.HeldTableLaws.{table_held, named, names_none, na
 pub use Rattle.lsm_table.proofs.SearchLaws.{either_bool, below-nothing}
 pub use Rattle.lsm_table.proofs.GetLaws.{sought_first, below_append, below_skip, found_at}
 pub use Rattle.lsm_table.proofs.OpenLaws.{opening_again, opened_names, named_again, named_there, memory_only}
-pub use Rattle.lsm_table.proofs.Telling.{becomes_same, becomes_then, counted_later, read_counted_later}
+pub use Rattle.lsm_table.proofs.Telling.{becomes_same, becomes_then, counted_later, read_counted_later, true_before, true_older, first_true, all_joined, both_true, becomes_resting, grows_then}

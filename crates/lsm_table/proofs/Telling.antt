@@ -1,7 +1,7 @@
 -- Calls of a shelf one after another, among them those that read a table.
 use Rattle.lsm_shelf.specs.Told.{Told, Becomes}
 use Rattle.lsm_shelf.proofs.CallerLemmas.{counted_later}
-pub use Rattle.lsm_shelf.proofs.CallerLemmas.{becomes_same, becomes_then, counted_later}
+pub use Rattle.lsm_shelf.proofs.CallerLemmas.{becomes_same, becomes_then, counted_later, true_before, true_older, first_true, all_joined, both_true, becomes_resting, grows_then}
 use Rattle.lsm_table.specs.ReadFault.{ReadCounted}
 use Rattle.lsm_table.specs.declared.read_fault.ReadFault.{ReadFault}
 use Rattle.lsm_table.specs.declared.read_fault.ReadFault.TheVariants as read

@@ -38,7 +38,7 @@ pub use footer::{FOOTER, Footer};
 pub use found::Found;
 pub use handle::Handle;
 pub use lsm_block::BuildFault;
-pub use lsm_shelf::{Shelf, ShelfFault, TableReceipt};
+pub use lsm_shelf::{Basis, Shelf, ShelfFault, TableReceipt};
 pub use named_shelf::NamedShelf;
 pub use naming::Naming;
 pub use read_fault::ReadFault;

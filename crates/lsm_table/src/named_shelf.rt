@@ -1,6 +1,6 @@
 //! The shelf of a name.
 
-ghost use Rattle.std.specs.Prelude.{◌≡◌, ◌+◌, ◌≤◌, length, take, drop, IfOk, IfErr, OnOk, OnErr};
+ghost use Rattle.std.specs.Prelude.{◌≡◌, ◌+◌, ◌≤◌, ◌∷◌, length, IfOk, IfErr, OnOk, OnErr};
 ghost use Rattle.std.specs.Prelude.{IsTrue};
 ghost use Rattle.std.specs.List.Sorted.{IsStrictlyIncreasing};
 ghost use Rattle.lsm_shelf.specs.Asked.{Put, ReadAt, Load, Remove, ListTables};
@@ -10,7 +10,7 @@ ghost use Rattle.lsm_shelf.specs.Told.{putting, removed_by, listing, sending, ap
 ghost use Rattle.lsm_shelf.specs.Told.{forking, fresh};
 
 use crate::naming::Naming;
-use lsm_shelf::{Shelf, ShelfFault};
+use lsm_shelf::{Basis, Shelf, ShelfFault};
 use std::alloc::Global;
 use std::marker::{Model, PhantomData};
 use std::sync::Wait;
@@ -86,8 +86,12 @@ impl<N: Naming, S: Shelf> NamedShelf<N, S> {
     ) -> Result<Vec<u8>, ShelfFault>
         requires here { S.is_of N.place receipt.now }
         requires inside { offset + len ≤ length (S.Receipt.image receipt.now) }
-        ensures bytes { S.honest
-            → IfOk result (λ v. v.items ≡ take len (drop offset (S.Receipt.image receipt.now))) }
+        ensures read { IfOk result (λ v. self.new.reads ≡ record {
+          image = S.Receipt.image receipt.now;
+          offset = offset;
+          len = len;
+          bytes = v.items;
+        } ∷ self.old.reads) }
         ensures told { Becomes self.old self.new }
         ensures refused { IfErr result
             (S.refuses N.place (ReadAt (S.Receipt.number receipt.now) offset len)) }
@@ -198,11 +202,18 @@ impl<N: Naming, S: Shelf> NamedShelf<N, S> {
     pub fn same(&self, a: &S::Receipt, b: &S::Receipt) -> bool
         requires here { S.is_of N.place a.now × S.is_of N.place b.now }
         ensures copy { a.now ≡ b.now → IsTrue result }
-        ensures one { S.honest → IsTrue result
+        ensures one { IsTrue result
             → (S.Receipt.number a.now ≡ S.Receipt.number b.now)
             × (S.Receipt.image a.now ≡ S.Receipt.image b.now) }
     {
         self.shelf.same(a, b)
+    }
+
+    /// As `Shelf::basis`.
+    pub fn basis(&self) -> Basis
+        ensures { result.list ≡ self.now.reads }
+    {
+        self.shelf.basis()
     }
 
     /// As `Shelf::copy_receipt`.

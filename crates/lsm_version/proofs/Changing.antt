@@ -6,8 +6,9 @@ use Rattle.std.specs.Prelude.{Option, Some, None, ◌==◌}
 use Rattle.std.proofs.lemmas.List.{map-append, length-set}
 use Rattle.std.proofs.lemmas.List.Elements.{filter_more}
 use Rattle.std.proofs.lemmas.List.Kept.{IsSortedBy-filter}
+use Rattle.lsm_shelf.specs.Reads.{Read}
 use Rattle.lsm_table.specs.Registry.{Table}
-use Rattle.lsm_version.specs.Versions.{Levels, stands_before, AreInOrder}
+use Rattle.lsm_version.specs.Versions.{Levels, IsSound, resting_on, stands_before, AreInOrder}
 use Rattle.lsm_version.specs.Changes.{is_kept, placed_in, placed_all, coming, level_after, levels_after, with_pointer, changed}
 use Rattle.lsm_version.proofs.Placing.{tables_rank, placed_sorted}
 
@@ -66,15 +67,19 @@ pub length-with_pointer : (pointer : Option (ℕ × List ℕ)) (pointers : List 
 length-with_pointer None pointers = refl
 length-with_pointer (Some p) pointers = length-set pointers p.0 (Some p.1)
 
-version_of : ℕ → List (List Table) → List (Option (List ℕ)) → Levels
-version_of last ts ps = record { tables = ts; pointers = ps; last = last }
+version_of : ℕ → List Read → List (List Table) → List (Option (List ℕ)) → Levels
+version_of last rs ts ps = record { tables = ts; pointers = ps; last = last; reads = rs }
 
-pub changed_is : (deleted : List ℕ) (added : List (ℕ × Table)) (pointer : Option (ℕ × List ℕ)) (last : ℕ) (v : Levels) (ts : List (List Table)) (ps : List (Option (List ℕ)))
+pub changed_is : (deleted : List ℕ) (added : List (ℕ × Table)) (pointer : Option (ℕ × List ℕ)) (last : ℕ) (v : Levels) (ts : List (List Table)) (ps : List (Option (List ℕ))) (rs : List Read)
     → ts ≡ levels_after deleted added 0 v.tables → ps ≡ with_pointer pointer v.pointers
-    → record { tables = ts; pointers = ps; last = last } ≡ changed deleted added pointer last v
+    → record { tables = ts; pointers = ps; last = last; reads = rs } ≡ resting_on rs (changed deleted added pointer last v)
 unfolding changed version_of
-changed_is deleted added pointer last v ts ps tables pointers =
-    ap (λ ls. version_of last ls ps) tables ∙ ap (λ ls. version_of last (levels_after deleted added 0 v.tables) ls) pointers
+changed_is deleted added pointer last v ts ps rs tables pointers =
+    ap (λ ls. version_of last rs ls ps) tables ∙ ap (λ ls. version_of last rs (levels_after deleted added 0 v.tables) ls) pointers
+
+-- soundness is of the levels alone
+pub sound_resting : (rs : List Read) (v : Levels) → IsSound v → IsSound (resting_on rs v)
+sound_resting rs v s = record { lawful = s.lawful; tables = s.tables; reached = s.reached }
 
 -- ---- tables that come to a level
 

@@ -48,6 +48,7 @@ changed deleted added pointer last v =
       pointers = with_pointer pointer
           v.pointers;
       last = last;
+      reads = v.reads;
     }
 
 -- the added tables as files

@@ -8,6 +8,7 @@ use Rattle.lsm_codec.specs.Keys.{IsKey}
 -- the user key in the bytes of an internal key
 pub use Rattle.lsm_codec.specs.Keys.{user_of}
 use Rattle.lsm_codec.specs.Entries.{Entry}
+use Rattle.lsm_shelf.specs.Reads.{Read}
 use Rattle.lsm_table.specs.Registry.{Table}
 use Rattle.lsm_table.specs.Table.{IsTable}
 use Rattle.lsm_table.specs.HeldTable.{entries_in}
@@ -24,6 +25,12 @@ pub record Levels : Type 0 where
   pub tables : List (List Table)
   pub pointers : List (Option (List ℕ))
   pub last : ℕ
+  -- the reads on which it rests that the levels are sound
+  pub reads : List Read
+
+-- the same, resting on these reads
+abbrev pub resting_on : List Read → Levels → Levels
+resting_on reads v = record v { reads = reads }
 
 -- ---- versions as files
 
@@ -59,6 +66,7 @@ no_levels = record {
   tables = [] ∷ [] ∷ [] ∷ [] ∷ [] ∷ [] ∷ [] ∷ [];
   pointers = None ∷ None ∷ None ∷ None ∷ None ∷ None ∷ None ∷ [];
   last = 0;
+  reads = [];
 }
 
 -- ---- what holds of a version

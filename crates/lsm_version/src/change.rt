@@ -3,15 +3,16 @@
 ghost use Rattle.std.specs.Prelude.{◌≡◌, ◌≤◌, ◌<◌, map, length, IfOk, IfSome, OnOk};
 ghost use Rattle.std.specs.List.{All, filter};
 ghost use Rattle.std.specs.List.Sorted.{IsSortedBy};
+ghost use Rattle.lsm_shelf.specs.Reads.{AllTrue};
 ghost use Rattle.lsm_version.specs.Changes.{changed, coming, is_kept, level_after, levels_after};
 ghost use Rattle.lsm_version.specs.Changes.{placed_all, with_pointer};
-ghost use Rattle.lsm_version.specs.Versions.{AreInOrder, IsSound, stands_before};
+ghost use Rattle.lsm_version.specs.Versions.{AreInOrder, IsSound, resting_on, stands_before};
 
 use crate::copies::copies_of;
 use crate::ordered_level::insert;
 use crate::version::Version;
 use lsm_codec::Bytes;
-use lsm_table::{Naming, Registry, Shelf, TableRef};
+use lsm_table::{Basis, Naming, Registry, Shelf, TableRef};
 use std::alloc::{AllocError, Global};
 use std::sync::Arc;
 
@@ -110,7 +111,8 @@ fn with_pointer(
 impl<N: Naming, S: Shelf> Version<N, S> {
     /// The version without the tables of the deleted numbers and with the added ones, each at its
     /// level, 0 to 6, and where the order has it; the pointer of a level, 0 to 6, is replaced by an
-    /// internal key, and the last sequence by another one. `AllocError` where a growth was refused.
+    /// internal key, and the last sequence by another one. On `basis` it rests too, that it is
+    /// sound. `AllocError` where a growth was refused.
     ///
     /// Deletions come before additions: a table that moves to another level is deleted and added
     /// under one number. After a refusal the version is as before, and the pointer's bytes are
@@ -122,11 +124,14 @@ impl<N: Naming, S: Shelf> Version<N, S> {
         added: &[(usize, TableRef<N, S>)],
         pointer: Option<(usize, Bytes)>,
         last: u64,
+        basis: &Basis,
     ) -> Result<Version<N, S>, AllocError>
         requires levels { All (λ a. a.0 ≤ 6) added.now }
         requires pointer { IfSome pointer (λ p. p.0 ≤ 6) }
-        requires sound { S.honest → IsSound (changed deleted.now added.now pointer last self.now) }
-        ensures { IfOk result (λ v. v ≡ changed deleted.now added.now pointer last self.now) }
+        requires sound { AllTrue (basis.now.list ++ self.now.reads)
+            → IsSound (changed deleted.now added.now pointer last self.now) }
+        ensures { IfOk result (λ v. v ≡ resting_on (basis.now.list ++ self.now.reads)
+            (changed deleted.now added.now pointer last self.now)) }
     {
         let pointers = with_pointer(alloc, self.pointers.as_slice(), pointer)?;
         let levels = levels_after(
@@ -141,6 +146,7 @@ impl<N: Naming, S: Shelf> Version<N, S> {
             levels,
             pointers,
             last,
+            reads: basis.and(&self.reads),
         })
     }
 }

@@ -2,6 +2,7 @@
 
 ghost use Rattle.std.specs.Prelude.{◌≡◌, ◌≤◌, IfOk};
 ghost use Rattle.std.specs.List.{filter};
+ghost use Rattle.lsm_shelf.specs.Reads.{AllTrue};
 ghost use Rattle.lsm_codec.specs.Lists.{Has};
 ghost use Rattle.lsm_table.specs.Registry.{Table};
 ghost use Rattle.lsm_version.specs.Overlap.{lies_over, meets};
@@ -72,7 +73,7 @@ impl<N: Naming, S: Shelf> Version<N, S> {
         requires { level ≤ 6 }
         ensures level_zero { level ≡ 0 → IfOk result (λ v.
             v.items ≡ filter (meets from.now to.now) (level_in self.now.tables level)) }
-        ensures tables { S.honest → IfOk result (λ v.
+        ensures tables { AllTrue self.now.reads → IfOk result (λ v.
             v.items ≡ filter (meets from.now to.now) (level_in self.now.tables level)) }
         // Whatever the shelf is.
         ensures of_level { IfOk result (λ v. (t : Table) → Has v.items t

@@ -3,22 +3,25 @@
 ghost use Rattle.std.specs.Prelude.{◌≡◌, ◌≤◌, ◌++◌, ℕ, List, length, map, get_or, None, IfOk};
 ghost use Rattle.std.specs.Prelude.{OnErr, OnOk};
 ghost use Rattle.std.specs.Option.{option_map};
+ghost use Rattle.lsm_shelf.specs.Reads.{AllTrue};
 ghost use Rattle.lsm_version.specs.Versions.{IsSound, files_from, level_in, no_levels, numbers_in};
 
 use lsm_codec::Bytes;
-use lsm_table::{Naming, Registry, Shelf, TableRef};
+use lsm_table::{Basis, Naming, Registry, Shelf, TableRef};
 use std::alloc::{AllocError, Global};
 use std::marker::Model;
 use std::sync::Arc;
 
-/// The tables of the seven levels, the compaction pointers, and the last sequence. Over an honest
-/// shelf it is sound: the levels are sorted, files of a level from 1 on lie in order of internal
+/// The tables of the seven levels, the compaction pointers, and the last sequence. Where the
+/// reads on which it rests were true it is sound: the levels are sorted, files of a level from 1 on lie in order of internal
 /// keys, and a key's entries are newer the shallower they lie.
 pub struct Version<N: Naming, S: Shelf> {
     pub(crate) registry: Arc<Registry<N, S>>,
     pub(crate) levels: Vec<Vec<TableRef<N, S>>>,
     pub(crate) pointers: Vec<Option<Bytes>>,
     pub(crate) last: u64,
+    // On which it rests that it is sound.
+    pub(crate) reads: Basis,
 }
 
 impl<N: Naming, S: Shelf> Drop for Version<N, S> {
@@ -28,12 +31,14 @@ impl<N: Naming, S: Shelf> Drop for Version<N, S> {
             levels: _,
             pointers: _,
             last: _,
+            reads: _,
         } = self;
     }
 }
 
 impl<N: Naming, S: Shelf> Model for Version<N, S> {
     ghost use Rattle.std.specs.Prelude.{◌≡◌, map, length};
+    ghost use Rattle.lsm_shelf.specs.Reads.{AllTrue};
     ghost use Rattle.lsm_version.specs.Versions.{AreInOrder, IsSound, Levels};
 
     ghost Value = { Levels };
@@ -42,14 +47,16 @@ impl<N: Naming, S: Shelf> Model for Version<N, S> {
       tables = map (λ l. l.items) v.levels.items;
       pointers = v.pointers.items;
       last = v.last;
+      reads = v.reads.list;
     } };
 
     ghost invariant = { λ v. (length v.levels.items ≡ 7) × (length v.pointers.items ≡ 7)
         × AreInOrder (map (λ l. l.items) v.levels.items)
-        × (S.honest → IsSound record {
+        × (AllTrue v.reads.list → IsSound record {
           tables = map (λ l. l.items) v.levels.items;
           pointers = v.pointers.items;
           last = v.last;
+          reads = v.reads.list;
         }) };
 }
 
@@ -94,7 +101,7 @@ impl<N: Naming, S: Shelf> Version<N, S> {
         ensures levels { length self.now.tables ≡ 7 }
         ensures pointers { length self.now.pointers ≡ 7 }
         ensures order { AreInOrder self.now.tables }
-        ensures sound { S.honest → IsSound self.now }
+        ensures sound { AllTrue self.now.reads → IsSound self.now }
     {
         self.last
     }
@@ -113,7 +120,7 @@ impl<N: Naming, S: Shelf> Version<N, S> {
         ensures tables { map (λ l. l.items) result.now ≡ self.now.tables }
         ensures seven { length result.now ≡ 7 }
         ensures order { AreInOrder self.now.tables }
-        ensures sound { S.honest → IsSound self.now }
+        ensures sound { AllTrue self.now.reads → IsSound self.now }
     {
         self.levels.as_slice()
     }
@@ -135,25 +142,28 @@ impl<N: Naming, S: Shelf> Version<N, S> {
     }
 
     /// The version of these tables, the levels 0 to 6, of the compaction pointers of these levels,
-    /// and of this last sequence.
+    /// and of this last sequence; on these reads it rests that it is sound.
     pub fn of(
         registry: Arc<Registry<N, S>>,
         levels: Vec<Vec<TableRef<N, S>>>,
         pointers: Vec<Option<Bytes>>,
         last: u64,
+        reads: Basis,
     ) -> Version<N, S>
         requires levels { length levels.items ≡ 7 }
         requires pointers { length pointers.items ≡ 7 }
         requires order { AreInOrder (map (λ l. l.items) levels.items) }
-        requires sound { S.honest → IsSound record {
+        requires sound { AllTrue reads.list → IsSound record {
           tables = map (λ l. l.items) levels.items;
           pointers = pointers.items;
           last = last;
+          reads = reads.list;
         } }
         ensures { result ≡ record {
           tables = map (λ l. l.items) levels.items;
           pointers = pointers.items;
           last = last;
+          reads = reads.list;
         } }
     {
         Version {
@@ -161,6 +171,7 @@ impl<N: Naming, S: Shelf> Version<N, S> {
             levels,
             pointers,
             last,
+            reads,
         }
     }
 
@@ -185,6 +196,7 @@ impl<N: Naming, S: Shelf> Version<N, S> {
             levels,
             pointers,
             last: 0,
+            reads: Basis::none(),
         })
     }
 

@@ -3,7 +3,7 @@ use Rattle.std.proofs.lemmas.Result.{err_from_is_err_and}
 use Rattle.lsm_codec.specs.Entries.{newest}
 use Rattle.lsm_table.specs.Registry.{Table}
 use Rattle.lsm_table.specs.Found.{found_in, seen, value_of}
-use Rattle.lsm_table.proofs.CallerLemmas.{becomes_then}
+use Rattle.lsm_table.proofs.CallerLemmas.{becomes_then, true_before}
 use Rattle.lsm_model.specs.Files.{all_entries}
 use Rattle.lsm_version.specs.Versions.{files_from, files_of}
 use Rattle.lsm_version.specs.Reads.{AreSound, IsSoundLevel}
@@ -17,7 +17,7 @@ returns-in_err-found-clause-sound g c = λ h a.
     let n = c.loop-number.number in
     let tables = map (λ l. l.items) c.args.levels.now in
     let at = level_at (λ l. l.items) c.args.levels.now n c.index-levels-number.result c.loop-number-test.true c.index-levels-number.is in
-    let l = sound_level n c.index-levels-number.result.items (drop (n + 1) tables) (subst (AreSound n) at (c.loop-number.invariant.sound h a)) in
+    let l = sound_level n c.index-levels-number.result.items (drop (n + 1) tables) (subst (AreSound n) at (c.loop-number.invariant.sound (true_before _ _ c.in_err-found.ensures.told h) a)) in
     let p = err_from_is_err_and c.from_residual.result c.from_residual.ensures.1 in
     rw (p.1, p.2) (c.in_err-found.ensures.sound h (subst (λ (ts : List Table). IsSoundLevel n ts) (sym c.as_slice.ensures.value) l))
 
@@ -30,12 +30,12 @@ returns-in-Some-clause-found g c = λ h a.
     let ts = c.index-levels-number.result.items in
     let rest = drop (n + 1) tables in
     let at = level_at (λ l. l.items) c.args.levels.now n c.index-levels-number.result c.loop-number-test.true c.index-levels-number.is in
-    let sound = subst (AreSound n) at (c.loop-number.invariant.sound h a) in
+    let sound = subst (AreSound n) at (c.loop-number.invariant.sound (true_before _ _ c.find_at_level.ensures.told h) a) in
     let tells = ap seen (sym c.in-Some.is) ∙ c.in_ok-found.ensures.found h (subst (λ (us : List Table). IsSoundLevel n us) (sym c.as_slice.ensures.value) (sound_level n ts rest sound))
     ∙ ap (λ (us : List Table). found_in (newest k s (all_entries (files_of n us)))) c.as_slice.ensures.value in
     let some = found_some (newest k s (all_entries (files_of n ts))) (value_of c.in-Some.entry) tells in
     tells ∙ ap found_in (some.1 ∙ sym (level_hit k s n ts rest some.0 sound some.1)
-    ∙ ap (λ (ls : List (List Table)). newest k s (all_entries (files_from n ls))) (sym at) ∙ c.loop-number.invariant.same h a)
+    ∙ ap (λ (ls : List (List Table)). newest k s (all_entries (files_from n ls))) (sym at) ∙ c.loop-number.invariant.same (true_before _ _ c.find_at_level.ensures.told h) a)
 
 pub loop-number-preserved : goal.loop-number-preserved
 loop-number-preserved g c =
@@ -49,11 +49,11 @@ loop-number-preserved g c =
     record {
       told = becomes_then _ _ _ c.loop-number.invariant.told c.find_at_level.ensures.told;
       loan = c.find_at_level.ensures.loan ∙ c.loop-number.invariant.loan;
-      sound = λ h a. subst (λ (m : ℕ). AreSound m rest) (sym (add-one n)) (sound_rest n ts rest (subst (AreSound n) at (c.loop-number.invariant.sound h a)));
-      same = λ h a. (let sound = subst (AreSound n) at (c.loop-number.invariant.sound h a) in
+      sound = λ h a. subst (λ (m : ℕ). AreSound m rest) (sym (add-one n)) (sound_rest n ts rest (subst (AreSound n) at (c.loop-number.invariant.sound (true_before _ _ c.find_at_level.ensures.told h) a)));
+      same = λ h a. (let sound = subst (AreSound n) at (c.loop-number.invariant.sound (true_before _ _ c.find_at_level.ensures.told h) a) in
           let tells = ap seen (sym c.in_default.is) ∙ c.in_ok-found.ensures.found h (subst (λ (us : List Table). IsSoundLevel n us) (sym c.as_slice.ensures.value) (sound_level n ts rest sound))
           ∙ ap (λ (us : List Table). found_in (newest k s (all_entries (files_of n us)))) c.as_slice.ensures.value in
           ap (λ (m : ℕ). newest k s (all_entries (files_from m rest))) (add-one n)
           ∙ sym (level_missed k s n ts rest (found_none (newest k s (all_entries (files_of n ts))) tells))
-          ∙ ap (λ (ls : List (List Table)). newest k s (all_entries (files_from n ls))) (sym at) ∙ c.loop-number.invariant.same h a);
+          ∙ ap (λ (ls : List (List Table)). newest k s (all_entries (files_from n ls))) (sym at) ∙ c.loop-number.invariant.same (true_before _ _ c.find_at_level.ensures.told h) a);
     }

@@ -2,7 +2,7 @@ use Rattle.std.proofs.Common.{◌∙◌, sym, ap, subst, ℕ, Some}
 use Rattle.lsm_codec.specs.Entries.{newest}
 use Rattle.lsm_table.specs.Found.{found_in, seen, value_of}
 use Rattle.lsm_table.specs.HeldTable.{entries_in}
-use Rattle.lsm_table.proofs.CallerLemmas.{becomes_then}
+use Rattle.lsm_table.proofs.CallerLemmas.{becomes_then, true_before}
 use Rattle.lsm_query.proofs.Finding.{Looked, number_found, number_missed, numbers_done, found_some, found_none}
 use Rattle.lsm_query.proofs.find.find_by_number.Goals as goal
 
@@ -13,7 +13,7 @@ returns-in-Some-2-clause-found g c = λ h l.
     let t = c.in-Some.table.now in
     let tells = ap seen (sym c.in-Some-2.is) ∙ c.in_ok-found.ensures.found h (l.whole t c.in-Some.ensures.here) in
     let some = found_some (newest k s (entries_in t.image)) (value_of c.in-Some-2.found) tells in
-    tells ∙ ap found_in (some.1 ∙ sym (number_found c.args.level.now t k s c.loop-table.bound some.0 l (c.loop-table.invariant.looked h l) c.in-Some.ensures some.1))
+    tells ∙ ap found_in (some.1 ∙ sym (number_found c.args.level.now t k s c.loop-table.bound some.0 l (c.loop-table.invariant.looked (true_before _ _ c.find_in_table.ensures.told h) l) c.in-Some.ensures some.1))
 
 pub loop-table-preserved : goal.loop-table-preserved
 loop-table-preserved g c =
@@ -24,7 +24,7 @@ loop-table-preserved g c =
       told = becomes_then _ _ _ c.loop-table.invariant.told c.find_in_table.ensures.told;
       loan = c.find_in_table.ensures.loan ∙ c.loop-table.invariant.loan;
       looked = λ h l. subst (λ (n : ℕ). Looked k s (Some n) c.args.level.now) (sym (c.number.ensures ∙ c.record.ensures.number))
-          (number_missed c.args.level.now t k s c.loop-table.bound l (c.loop-table.invariant.looked h l) c.in-Some.ensures
+          (number_missed c.args.level.now t k s c.loop-table.bound l (c.loop-table.invariant.looked (true_before _ _ c.find_in_table.ensures.told h) l) c.in-Some.ensures
           (found_none (newest k s (entries_in t.image)) (ap seen (sym c.in_default-2.is) ∙ c.in_ok-found.ensures.found h (l.whole t c.in-Some.ensures.here))));
     }
 

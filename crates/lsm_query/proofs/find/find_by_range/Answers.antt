@@ -4,7 +4,7 @@ use Rattle.std.proofs.lemmas.Result.{err_from_is_err_and}
 use Rattle.lsm_codec.specs.Entries.{newest}
 use Rattle.lsm_table.specs.Found.{found_in, seen, value_of}
 use Rattle.lsm_table.specs.HeldTable.{entries_in}
-use Rattle.lsm_table.proofs.CallerLemmas.{becomes_then}
+use Rattle.lsm_table.proofs.CallerLemmas.{becomes_then, true_before}
 use Rattle.lsm_version.proofs.CallerLemmas.{level_rises}
 use Rattle.lsm_query.proofs.Finding.{range_found, range_missed, none_more, has_rest, ends_level, ends_behind, found_some, found_none}
 use Rattle.lsm_query.proofs.find.find_by_range.Goals as goal
@@ -32,7 +32,7 @@ returns-in-Some-clause-found g c = λ n pos h l.
     let tells = ap seen (sym c.in-Some.is) ∙ c.in_ok-entry.ensures.found h (l.whole x here) in
     let some = found_some (newest k s (entries_in x.image)) (value_of c.in-Some.entry) tells in
     tells ∙ ap found_in (some.1 ∙ sym (range_found n ts rest p i x k s some.0 pos l (take_rest ts p) c.first_reaching-first.ensures.inside (c.first_reaching-first.ensures.first (level_rises n ts pos l))
-    c.loop-table-test.true c.table-item.is (c.loop-table.invariant.none n h l) some.1))
+    c.loop-table-test.true c.table-item.is (c.loop-table.invariant.none n (true_before _ _ c.find_in_table.ensures.told h) l) some.1))
 
 pub returns-in_err-entry-clause-sound : goal.returns-in_err-entry-clause-sound
 returns-in_err-entry-clause-sound g c = λ n h l.
@@ -59,7 +59,7 @@ loop-table-preserved g c =
       none = λ n h l.
           let here = has_rest ts rest p i x (take_rest ts p) c.first_reaching-first.ensures.inside c.loop-table-test.true c.table-item.is in
           none_more k s rest i x c.loop-table-test.true c.table-item.is
-          (found_none (newest k s (entries_in x.image)) (ap seen (sym c.in_default.is) ∙ c.in_ok-entry.ensures.found h (l.whole x here))) (c.loop-table.invariant.none n h l);
+          (found_none (newest k s (entries_in x.image)) (ap seen (sym c.in_default.is) ∙ c.in_ok-entry.ensures.found h (l.whole x here))) (c.loop-table.invariant.none n (true_before _ _ c.find_in_table.ensures.told h) l);
     }
 
 pub returns-clause-found : goal.returns-clause-found

@@ -1,5 +1,6 @@
 use Rattle.std.proofs.Common.{sym, ◌∙◌}
 use Rattle.std.proofs.lemmas.Result.{err_from_is_err_and}
+use Rattle.lsm_table.proofs.CallerLemmas.{first_true}
 use Rattle.lsm_reader.proofs.BlocksLaws.{outside, tested, there_is, there_fails}
 use Rattle.lsm_reader.proofs.shelf_reads.NamedShelfBlocks.block.Goals as goal
 
@@ -10,9 +11,9 @@ returns-then-not-is_inside-clause-exact g c honest =
 
 pub returns-clause-exact : goal.returns-clause-exact
 returns-clause-exact g c honest =
-    there_is (g.S.Receipt.TableReceipt.image c.args.receipt.now) c.in_ok-text.text.items _ c.size.result _ c.size.ensures.size (sym c.if-not-is_inside.false ∙ c.is_inside.ensures) (c.in_ok-text.ensures.bytes honest) c.in_ok-judge.ensures
+    there_is (g.S.Receipt.TableReceipt.image c.args.receipt.now) c.in_ok-text.text.items _ c.size.result _ c.size.ensures.size (sym c.if-not-is_inside.false ∙ c.is_inside.ensures) (first_true _ _ _ c.in_ok-text.ensures.read honest) c.in_ok-judge.ensures
 
 pub returns-in_err-judge-clause-exact : goal.returns-in_err-judge-clause-exact
 returns-in_err-judge-clause-exact g c honest =
     let p = err_from_is_err_and c.from_residual-in_err-judge.result c.from_residual-in_err-judge.ensures.1 in
-    rw (p.1, p.2) (there_fails (g.S.Receipt.TableReceipt.image c.args.receipt.now) c.in_ok-text.text.items _ c.size.result _ c.size.ensures.size (sym c.if-not-is_inside.false ∙ c.is_inside.ensures) (c.in_ok-text.ensures.bytes honest) c.in_err-judge.ensures)
+    rw (p.1, p.2) (there_fails (g.S.Receipt.TableReceipt.image c.args.receipt.now) c.in_ok-text.text.items _ c.size.result _ c.size.ensures.size (sym c.if-not-is_inside.false ∙ c.is_inside.ensures) (first_true _ _ _ c.in_ok-text.ensures.read honest) c.in_err-judge.ensures)

@@ -5,6 +5,7 @@ use Rattle.lsm_table.specs.declared.table_fault.TableFault.{TableFault}
 use Rattle.std.specs.Arc.{arc_value}
 use Rattle.lsm_block.specs.Held.{HeldBlock}
 use Rattle.lsm_reader.specs.Blocks.{Reads}
+use Rattle.lsm_table.proofs.CallerLemmas.{true_before}
 use Rattle.lsm_reader.proofs.OpeningLaws.{opening_first, opening_footer, opening_then}
 use Rattle.lsm_reader.proofs.shelf_reads.NamedShelfBlocks.index.Goals as goal
 
@@ -20,5 +21,5 @@ returns-in_err-footer-clause-exact g c honest =
 
 pub returns-clause-exact : goal.returns-clause-exact
 returns-clause-exact g c honest =
-    let same = opening_then (g.S.Receipt.TableReceipt.image c.args.receipt.now) c.in_ok-bytes.bytes c.in_ok-footer.footer (c.in_ok-bytes.ensures.exact honest) c.in_ok-footer.ensures.reads in
+    let same = opening_then (g.S.Receipt.TableReceipt.image c.args.receipt.now) c.in_ok-bytes.bytes c.in_ok-footer.footer (c.in_ok-bytes.ensures.exact (true_before _ _ c.block.ensures.told honest)) c.in_ok-footer.ensures.reads in
     subst (λ (r : Result (List Entry) TableFault). Reads (λ b. (arc_value {X = HeldBlock} {Z = Global} b).entries) c.block.result r) (sym same) (c.block.ensures.exact honest)

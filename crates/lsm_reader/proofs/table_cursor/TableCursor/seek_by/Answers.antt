@@ -4,7 +4,7 @@ use Rattle.lsm_codec.specs.Entries.{Entry}
 use Rattle.lsm_codec.specs.KeyRef.{key_of}
 use Rattle.lsm_table.specs.Footer.{body_of}
 use Rattle.lsm_table.specs.Searching.{Sought}
-use Rattle.lsm_table.proofs.CallerLemmas.{becomes_same, becomes_then, sought_first}
+use Rattle.lsm_table.proofs.CallerLemmas.{becomes_same, becomes_then, sought_first, true_before}
 use Rattle.lsm_reader.proofs.CursorLaws.{sought_end, still_sought, found_sought}
 use Rattle.lsm_reader.specs.Blocks.{Rest}
 use Rattle.lsm_reader.specs.Getting.{first_named}
@@ -23,20 +23,20 @@ loop-alloc-init g c = (
 pub returns-in_err-entries-clause-sound : goal.returns-in_err-entries-clause-sound
 returns-in_err-entries-clause-sound g c honest es n =
     let p = err_from_is_err_and c.from_residual-in_err-entries.result c.from_residual-in_err-entries.ensures.1 in
-    rw (p.1, p.2) (c.in_err-entries.ensures.sound honest es (c.loop-alloc.invariant.2 honest es n))
+    rw (p.1, p.2) (c.in_err-entries.ensures.sound honest es (c.loop-alloc.invariant.2 (true_before _ _ c.in_err-entries.ensures.told honest) es n))
 
 pub returns-then-not-is_at_end-clause-found : goal.returns-then-not-is_at_end-clause-found
 returns-then-not-is_at_end-clause-found g c honest es n =
     found_sought (key_of c.args.key.now) (g.S.Receipt.TableReceipt.image c.args.receipt.now) c.in_ok-entries.entries c.seek_next_by.new.index es (sym c.is_at_end-in-loop-alloc.ensures ∙ c.if-not-is_at_end.true)
-    (c.in_ok-entries.ensures.found honest es (c.loop-alloc.invariant.2 honest es n))
+    (c.in_ok-entries.ensures.found honest es (c.loop-alloc.invariant.2 (true_before _ _ c.in_ok-entries.ensures.told honest) es n))
 
 pub loop-alloc-preserved : goal.loop-alloc-preserved
 loop-alloc-preserved g c = (
   becomes_then _ _ _ c.loop-alloc.invariant.0 c.in_ok-entries.ensures.told,
   c.in_ok-entries.ensures.loan ∙ c.loop-alloc.invariant.1,
   λ honest es n. still_sought (key_of c.args.key.now) (g.S.Receipt.TableReceipt.image c.args.receipt.now) c.in_ok-entries.entries c.seek_next_by.new.index es (sym c.is_at_end-in-loop-alloc.ensures ∙ c.if-not-is_at_end.false)
-      (c.in_ok-entries.ensures.found honest es (c.loop-alloc.invariant.2 honest es n)),
-  λ honest. search_goes_on (key_of c.args.key.now) (body_of (g.S.Receipt.TableReceipt.image c.args.receipt.now)) _ c.loop-alloc.places c.seek_next_by.new.index c.in_ok-entries.entries (c.loop-alloc.invariant.3 honest)
+      (c.in_ok-entries.ensures.found honest es (c.loop-alloc.invariant.2 (true_before _ _ c.in_ok-entries.ensures.told honest) es n)),
+  λ honest. search_goes_on (key_of c.args.key.now) (body_of (g.S.Receipt.TableReceipt.image c.args.receipt.now)) _ c.loop-alloc.places c.seek_next_by.new.index c.in_ok-entries.entries (c.loop-alloc.invariant.3 (true_before _ _ c.in_ok-entries.ensures.told honest))
       (sym c.is_at_end.ensures ∙ c.loop-alloc-test.true) (c.in_ok-entries.ensures.exact honest) (sym c.is_at_end-in-loop-alloc.ensures ∙ c.if-not-is_at_end.false) c.in_ok-entries.ensures.passed,
 )
 
@@ -47,12 +47,12 @@ returns-clause-found g c honest es n =
 pub returns-in_err-entries-clause-exact : goal.returns-in_err-entries-clause-exact
 returns-in_err-entries-clause-exact g c honest =
     let p = err_from_is_err_and c.from_residual-in_err-entries.result c.from_residual-in_err-entries.ensures.1 in
-    rw (p.1, p.2) (search_fails (λ (es : List Entry). es) (λ (r : Rest). r.here) c.in_err-entries.field-0.0 (key_of c.args.key.now) (body_of (g.S.Receipt.TableReceipt.image c.args.receipt.now)) _ c.loop-alloc.places (c.loop-alloc.invariant.3 honest)
+    rw (p.1, p.2) (search_fails (λ (es : List Entry). es) (λ (r : Rest). r.here) c.in_err-entries.field-0.0 (key_of c.args.key.now) (body_of (g.S.Receipt.TableReceipt.image c.args.receipt.now)) _ c.loop-alloc.places (c.loop-alloc.invariant.3 (true_before _ _ c.in_err-entries.ensures.told honest))
     (sym c.is_at_end.ensures ∙ c.loop-alloc-test.true) (c.in_err-entries.ensures.exact honest))
 
 pub returns-then-not-is_at_end-clause-exact : goal.returns-then-not-is_at_end-clause-exact
 returns-then-not-is_at_end-clause-exact g c honest =
-    search_found (key_of c.args.key.now) (body_of (g.S.Receipt.TableReceipt.image c.args.receipt.now)) _ c.loop-alloc.places c.in_ok-entries.entries (c.loop-alloc.invariant.3 honest)
+    search_found (key_of c.args.key.now) (body_of (g.S.Receipt.TableReceipt.image c.args.receipt.now)) _ c.loop-alloc.places c.in_ok-entries.entries (c.loop-alloc.invariant.3 (true_before _ _ c.in_ok-entries.ensures.told honest))
     (sym c.is_at_end.ensures ∙ c.loop-alloc-test.true) (c.in_ok-entries.ensures.exact honest) (sym c.is_at_end-in-loop-alloc.ensures ∙ c.if-not-is_at_end.true)
 
 pub returns-clause-exact : goal.returns-clause-exact

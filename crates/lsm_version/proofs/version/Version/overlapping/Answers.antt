@@ -7,6 +7,7 @@ use Rattle.lsm_codec.proofs.CallerLemmas.{filter_has}
 use Rattle.lsm_version.specs.Overlap.{lies_over}
 use Rattle.lsm_version.specs.Reads.{IsRising}
 use Rattle.std.proofs.lemmas.Result.{IfOk-weaker}
+use Rattle.lsm_shelf.specs.Reads.{AllTrue}
 use Rattle.lsm_version.specs.Versions.{Levels, IsSound, AreInOrder, level_in}
 use Rattle.lsm_version.proofs.Overlaps.{meets_over, meets_none, version_rises}
 use Rattle.lsm_version.proofs.version.Version.overlapping.Goals as goal
@@ -23,7 +24,7 @@ returns-else-level-eq0-clause-tables g c = λ h.
     let n = c.args.level in
     let seven = subst (λ (w : Levels). length w.tables ≡ 7) c.self.view_is (length-map c.self.inside.levels.items (λ l. l.items) ∙ c.self.invariant.0) in
     let order = subst (λ (w : Levels). AreInOrder w.tables) c.self.view_is c.self.invariant.2 in
-    let rises = version_rises v n (subst IsSound c.self.view_is (c.self.invariant.3 h)) order (omega (arith, c.if-level-eq0.false)) (omega arith) in
+    let rises = version_rises v n (subst IsSound c.self.view_is (c.self.invariant.3 (subst AllTrue (sym (ap (λ (w : Levels). w.reads) c.self.view_is)) h))) order (omega (arith, c.if-level-eq0.false)) (omega arith) in
     IfOk-weaker c.run_over.result _ _
     (λ w e. e ∙ ap (filter (lies_over c.args.from.now c.args.to.now)) c.level-tables.ensures ∙ meets_over c.args.from.now c.args.to.now (level_in v.tables n) (sym c.is_at_most.ensures ∙ c.if-not-is_at_most.false))
     (c.run_over.ensures.tables (subst (λ (ts : List Table). IsRising ts) (sym c.level-tables.ensures) rises))
