@@ -4,3 +4,4 @@ pub mod CursorLaws
 pub mod GettingLaws
 pub mod AdvanceLaws
 pub mod StepLaws
+pub mod BoundLaws

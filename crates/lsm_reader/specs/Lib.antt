@@ -5,3 +5,4 @@ pub mod Getting
 pub mod Stepping
 pub mod Parts
 pub mod Resting
+pub mod Bound

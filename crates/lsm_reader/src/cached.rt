@@ -8,7 +8,6 @@ use crate::kept_block::KeptBlock;
 use crate::open_table::OpenTable;
 use crate::parts::share;
 use crate::recent::keep;
-use crate::rested_shelf::RestedShelf;
 use lru::LruCache;
 use lsm_block::Block;
 use lsm_table::{Basis, Handle, NamedShelf, Naming, ReadFault, Shelf, TableReceipt};
@@ -20,10 +19,9 @@ use std::sync::Arc;
 /// Gives index blocks and blocks from those that were used last, and else by a shelf of its own. It
 /// keeps so many open tables at most, each with its index block, and so many blocks that were asked
 /// for by their places: data blocks push out no table. An open table is found by its number, and
-/// its footer is not read again. Contracts see it as its shelf, but that its answers rest on the
-/// reads too by which what it kept was read.
+/// its footer is not read again. Contracts see it as its shelf.
 pub struct Cached<N: Naming, S: Shelf> {
-    shelf: RestedShelf<N, S>,
+    shelf: NamedShelf<N, S>,
     tables: LruCache<u64, OpenTable<N, S>>,
     blocks: LruCache<BlockKey, KeptBlock<N, S>>,
 }
@@ -40,10 +38,15 @@ impl<N: Naming, S: Shelf> Drop for Cached<N, S> {
 
 impl<N: Naming, S: Shelf> Model for Cached<N, S> {
     ghost use Rattle.lsm_shelf.specs.Told.{Told};
+    ghost use Rattle.lsm_reader.specs.Bound.{AreBound};
 
     ghost Value = { Told };
 
     ghost view = { λ c. c.shelf };
+
+    // What is kept rests on reads of the shelf.
+    ghost invariant = { λ c. AreBound (λ t. t.reads) c.tables.entries c.shelf.reads
+        × AreBound (λ b. b.reads) c.blocks.entries c.shelf.reads };
 }
 
 impl<N: Naming, S: Shelf> Cached<N, S> {
@@ -59,7 +62,7 @@ impl<N: Naming, S: Shelf> Cached<N, S> {
         Ok(Cached {
             tables: LruCache::new(alloc, blocks)?,
             blocks: LruCache::new(alloc, blocks)?,
-            shelf: RestedShelf::new(shelf),
+            shelf,
         })
     }
 }
@@ -79,8 +82,7 @@ impl<N: Naming, S: Shelf> Blocks<N, S> for Cached<N, S> {
         let Cached { shelf, tables, .. } = self;
         let number = receipt.number();
         if let Some(kept) = tables.get(&number) {
-            if shelf.shelf.shelf.same(&kept.receipt, receipt) {
-                shelf.rest_on(&kept.reads);
+            if shelf.shelf.same(&kept.receipt, receipt) {
                 return share(&kept.index);
             }
         }
@@ -91,9 +93,9 @@ impl<N: Naming, S: Shelf> Blocks<N, S> for Cached<N, S> {
             Err(_) => return Ok(index),
         };
         let kept = OpenTable {
-            receipt: shelf.shelf.shelf.copy_receipt(receipt),
+            receipt: shelf.shelf.copy_receipt(receipt),
             index: shared,
-            reads: shelf.basis(),
+            reads: shelf.shelf.basis(),
             of: PhantomData,
         };
         keep(tables, number, kept);
@@ -114,8 +116,7 @@ impl<N: Naming, S: Shelf> Blocks<N, S> for Cached<N, S> {
             offset,
         };
         if let Some(kept) = blocks.get(&key) {
-            if kept.handle == handle && shelf.shelf.shelf.same(&kept.receipt, receipt) {
-                shelf.rest_on(&kept.reads);
+            if kept.handle == handle && shelf.shelf.same(&kept.receipt, receipt) {
                 return share(&kept.block);
             }
         }
@@ -126,10 +127,10 @@ impl<N: Naming, S: Shelf> Blocks<N, S> for Cached<N, S> {
             Err(_) => return Ok(block),
         };
         let kept = KeptBlock {
-            receipt: shelf.shelf.shelf.copy_receipt(receipt),
+            receipt: shelf.shelf.copy_receipt(receipt),
             handle,
             block: shared,
-            reads: shelf.basis(),
+            reads: shelf.shelf.basis(),
             of: PhantomData,
         };
         keep(blocks, key, kept);
@@ -137,10 +138,10 @@ impl<N: Naming, S: Shelf> Blocks<N, S> for Cached<N, S> {
     }
 
     fn basis(&self) -> Basis {
-        self.shelf.basis()
+        self.shelf.shelf.basis()
     }
 
     fn copy_receipt(&self, receipt: &S::Receipt) -> S::Receipt {
-        self.shelf.shelf.shelf.copy_receipt(receipt)
+        self.shelf.shelf.copy_receipt(receipt)
     }
 }

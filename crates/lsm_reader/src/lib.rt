@@ -13,7 +13,6 @@
 mod blocks;
 mod direct;
 mod judging;
-mod rested_shelf;
 mod shelf_reads;
 
 // An open table, its reads, and going through it.

@@ -1,0 +1,3 @@
+pub mod Reads
+pub mod Tables
+pub mod Bound
