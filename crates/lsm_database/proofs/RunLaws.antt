@@ -20,9 +20,9 @@ use Rattle.lsm_store.specs.declared.worker_end.WorkerEnd.{WorkerEnd}
 use Rattle.lsm_database.specs.Running.{IsRunRefusal, IsUnopened, Runs, RunsAt}
 
 -- looked at so, by whatever name
-pub prepared_by : {o : IngestOptions} {start : Start} {logs : List FolderFile} {old new : List Call}
+pub prepared_by : {o : IngestOptions} (start : Start) (logs : List FolderFile) (old new : List Call)
     → o ≡ plainly → IsPrepared o start logs old new → IsPrepared plainly start logs old new
-prepared_by {o} {start} {logs} {old} {new} same p = subst (λ (x : IngestOptions). IsPrepared x start logs old new) same p
+prepared_by {o} start logs old new same p = subst (λ (x : IngestOptions). IsPrepared x start logs old new) same p
 
 pub unprepared_by : {o : IngestOptions} {e : WriterFault} {old new : List Call}
     → o ≡ plainly → IsUnprepared o e old new → IsUnprepared plainly e old new

@@ -1,5 +1,5 @@
 -- A folder is tidied: what is obsolete, and what is asked for.
-use Rattle.std.proofs.Common.{◌≡◌, ℕ, ◌-◌, ◌^◌, nat_eq, Bool, true, false, List, [], ◌∷◌, ◌++◌, Option, None, Some, IfOk, OnErr, OnOk, map, refl, sym, ap, ◌∙◌, subst, append-nil, append_assoc, inl, inr}
+use Rattle.std.proofs.Common.{◌≡◌, ◌≢◌, ℕ, suc, arith, length, ◌-◌, ◌^◌, nat_eq, Bool, true, false, List, [], ◌∷◌, ◌++◌, Option, None, Some, IfOk, OnErr, OnOk, map, refl, sym, ap, ◌∙◌, subst, append-nil, append_assoc, inl, inr}
 use Rattle.std.specs.Prelude.{Result, Ok, Err, MatchBool, MatchOption, reverse}
 use Rattle.std.specs.Cmp.Lexicographic.{slice_cmp}
 use Rattle.std.specs.List.Sorted.{IsPermutation, IsSorted}
@@ -22,7 +22,7 @@ use Rattle.lsm_manifest.specs.declared.log_fault.LogFault.TheVariants.{OutOfMemo
 use Rattle.lsm_storage.specs.FileNames.{current_text, manifest_name}
 use Rattle.lsm_storage.specs.Plans.{Refused, current_read, done, durable_plan}
 use Rattle.lsm_opening.specs.Names.{Among, IsManifestName, IsNumbered}
-use Rattle.lsm_opening.specs.Tidying.{AsksIfObsolete, AsksObsolete, IsObsolete, IsReadWhole, IsReading, IsTidied, OnlyReads, Removal, RemovesAmong, RemovesBeside, RemovesUnspent, removals}
+use Rattle.lsm_opening.specs.Tidying.{AsksIfObsolete, AsksObsolete, IsObsolete, IsReadWhole, IsReading, IsTidied, IsWhole, OnlyReads, Removal, RemovesAmong, RemovesBeside, RemovesUnspent, removals}
 use Rattle.lsm_opening.proofs.NameKindLaws.{kind_is}
 
 -- ---- what is obsolete
@@ -164,17 +164,29 @@ pub read_true : (b : Bool) (file : List ℕ) (a new : List Call) → b ≡ true
 read_true true file a new is h = h
 read_true false file a new is h = absurd cc
 
-pub whole_if : (bytes : List ℕ) (records : List (List ℕ)) (rest : ℕ) (same : Bool) → nat_eq rest 0 ≡ same → IsLog bytes records rest
-    → ((bs : List ℕ) (rs ss : List (List ℕ)) (m n : ℕ) → IsLog bs rs m → IsLog bs ss n → (rs ≡ ss) × (m ≡ n))
-    → MatchBool same ((rs : List (List ℕ)) × IsLog bytes rs 0) ((rs : List (List ℕ)) × IsLog bytes rs 0 → ⊥)
-whole_if bytes records rest true is log one = (records, subst (λ n. IsLog bytes records n) (eqb-true rest 0 is) log)
-whole_if bytes records rest false is log one = λ h. (let e = (one bytes records h.0 rest 0 log h.1).1 in let t = eq-eqb rest 0 e in absurd cc)
+empty_is : {X : Type 0} (xs : List X) → nat_eq (length xs) 0 ≡ true → xs ≡ []
+empty_is [] is = refl
+empty_is (x ∷ xs) is = (let e : suc (length xs) ≡ 0 = eqb-true (suc (length xs)) 0 is in absurd (omega (arith, e)))
+
+some_is : {X : Type 0} (xs : List X) → nat_eq (length xs) 0 ≡ false → xs ≢ []
+some_is [] is = absurd cc
+some_is (x ∷ xs) is = λ e. absurd cc
+
+pub no_record : (bytes : List ℕ) (records slice : List (List ℕ)) (rest : ℕ) → slice ≡ records → nat_eq (length slice) 0 ≡ true → IsLog bytes records rest
+    → ((bs : List ℕ) (rs ss : List (List ℕ)) (m n : ℕ) → IsLog bs rs m → IsLog bs ss n → (rs ≡ ss) × (m ≡ n)) → IsWhole bytes → ⊥
+no_record bytes records slice rest same none own one (rs, some, log) = some ((one bytes rs records 0 rest log own).0 ∙ sym same ∙ empty_is slice none)
+
+pub whole_if : (bytes : List ℕ) (records slice : List (List ℕ)) (rest : ℕ) (same : Bool) → slice ≡ records → nat_eq (length slice) 0 ≡ false → nat_eq rest 0 ≡ same → IsLog bytes records rest
+    → ((bs : List ℕ) (rs ss : List (List ℕ)) (m n : ℕ) → IsLog bs rs m → IsLog bs ss n → (rs ≡ ss) × (m ≡ n)) → MatchBool same (IsWhole bytes) (IsWhole bytes → ⊥)
+whole_if bytes records slice rest true these some is own one =
+    (records, (λ e. some_is slice some (these ∙ e)), subst (λ n. IsLog bytes records n) (eqb-true rest 0 is) own)
+whole_if bytes records slice rest false these some is own one = λ h. (let e = (one bytes records h.0 rest 0 own h.2).1 in let t = eq-eqb rest 0 e in absurd cc)
 
 pub read_whole : {E : Type 0} (r : Result Bool E) (file items slice : List ℕ) (a b : List Call) → slice ≡ items → b ≡ loaded file (Ok items) ∷ a
-    → IfOk r (λ v. MatchBool v ((rs : List (List ℕ)) × IsLog slice rs 0) ((rs : List (List ℕ)) × IsLog slice rs 0 → ⊥))
+    → IfOk r (λ v. MatchBool v (IsWhole slice) (IsWhole slice → ⊥))
     → IfOk r (λ v. (answer : Result (List ℕ) FolderFault) × (b ≡ loaded file answer ∷ a) × MatchBool v (IsReadWhole answer) (IsReadWhole answer → ⊥))
 read_whole (Ok v) file items slice a b same is whole =
-    (Ok items, is, subst (λ (bs : List ℕ). MatchBool v ((rs : List (List ℕ)) × IsLog bs rs 0) ((rs : List (List ℕ)) × IsLog bs rs 0 → ⊥)) same whole)
+    (Ok items, is, subst (λ (bs : List ℕ). MatchBool v (IsWhole bs) (IsWhole bs → ⊥)) same whole)
 read_whole (Err e) file items slice a b same is whole = tt
 
 -- ---- one step after another

@@ -1,8 +1,8 @@
 -- Which files of a folder are removed before its database is opened to be written, and what the
 -- folder is asked for that (which files are obsolete is LevelDB's `DBImpl::RemoveObsoleteFiles`;
 -- LevelDB removes them behind an opening).
-use Rattle.std.specs.Prelude.{◌≡◌, ◌≢◌, ◌⊎◌, ℕ, ◌-◌, ◌^◌, List, ◌∷◌, ◌++◌, Result, Ok, Err, map}
-use Rattle.std.specs.Prelude.{reverse}
+use Rattle.std.specs.Prelude.{◌≡◌, ◌≢◌, ◌⊎◌, ℕ, ◌-◌, ◌^◌, List, [], ◌∷◌, ◌++◌, Result, Ok, Err}
+use Rattle.std.specs.Prelude.{map, reverse}
 use Rattle.std.specs.Cmp.Lexicographic.{slice_cmp}
 use Rattle.std.specs.List.Sorted.{IsPermutation, IsSorted}
 use Rattle.std.specs.Ordering.{nat_cmp}
@@ -43,10 +43,15 @@ abbrev pub NamesNone : List (List ℕ) → Result (List ℕ) FolderFault → Typ
 NamesNone names (Ok text) = Among names (IsNamedBy text) → ⊥
 NamesNone names (Err fault) = Unit {0}
 
--- The manifest was read, and is records to its last byte. What a torn end may have named is in no
--- record; so beside a torn manifest nothing is obsolete.
+-- The bytes are a record at least, and records to the last byte.
+abbrev pub IsWhole : List ℕ → Type 0
+IsWhole bytes = (records : List (List ℕ)) × (records ≢ []) × IsLog bytes records 0
+
+-- The manifest was read, and is whole. A manifest without a record names no database: a disk may
+-- have lost it, and one before it is needed. What a torn end may have named is in no record. So
+-- beside such a manifest nothing is removed.
 abbrev pub IsReadWhole : Result (List ℕ) FolderFault → Type 0
-IsReadWhole (Ok bytes) = (records : List (List ℕ)) × IsLog bytes records 0
+IsReadWhole (Ok bytes) = IsWhole bytes
 IsReadWhole (Err fault) = ⊥
 
 -- ---- removals

@@ -120,7 +120,7 @@ fn look_and_tidy<C: FolderCalls, R: Wait>(
 /// not name, and temporary files, and no other file. No file is made but the lock's.
 ///
 /// Nothing is removed beside a log that is not empty; nor where the manifest that `CURRENT` names
-/// can't be read, ends with bytes that hold no whole record, or can't be made durable first; nor
+/// can't be read, has no record, ends with bytes that hold no whole one, or can't be made durable; nor
 /// where no number is left. A file that the folder does not remove is left, and is no refusal.
 ///
 /// `Locked` where another program has the folder open; the refusals of looking at it; and those of

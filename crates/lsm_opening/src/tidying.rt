@@ -6,10 +6,10 @@ ghost use Rattle.std.specs.Prelude.{MatchOption, OnErr, OnOk, map, string_bytes}
 ghost use Rattle.lsm_directory.specs.Looking.{LooksStopped};
 ghost use Rattle.lsm_folder.specs.Calls.{loaded};
 ghost use Rattle.lsm_folder.specs.declared.folder_fault.FolderFault.{FolderFault};
-ghost use Rattle.lsm_manifest.specs.Log.{IsLog};
 ghost use Rattle.lsm_manifest.specs.LogView.{is_memory};
 ghost use Rattle.lsm_opening.specs.Names.{Among, IsManifestName};
 ghost use Rattle.lsm_opening.specs.Tidying.{AsksIfObsolete, AsksObsolete, IsReadWhole, IsTidied};
+ghost use Rattle.lsm_opening.specs.Tidying.{IsWhole};
 ghost use Rattle.lsm_opening.specs.Tidying.{NamesNone, OnlyReads, RemovesAmong, RemovesBeside};
 ghost use Rattle.lsm_opening.specs.Tidying.{RemovesUnspent};
 ghost use Rattle.lsm_storage.specs.FileNames.{current_text};
@@ -60,15 +60,18 @@ fn is_memory(fault: LogFault) -> bool
     }
 }
 
-/// Whether these bytes are records to the last one.
-fn is_log_to_its_end(alloc: Global, bytes: &[u8]) -> Result<bool, AllocError>
-    ensures { IfOk result (λ b. MatchBool b
-        ((records : List (List ℕ)) × IsLog bytes.now records 0)
-        ((records : List (List ℕ)) × IsLog bytes.now records 0 → ⊥)) }
+/// Whether these bytes are records to the last one, and one at least.
+fn is_whole(alloc: Global, bytes: &[u8]) -> Result<bool, AllocError>
+    ensures { IfOk result (λ b. MatchBool b (IsWhole bytes.now) (IsWhole bytes.now → ⊥)) }
 {
     one_log();
     match read_log(alloc, bytes) {
-        Ok(log) => Ok(log.rest == 0),
+        Ok(log) => {
+            if log.records.as_slice().is_empty() {
+                return Ok(false);
+            }
+            Ok(log.rest == 0)
+        }
         Err(fault) => {
             if is_memory(fault) {
                 return Err(AllocError);
@@ -78,7 +81,7 @@ fn is_log_to_its_end(alloc: Global, bytes: &[u8]) -> Result<bool, AllocError>
     }
 }
 
-/// Whether the manifest in this file can be read, and is records to its last byte.
+/// Whether the manifest in this file can be read, and is whole.
 fn is_read_whole<C: FolderCalls, R: Wait>(
     rt: &R,
     alloc: Global,
@@ -92,7 +95,7 @@ fn is_read_whole<C: FolderCalls, R: Wait>(
     ensures place { C.place folder.new ≡ C.place folder.old }
 {
     match folder.load(rt, alloc, file) {
-        Ok((_mark, bytes)) => is_log_to_its_end(alloc, &bytes),
+        Ok((_mark, bytes)) => is_whole(alloc, &bytes),
         Err(_) => Ok(false),
     }
 }
@@ -203,7 +206,7 @@ fn tidy_unspent<C: FolderCalls, R: Wait>(
 /// caller holds the lock of the folder.
 ///
 /// Nothing is removed where `CURRENT` names no manifest that is there, or the one that it names
-/// can't be read or ends with bytes that hold no whole record; nor where that manifest or the
+/// can't be read, has no record, or ends with bytes that hold no whole one; nor where that manifest or the
 /// folder's names can't be made durable first: a crash may then show the older `CURRENT`; nor where
 /// no number is left, so that the opening is refused. A removal that the folder refuses is no
 /// refusal. `Device` where the folder does not tell its names.

@@ -12,7 +12,7 @@ returns-in-Err-folder_at-clause-refused g c = inr (inl (c.in-Err-folder_at.fault
 pub returns-in-Ok-prepare-clause-prepared : goal.returns-in-Ok-prepare-clause-prepared
 returns-in-Ok-prepare-clause-prepared g c =
     folder_at g.C.FolderCalls c.args.path.now (IsPrepared plainly c.in-Ok-prepare.prepared.start c.in-Ok-prepare.prepared.logs.items) c.in-Ok-folder_at.folder c.prepare.new.folder
-    c.in-Ok-folder_at.ensures.place c.in-Ok-folder_at.ensures.calls (prepared_by c.plainly.ensures c.in-Ok-prepare.ensures.prepared) c.prepare.ensures.place
+    c.in-Ok-folder_at.ensures.place c.in-Ok-folder_at.ensures.calls (prepared_by c.in-Ok-prepare.prepared.start c.in-Ok-prepare.prepared.logs.items (g.C.FolderCalls.calls c.in-Ok-folder_at.folder) (g.C.FolderCalls.calls c.prepare.new.folder) c.plainly.ensures c.in-Ok-prepare.ensures.prepared) c.prepare.ensures.place
 
 pub returns-clause-refused : goal.returns-clause-refused
 returns-clause-refused g c =
