@@ -119,9 +119,10 @@ fn look_and_tidy<C: FolderCalls, R: Wait>(
 /// and removes what the last openings of this database left behind: manifests that `CURRENT` does
 /// not name, and temporary files, and no other file. No file is made but the lock's.
 ///
-/// Nothing is removed beside a log that is not empty; nor where the manifest that `CURRENT` names
-/// can't be read, has no record, ends with bytes that hold no whole one, or can't be made durable; nor
-/// where no number is left. A file that the folder does not remove is left, and is no refusal.
+/// Nothing is removed beside a log that is not empty, where logs are looked at; nor where the
+/// manifest that `CURRENT` names can't be read, has no record, ends with bytes that hold no whole
+/// one, or can't be made durable; nor where no number is left. A file that the folder does not
+/// remove is left, and is no refusal.
 ///
 /// `Locked` where another program has the folder open; the refusals of looking at it; and those of
 /// its names: `LostCurrent`, or `NumbersSpent` where a database is to be begun in any case. After a

@@ -206,10 +206,10 @@ fn tidy_unspent<C: FolderCalls, R: Wait>(
 /// caller holds the lock of the folder.
 ///
 /// Nothing is removed where `CURRENT` names no manifest that is there, or the one that it names
-/// can't be read, has no record, or ends with bytes that hold no whole one; nor where that manifest or the
-/// folder's names can't be made durable first: a crash may then show the older `CURRENT`; nor where
-/// no number is left, so that the opening is refused. A removal that the folder refuses is no
-/// refusal. `Device` where the folder does not tell its names.
+/// can't be read, has no record, or ends with bytes that hold no whole one; nor where that manifest
+/// or the folder's names can't be made durable first: a crash may then show the older `CURRENT`;
+/// nor where no number is left, so that the opening is refused. A removal that the folder refuses
+/// is no refusal. `Device` where the folder does not tell its names.
 pub(crate) fn tidy<C: FolderCalls, R: Wait>(
     rt: &R,
     alloc: Global,
