@@ -1,5 +1,7 @@
 pub mod MarkLaws
 pub mod LoadLaws
+pub mod StepLaws
+pub mod KeepingLaws
 pub mod EndingLaws
 pub mod AnswerLaws
 pub mod CallerLemmas
