@@ -8,6 +8,7 @@ use Rattle.lsm_shelf.specs.Asked.{Asked}
 use Rattle.lsm_shelf.specs.declared.shelf_fault.ShelfFault.{ShelfFault}
 use Rattle.lsm_history.specs.History.{IsLater}
 use Rattle.lsm_batch.specs.declared.write.Write.{Write}
+use Rattle.lsm_live.specs.Booked.{Booked}
 use Rattle.lsm_lines.specs.Gathering.{Pending}
 use Rattle.lsm_lines.specs.declared.write_line_fault.WriteLineFault.{WriteLineFault}
 use Rattle.lsm_lines.specs.declared.write_line_fault.WriteLineFault.TheVariants as lines
@@ -15,9 +16,9 @@ use Rattle.lsm_state.specs.Held.{Held}
 use Rattle.lsm_store.specs.Workers.{IsWorkersEnd}
 use Rattle.lsm_store.specs.declared.worker_end.WorkerEnd.{WorkerEnd}
 use Rattle.lsm_store.specs.declared.worker_fault.WorkerFault.{WorkerFault}
-use Rattle.lsm_bulk_load.specs.Ending.{IsFaultless, IsFirstFault, IsLate}
+use Rattle.lsm_bulk_load.specs.Ending.{IsFaultless, IsFirstFault, IsLate, IsLooked}
 use Rattle.lsm_bulk_load.specs.Loading.{IsLoaded, IsStopped, IsUnloaded, SomeAreIn, SomeAreInToo, StopsBehind}
-use Rattle.lsm_bulk_load.specs.Marks.{Marked}
+use Rattle.lsm_bulk_load.specs.Marks.{Marked, marked_in}
 use Rattle.lsm_bulk_load.specs.declared.load_fault.LoadFault.{LoadFault}
 use Rattle.lsm_bulk_load.specs.declared.load_fault.LoadFault.TheVariants.{OutOfMemory, Shelf, Line, Ingest, Other, Worker, Due}
 use Rattle.lsm_bulk_load.specs.declared.progress.Progress.{Progress}
@@ -45,6 +46,26 @@ more_faultless ends i d lt before its = All-more IsFaultless ends i d lt before 
 
 pub all_faultless : (ends : List WorkerEnd) (i : ℕ) → length ends ≤ i → All IsFaultless (take i ends) → All IsFaultless ends
 all_faultless ends i end before = subst (λ (es : List WorkerEnd). All IsFaultless es) (take_all i ends end) before
+
+-- ---- what is due
+
+pub given_up : (was is : Held) (live : List Booked) → is ≡ record was { live = live } → is ≡ record was { live = is.live }
+given_up was is live e = e ∙ ap (λ (l : List Booked). record was { live = l }) (sym (ap (λ (h : Held). h.live) e))
+
+pub not_given_up : (was is : Held) → is ≡ was → is ≡ record was { live = is.live }
+not_given_up was is e = given_up was is was.live e
+
+pub looked_none : (was is : Held) → is ≡ was → IsLooked was is
+looked_none was is e = subst (λ (h : Held). IsLooked was h) (sym e) refl
+
+-- a job was reserved, which left `mid`, and given up again
+pub looked_back : (was mid is : Held) (live : List Booked) (next : ℕ) → mid ≡ record was { live = live; next_ticket = next } → is ≡ record mid { live = is.live } → IsLooked was is
+looked_back was mid is live next e f =
+    let whole : is ≡ record was { live = is.live; next_ticket = next } = f ∙ ap (λ (h : Held). record h { live = is.live }) e in
+    whole ∙ ap (λ n. record was { live = is.live; next_ticket = n }) (sym (ap (λ (h : Held). h.next_ticket) whole))
+
+pub looked_mark : (was is : Held) → IsLooked was is → marked_in is ≡ marked_in was
+looked_mark was is looked = ap marked_in looked
 
 -- ---- histories
 

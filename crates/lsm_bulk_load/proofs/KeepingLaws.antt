@@ -1,7 +1,6 @@
 -- What the lock keeps while lines come in.
 use Rattle.std.proofs.Common.{◌≡◌, ℕ, zero, suc, List, [], ◌∷◌, ◌++◌, Option, All, refl, ap, ◌∙◌, subst, sym, inl, inr}
 use Rattle.std.specs.Prelude.{◌⊎◌}
-use Rattle.std.proofs.Math.Logic.{∥∥₁_map}
 use Rattle.std.proofs.lemmas.List.Elements.{All-nil, All-push}
 use Rattle.lsm_model.specs.Plain.{Plain}
 use Rattle.lsm_shelf.specs.Asked.{Asked}
@@ -17,10 +16,9 @@ use Rattle.lsm_lines.specs.declared.write_line_fault.WriteLineFault.TheVariants 
 use Rattle.lsm_state.specs.Held.{Held}
 use Rattle.lsm_state.specs.declared.ingest.Ingested.{Ingested}
 use Rattle.lsm_store.specs.Background.{BringsIn, IsIngestStep, IsKeptByIngest}
-use Rattle.lsm_store.specs.Compacting.{IsCompactingStep, IsKeptByCompaction}
+use Rattle.lsm_store.specs.Compacting.{IsKeptByCompaction}
 use Rattle.lsm_bulk_load.specs.Coming.{CameIn, ComesNext}
-use Rattle.lsm_bulk_load.specs.Ending.{IsLooked}
-use Rattle.lsm_bulk_load.specs.Keeping.{AreStepsOf, HasComeTo, HasGrown, IsKeptByAll, IsKeptByNext, IsOfLines, IsStepOf, IsTaken}
+use Rattle.lsm_bulk_load.specs.Keeping.{AreStepsOf, HasComeTo, HasGrown, IsKeptByAll, IsKeptByLearning, IsKeptByNext, IsOfLines, IsStepOf, IsTaken}
 use Rattle.lsm_bulk_load.specs.Loading.{Loads}
 use Rattle.lsm_bulk_load.specs.Marks.{Marked, marked_in}
 use Rattle.lsm_bulk_load.specs.declared.progress.Progress.{Progress}
@@ -58,14 +56,6 @@ pub kept_next : (Refused : Asked → ShelfFault → Type 0) (keeps : Held → Ty
     → Loads old mid.left mid.held found now p → IsKeptByNext Refused mid keeps
 kept_next Refused keeps old mid found now p asked form l new r g = asked r.batch (next_of_lines old mid new found now p r form l g)
 
--- ---- a fact that workers keep
-
-still : (honest : Type 0) (keeps : Held → Type 0) (was is : Held) → IsKeptByCompaction honest keeps → IsCompactingStep honest was is → ∥ keeps was ∥₁ → ∥ keeps is ∥₁
-still honest keeps was is kept step t = ∥∥₁_map t (kept was is step)
-
-pub still_looked : (honest : Type 0) (keeps : Held → Type 0) (was is : Held) → IsKeptByCompaction honest keeps → IsLooked honest was is → ∥ keeps was ∥₁ → ∥ keeps is ∥₁
-still_looked honest keeps was is kept looked t = still honest keeps looked.0 is kept looked.2 (still honest keeps was looked.0 kept looked.1 t)
-
 -- ---- the fact of a load
 
 pub come_taken : (Refused : Asked → ShelfFault → Type 0) (honest : Type 0) (may : List Write → Type 0) (found h : Held) → IsTaken found h → HasComeTo Refused honest may found h
@@ -75,7 +65,10 @@ pub come_compacting : (Refused : Asked → ShelfFault → Type 0) (honest : Type
 come_compacting Refused honest may found was is step come = (suc come.0, (was, come.1, inl step))
 
 pub come_ingests : (Refused : Asked → ShelfFault → Type 0) (honest : Type 0) (may : List Write → Type 0) (found : Held) → IsKeptByAll Refused may (HasComeTo Refused honest may found)
-come_ingests Refused honest may found b asked was is step come = (suc come.0, (was, come.1, inr (b, asked, step)))
+come_ingests Refused honest may found b asked was is step come = (suc come.0, (was, come.1, inr (inr (b, asked, step))))
+
+pub come_learning : (Refused : Asked → ShelfFault → Type 0) (honest : Type 0) (may : List Write → Type 0) (found : Held) → IsKeptByLearning (HasComeTo Refused honest may found)
+come_learning Refused honest may found was is step come = (suc come.0, (was, come.1, inr (inl step)))
 
 -- ---- what came in
 
@@ -94,7 +87,8 @@ grown_more may found was now b g asked comes = record {
 
 taken_mark : (found h : Held) → IsTaken found h → marked_in h ≡ marked_in found
 taken_mark found h (inl same) = ap marked_in same
-taken_mark found h (inr seated) = ap marked_in seated.1
+taken_mark found h (inr (inl taken)) = ap marked_in taken
+taken_mark found h (inr (inr seated)) = ap marked_in seated.1
 
 comes_next : (was is : Held) (b : List Write) (r : Ingested) (t u : Told) → BringsIn was is b r t u → ComesNext b (marked_in was) (marked_in is)
 comes_next was is b r t u i = record { history = i.history; last = ingested_last was is b r t u i.ingests }
@@ -108,7 +102,8 @@ grown_ingest Refused may found was is b asked (inr k) g =
 grown_step : (Refused : Asked → ShelfFault → Type 0) (honest : Type 0) (may : List Write → Type 0) (found : Marked) (was is : Held) → IsStepOf Refused honest may was is → HasGrown may found (marked_in was)
     → HasGrown may found (marked_in is)
 grown_step Refused honest may found was is (inl step) g = grown_same may found (marked_in was) (marked_in is) (same_marked (marked_in is) (marked_in was) step.found.history step.found.last) g
-grown_step Refused honest may found was is (inr b) g = grown_ingest Refused may found was is b.0 b.1 b.2 g
+grown_step Refused honest may found was is (inr (inl learnt)) g = grown_same may found (marked_in was) (marked_in is) (ap marked_in learnt) g
+grown_step Refused honest may found was is (inr (inr b)) g = grown_ingest Refused may found was is b.0 b.1 b.2 g
 
 grown_steps : (Refused : Asked → ShelfFault → Type 0) (honest : Type 0) (may : List Write → Type 0) (n : ℕ) (found h : Held) → AreStepsOf Refused honest may n found h → HasGrown may (marked_in found) (marked_in h)
 grown_steps Refused honest may zero found h taken = grown_same may (marked_in found) (marked_in found) (marked_in h) (taken_mark found h taken) (grown_none may (marked_in found))

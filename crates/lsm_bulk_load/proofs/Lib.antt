@@ -1,6 +1,5 @@
 pub mod MarkLaws
 pub mod LoadLaws
-pub mod StepLaws
 pub mod KeepingLaws
 pub mod EndingLaws
 pub mod AnswerLaws

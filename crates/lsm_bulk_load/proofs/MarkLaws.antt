@@ -19,7 +19,7 @@ use Rattle.lsm_state.specs.declared.state_fault.StateFault.{StateFault}
 use Rattle.lsm_store.specs.Background.{BringsIn, IsBroughtIn, IsKeptByIngest, IsKeptOut}
 use Rattle.lsm_store.specs.Compacting.{IsKeptByCompaction, IsSeated}
 use Rattle.lsm_bulk_load.specs.Coming.{ComesNext}
-use Rattle.lsm_bulk_load.specs.Keeping.{IsKeptSince, IsTaken}
+use Rattle.lsm_bulk_load.specs.Keeping.{IsKeptByLearning, IsKeptSince, IsLearnt, IsTaken}
 use Rattle.lsm_bulk_load.specs.Marks.{IsBehind, IsEven, Marked, marked_in}
 
 -- ---- lists
@@ -94,7 +94,7 @@ even_seated found was is at seated =
     subst (λ (h : Held). IsEven found (marked_in h)) (sym seated.1) (subst (λ (m : Marked). IsEven found m) at (even_first found))
 
 pub kept_seated : (keeps : Held → Type 0) (found : Marked) (was is : Held) → found ≡ marked_in was → ((h : Held) → IsTaken was h → keeps h) → IsSeated was is → IsKeptSince keeps found is
-kept_seated keeps found was is at first seated = (first is (inr seated), even_seated found was is at seated)
+kept_seated keeps found was is at first seated = (first is (inr (inr seated)), even_seated found was is at seated)
 
 -- the same, where its pinners were taken before
 pub kept_put : (keeps : Held → Type 0) (found : Marked) (was mid is : Held) → found ≡ marked_in was → ((h : Held) → IsTaken was h → keeps h) → mid ≡ record was { pinners = [] } → IsSeated mid is
@@ -104,6 +104,9 @@ kept_put keeps found was mid is at first same seated =
 
 pub kept_compacting : (Honest : Type 0) (keeps : Held → Type 0) (found : Marked) → IsKeptByCompaction Honest keeps → IsKeptByCompaction Honest (IsKeptSince keeps found)
 kept_compacting Honest keeps found kept was is step k = (kept was is step k.0, omega (arith, k.1, ap length step.found.history, step.found.last))
+
+pub kept_learning : (keeps : Held → Type 0) (found : Marked) (was is : Held) → IsKeptByLearning keeps → IsLearnt was is → IsKeptSince keeps found was → IsKeptSince keeps found is
+kept_learning keeps found was is kept learnt k = (kept was is learnt k.0, subst (λ (m : Marked). IsEven found m) (sym (ap marked_in learnt)) k.1)
 
 -- a batch that came in at one taking of the lock, and then the mark behind it
 pub came_next : (keeps : Held → Type 0) (found mark now : Marked) (ws : List Write) (r : Ingested × List Entry) (t u : Told) → IsBroughtIn (IsKeptSince keeps found) ws r t u

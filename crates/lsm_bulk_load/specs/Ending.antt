@@ -4,7 +4,6 @@ use Rattle.lsm_history.specs.History.{IsLater}
 use Rattle.lsm_picker.specs.Choice.{HasNoChoice}
 use Rattle.lsm_live.specs.Reserving.{reserved_jobs}
 use Rattle.lsm_state.specs.Held.{Held}
-use Rattle.lsm_store.specs.Compacting.{IsCompactingStep}
 use Rattle.lsm_store.specs.declared.worker_end.WorkerEnd.{WorkerEnd}
 use Rattle.lsm_store.specs.declared.worker_fault.WorkerFault.{WorkerFault}
 use Rattle.lsm_bulk_load.specs.Marks.{Marked}
@@ -15,10 +14,10 @@ use Rattle.lsm_bulk_load.specs.declared.load_fault.LoadFault.TheVariants.{Other,
 abbrev pub IsIdle : Held → Type 0
 IsIdle h = HasNoChoice h.slots.version (reserved_jobs h.live)
 
--- A state was looked at: what is due was reserved, and given up again, as a worker does.
-abbrev pub IsLooked : Type 0 → Held → Held → Type 0
-IsLooked honest was is =
-    (mid : Held) × IsCompactingStep honest was mid × IsCompactingStep honest mid is
+-- A job was looked for, and what was reserved was given up again: no more may have changed than the
+-- live jobs and the next ticket.
+abbrev pub IsLooked : Held → Held → Type 0
+IsLooked was is = is ≡ record was { live = is.live; next_ticket = is.next_ticket }
 
 abbrev pub IsFaultless : WorkerEnd → Type 0
 IsFaultless e = e.fault ≡ None

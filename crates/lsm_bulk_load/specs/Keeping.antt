@@ -1,5 +1,6 @@
 -- What the lock of a store keeps while batches come in: since the state was found nothing was done
--- to it but what workers do, and ingests of batches that may come in (this project's rule).
+-- to it but what workers and readers do, and ingests of batches that may come in (this project's
+-- rule).
 use Rattle.std.specs.Prelude.{◌≡◌, ◌⊎◌, ℕ, zero, suc, ◌++◌, List, [], All, Option}
 use Rattle.lsm_shelf.specs.Asked.{Asked}
 use Rattle.lsm_shelf.specs.declared.shelf_fault.ShelfFault.{ShelfFault}
@@ -15,16 +16,20 @@ use Rattle.lsm_bulk_load.specs.Marks.{IsEven, Marked, marked_in}
 
 -- ---- the fact
 
--- One step: a worker's, by which nothing comes in; or the ingest of such a batch, which came in or
--- was refused.
+-- A reader learnt the version of the state, whose end of the board alone may have changed.
+abbrev pub IsLearnt : Held → Held → Type 0
+IsLearnt was is = is ≡ record was { slots = record was.slots { board = is.slots.board } }
+
+-- One step: a worker's, or a reader's, by which nothing comes in; or the ingest of such a batch,
+-- which came in or was refused.
 abbrev pub IsStepOf : (Asked → ShelfFault → Type 0) → Type 0 → (List Write → Type 0) → Held → Held
     → Type 0
-IsStepOf Refused honest may was is =
-    IsCompactingStep honest was is ⊎ ((b : List Write) × may b × IsIngestStep Refused b was is)
+IsStepOf Refused honest may was is = IsCompactingStep honest was is
+    ⊎ (IsLearnt was is ⊎ ((b : List Write) × may b × IsIngestStep Refused b was is))
 
--- The state that was found: its pinners were taken, and then it was put behind the lock, or not.
+-- The state that was found; or its pinners were taken; or it was put behind the lock.
 abbrev pub IsTaken : (found h : Held) → Type 0
-IsTaken found h = (h ≡ record found { pinners = [] }) ⊎ IsSeated found h
+IsTaken found h = (h ≡ found) ⊎ ((h ≡ record found { pinners = [] }) ⊎ IsSeated found h)
 
 -- So many steps, one after another, from the state that was found.
 abbrev pub AreStepsOf : (Asked → ShelfFault → Type 0) → Type 0 → (List Write → Type 0) → ℕ
@@ -61,7 +66,11 @@ pub record IsOfLines (old : Pending) (batch : List Write) : Type 0 where
   pub gathers : Gathers old left held (front ++ ws)
   pub last : KeepsLast ws batch
 
--- The ingest of the batch that is gathered next of these lines keeps the fact.
+-- What a reader does keeps the fact.
+abbrev pub IsKeptByLearning : (Held → Type 0) → Type 0
+IsKeptByLearning keeps = (was is : Held) → IsLearnt was is → keeps was → keeps is
+
+-- The ingest of the batch that is gathered next of these lines keeps it.
 abbrev pub IsKeptByNext : (Asked → ShelfFault → Type 0) → Pending → (Held → Type 0) → Type 0
 IsKeptByNext Refused old keeps =
     (new : Pending) (r : Gathered) → IsGathered old new r → IsKeptByIngest Refused r.batch keeps

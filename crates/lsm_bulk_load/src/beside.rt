@@ -5,7 +5,7 @@ ghost use Rattle.lsm_shelf.specs.Told.{Forked};
 ghost use Rattle.lsm_state.specs.Held.{Held};
 ghost use Rattle.lsm_store.specs.Compacting.{IsKeptByCompaction};
 ghost use Rattle.lsm_store.specs.Workers.{IsWorkersEnd};
-ghost use Rattle.lsm_bulk_load.specs.Ending.{IsIdle};
+ghost use Rattle.lsm_bulk_load.specs.Ending.{IsIdle, IsLooked};
 ghost use Rattle.lsm_bulk_load.specs.Keeping.{IsKeptByAll, IsOfLines, IsTaken};
 ghost use Rattle.lsm_bulk_load.specs.Loading.{IsLoaded, IsStopped, IsUnloaded};
 ghost use Rattle.lsm_bulk_load.specs.Marks.{IsEven, marked_in};
@@ -111,9 +111,9 @@ fn load_all<N: Boarded, S: Shelf, O: Origin, R: Threads + Wait + Sync, I: Read +
 ///
 /// The state comes back. It is just as far as the lines made it that are counted; only behind
 /// `Other` it goes on from there. All of them are lines before the first one that is no write of a
-/// batch, where one is not. In any case the fact holds of it that the caller picked: one that holds
-/// of the state that was found, and is kept by workers, and by the ingest of each batch that lines
-/// of the input spell.
+/// batch, where one is not. In any case the fact held of it that the caller picked, before a job was
+/// looked for: one that holds of the state that was found, and is kept by workers, and by the ingest
+/// of each batch that lines of the input spell.
 #[tactic(auto, using(crate::proofs::EndingLaws::finished, crate::proofs::EndingLaws::unfinished, crate::proofs::EndingLaws::unbegun, crate::proofs::MarkLaws::even_first))]
 pub fn load_beside<N, S, O, R, I, T>(
     rt: &R,
@@ -136,7 +136,7 @@ where
     requires first { (h : Held) → IsTaken state h → O.keeps h }
     requires asked { IsKeptByAll (S.refuses N.place) (IsOfLines lines) O.keeps }
     requires workers { IsKeptByCompaction S.honest O.keeps }
-    ensures kept { ∥ O.keeps result.state ∥₁ }
+    ensures kept { (h : Held) × ∥ O.keeps h ∥₁ × IsLooked h result.state }
     ensures loaded { OnOk result.done
         (IsLoaded lines (marked_in state) (marked_in result.state) result.progress) }
     ensures idle { OnOk result.done (S.honest → IsIdle result.state) }

@@ -1,7 +1,6 @@
 //! What is left behind the lines: whether workers ended early, and whether nothing is due.
 
-ghost use Rattle.std.specs.Prelude.{◌≡◌, All, IfErr, IfNone, IfOk, OnErr, OnOk};
-ghost use Rattle.lsm_store.specs.Compacting.{IsCompactingStep};
+ghost use Rattle.std.specs.Prelude.{◌≡◌, All, IfErr, OnErr, OnOk};
 ghost use Rattle.lsm_bulk_load.specs.Ending.{IsFaultless, IsFirstFault, IsIdle, IsLate, IsLooked};
 ghost use Rattle.lsm_bulk_load.specs.Marks.{IsEven, marked_in};
 ghost use Rattle.lsm_bulk_load.specs.declared.load_fault.LoadFault.TheVariants.{Due};
@@ -10,7 +9,7 @@ use crate::load_fault::LoadFault;
 use crate::mark::Mark;
 use crate::origin::Origin;
 use lsm_slots::Boarded;
-use lsm_state::{State, StateFault};
+use lsm_state::State;
 use lsm_store::{WorkerEnd, WorkerFault};
 use lsm_table::Shelf;
 use std::alloc::Global;
@@ -35,28 +34,10 @@ fn judge(ends: &[WorkerEnd]) -> Result<(), WorkerFault>
     Ok(())
 }
 
-/// The ticket of the job that is to be done next; none where nothing is due.
-#[tactic(auto, using(crate::proofs::StepLaws::step_none))]
-fn reserve<N: Boarded, S: Shelf>(
-    alloc: Global,
-    state: &mut State<N, S>,
-) -> Result<Option<u64>, StateFault>
-    ensures none { IfOk result (λ r. IfNone r (S.honest → IsIdle state.new)) }
-    ensures step { IsCompactingStep S.honest state.old state.new }
-    ensures same { marked_in state.new ≡ marked_in state.old }
-{
-    match state.reserve(alloc) {
-        Ok(Some(job)) => Ok(Some(job.ticket())),
-        Ok(None) => Ok(None),
-        Err(fault) => Err(fault),
-    }
-}
-
 /// Gives a job up again.
-#[tactic(auto, using(crate::proofs::StepLaws::step_none, crate::proofs::StepLaws::step_cancelled))]
+#[tactic(auto, using(crate::proofs::EndingLaws::given_up, crate::proofs::EndingLaws::not_given_up))]
 fn give_up<N: Boarded, S: Shelf>(state: &mut State<N, S>, ticket: u64)
-    ensures step { IsCompactingStep S.honest state.old state.new }
-    ensures same { marked_in state.new ≡ marked_in state.old }
+    ensures { state.new ≡ record state.old { live = state.new.live } }
 {
     match state.cancel(ticket) {
         Ok(()) => {}
@@ -66,20 +47,20 @@ fn give_up<N: Boarded, S: Shelf>(state: &mut State<N, S>, ticket: u64)
 }
 
 /// Whether there is nothing to compact. What is chosen is given up again.
-#[tactic(auto, using(crate::proofs::StepLaws::step_none))]
+#[tactic(auto, using(crate::proofs::EndingLaws::looked_none, crate::proofs::EndingLaws::looked_mark))]
 fn nothing_is_due<N: Boarded, S: Shelf>(
     alloc: Global,
     state: &mut State<N, S>,
 ) -> Result<(), LoadFault>
     ensures idle { OnOk result (S.honest → IsIdle state.new) }
     ensures due { IfErr result (λ e. e ≡ Due) }
-    ensures looked { IsLooked S.honest state.old state.new }
+    ensures looked { IsLooked state.old state.new }
     ensures same { marked_in state.new ≡ marked_in state.old }
 {
-    match reserve(alloc, state) {
+    match state.reserve(alloc) {
         Ok(None) => Ok(()),
-        Ok(Some(ticket)) => {
-            give_up(state, ticket);
+        Ok(Some(job)) => {
+            give_up(state, job.ticket());
             Err(LoadFault::Due)
         }
         Err(_) => Err(LoadFault::Due),
@@ -88,7 +69,7 @@ fn nothing_is_due<N: Boarded, S: Shelf>(
 
 /// Whether all is done, where lines came in up to a mark, and workers ended so: the state is just
 /// as far as the mark, all lines are in, no worker ended early, and nothing is due.
-#[tactic(auto, using(crate::proofs::EndingLaws::late_other, crate::proofs::EndingLaws::late_lines, crate::proofs::EndingLaws::late_worker, crate::proofs::EndingLaws::late_due, crate::proofs::EndingLaws::none_refused, crate::proofs::StepLaws::looked_none))]
+#[tactic(auto, using(crate::proofs::EndingLaws::late_other, crate::proofs::EndingLaws::late_lines, crate::proofs::EndingLaws::late_worker, crate::proofs::EndingLaws::late_due, crate::proofs::EndingLaws::none_refused, crate::proofs::EndingLaws::looked_none))]
 pub(crate) fn finish<N: Boarded, S: Shelf, O: Origin>(
     alloc: Global,
     mark: Mark<N, O>,
@@ -101,7 +82,7 @@ pub(crate) fn finish<N: Boarded, S: Shelf, O: Origin>(
     ensures loaded { OnOk result (OnErr loaded ⊥) }
     ensures idle { OnOk result (S.honest → IsIdle state.new) }
     ensures faultless { OnOk result (All IsFaultless ends.now) }
-    ensures looked { IsLooked S.honest state.old state.new }
+    ensures looked { IsLooked state.old state.new }
     ensures late { IfErr result (λ e. IsLate mark (marked_in state.new) loaded ends.now e) }
 {
     if !mark.is_of(state) {

@@ -4,7 +4,6 @@ use Rattle.lsm_store.specs.declared.worker_end.WorkerEnd.{WorkerEnd}
 use Rattle.lsm_bulk_load.specs.Ending.{IsLate}
 use Rattle.lsm_bulk_load.specs.Loading.{IsLoaded, IsStopped}
 use Rattle.lsm_bulk_load.specs.Marks.{marked_in}
-use Rattle.lsm_bulk_load.proofs.KeepingLaws.{still_looked}
 use Rattle.lsm_bulk_load.proofs.EndingLaws.{unbegun, unfinished}
 use Rattle.lsm_bulk_load.proofs.beside.load_beside.Goals as goal
 
@@ -27,9 +26,7 @@ returns-in-None-clause-refused g c =
     c.finish-done-in-None.result same c.requires.held c.none-in-None.ensures c.finish-done-in-None.ensures.late
 
 pub returns-in-Some-clause-kept : goal.returns-in-Some-clause-kept
-returns-in-Some-clause-kept g c =
-    still_looked g.S.Shelf.honest g.O.Origin.keeps c.load_all.result.1 c.finish-done.new.state c.requires.workers c.finish-done.ensures.looked c.load_all.ensures.kept
+returns-in-Some-clause-kept g c = (c.load_all.result.1, c.load_all.ensures.kept, c.finish-done.ensures.looked)
 
 pub returns-in-None-clause-kept : goal.returns-in-None-clause-kept
-returns-in-None-clause-kept g c =
-    still_looked g.S.Shelf.honest g.O.Origin.keeps c.load_all.result.1 c.finish-done-in-None.new.state c.requires.workers c.finish-done-in-None.ensures.looked c.load_all.ensures.kept
+returns-in-None-clause-kept g c = (c.load_all.result.1, c.load_all.ensures.kept, c.finish-done-in-None.ensures.looked)
