@@ -23,7 +23,7 @@ use crate::opened::{Opened, open};
 use crate::progress::FileTeller;
 use crate::scanning::print_scan;
 use lsm_codec::Bytes;
-use lsm_directory::{DirectoryFault, Wording, push_logs, write_output, refuse_left_out};
+use lsm_directory::{DirectoryFault, Wording, push_logs, refuse_left_out, write_output};
 use lsm_requests::{DirectoryCommand, GetOutput};
 use lsm_table::{NamedShelf, Naming, Records, Registry, Shelf};
 use lsm_text::Form;

@@ -1,9 +1,9 @@
 //! The texts of the commands' help.
 
 use crate::arguments::{
-    ACCEPT_REST, ALL, Argument, BATCH, BEGIN, BENCHMARKS, BESIDE_LOG, COMPACTORS, COUNT, EXISTS, FILES, FIRST,
-    FOLDER, FROM, FROM_LINE, JSON, KEY, KEYS, LAST, LIMIT, NUM, PREFIX, PROGRESS, RAW,
-    SOME_WORKERS, STRICT, SVG, TEXT, TO, VALUE, VALUE_SIZE, VERIFIERS, WORKERS,
+    ACCEPT_REST, ALL, Argument, BATCH, BEGIN, BENCHMARKS, BESIDE_LOG, COMPACTORS, COUNT, EXISTS,
+    FILES, FIRST, FOLDER, FROM, FROM_LINE, JSON, KEY, KEYS, LAST, LIMIT, NUM, PREFIX, PROGRESS,
+    RAW, SOME_WORKERS, STRICT, SVG, TEXT, TO, VALUE, VALUE_SIZE, VERIFIERS, WORKERS,
 };
 use crate::command_name::{CommandName, named};
 
@@ -465,7 +465,16 @@ Device` one batch more than is said may be in.",
 
 const COMPACT: Page = Page {
     name: "compact",
-    arguments: &[FOLDER, ALL, FIRST, LAST, TEXT, WORKERS, ACCEPT_REST, PROGRESS],
+    arguments: &[
+        FOLDER,
+        ALL,
+        FIRST,
+        LAST,
+        TEXT,
+        WORKERS,
+        ACCEPT_REST,
+        PROGRESS,
+    ],
     about: "Compacts a folder until no level is too large",
     text: "Compacts the LevelDB folder DIR until no level is too large: tables of such a
 level, and those of the next one that they meet, are written anew one level

@@ -51,9 +51,9 @@ pub(crate) fn refuse_torn<N: Naming, S: Shelf, R: Wait>(
     }
     let rest = rest_of(rt, alloc, shelf)?;
     if rest > 0 {
-        return Err(CompactFault::Writer(WriterFault::Directory(
-            DirectoryFault::TornManifest(rest),
-        )));
+        return Err(CompactFault::Writer(WriterFault::Directory(DirectoryFault::TornManifest(
+            rest,
+        ))));
     }
     Ok(())
 }

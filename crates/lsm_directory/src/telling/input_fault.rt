@@ -30,11 +30,8 @@ impl Exit for Fault {
                 "line {line} is not of the form KEY SEQ put VALUE or KEY SEQ del, in hex, or is out of order"
             ),
             Fault::Table(fault) => err.write_all(of_table(*fault).as_bytes()),
-            Fault::Write
-            | Fault::OutOfMemory
-            | Fault::TooLarge
-            | Fault::Log(_)
-            | Fault::Edit(_) => Ok(()),
+            Fault::Write | Fault::OutOfMemory | Fault::TooLarge | Fault::Log(_) | Fault::Edit(_) =>
+                Ok(()),
         }
     }
 }
