@@ -5,14 +5,14 @@ use Rattle.atomic_table.specs.Seated.{TableId}
 use Rattle.lsm_shelf.specs.Asked.{Asked}
 use Rattle.lsm_shelf.specs.Told.{Forked, Told}
 use Rattle.lsm_shelf.specs.declared.shelf_fault.ShelfFault.{ShelfFault}
-use Rattle.lsm_slots.specs.Slots.{Looked}
+use Rattle.lsm_slots.specs.Slots.{Looked, Slotted}
 use Rattle.lsm_state.specs.Held.{Held}
 use Rattle.lsm_state.specs.declared.state_fault.StateFault.{StateFault}
 use Rattle.lsm_text.specs.declared.form.Form.{Form}
 use Rattle.lsm_directory.specs.declared.folder.folder_file.FolderFile.{FolderFile}
 use Rattle.lsm_lines.specs.Gathering.{Pending}
 use Rattle.lsm_lines.specs.Passing.{PassesLines}
-use Rattle.lsm_bulk_load.specs.Ending.{IsIdle}
+use Rattle.lsm_bulk_load.specs.Ending.{IsIdle, IsLooked}
 use Rattle.lsm_bulk_load.specs.Loading.{IsLoaded}
 use Rattle.lsm_bulk_load.specs.Marks.{Marked, marked_in}
 use Rattle.lsm_bulk_load.specs.declared.progress.Progress.{Progress}
@@ -31,9 +31,17 @@ to_come form from count input old new made is passed rest = (
   rest ∙ ap (λ (p : Pending). record p { left = new.left }) made,
 )
 
+both_rest : (behind loaded left : Held) → IsLooked behind loaded → left ≡ record loaded { slots = left.slots }
+    → left ≡ record behind { slots = left.slots; live = left.live; next_ticket = left.next_ticket }
+both_rest behind loaded left judged rest =
+    let whole : left ≡ record behind { slots = left.slots; live = loaded.live; next_ticket = loaded.next_ticket } = rest ∙ ap (λ (h : Held). record h { slots = left.slots }) judged in
+    whole ∙ ap (λ (h : Held). record behind { slots = left.slots; live = h.live; next_ticket = h.next_ticket }) (sym rest)
+
 -- all lines came in; what is left is just as far as the state behind them, of which slots alone were looked at
 pub record Behind (Refused : Asked → ShelfFault → Type 0) (Honest : Type 0) (pending : Pending) (found loaded left : Held) : Type 0 where
-  pub come : ∥ HasComeBy Refused Honest pending found loaded ∥₁
+  pub behind : Held
+  pub come : ∥ HasComeBy Refused Honest pending found behind ∥₁
+  pub judged : IsLooked behind loaded
   pub looked : Looked loaded.slots left.slots
   pub rest : left ≡ record loaded { slots = left.slots }
   pub idle : Honest → IsIdle left
@@ -46,10 +54,10 @@ loads_all Refused Honest start logs pending p found loaded left was opened is st
   found = found;
   mid = opened;
   started = started;
-  behind = loaded;
+  behind = behind.behind;
   come = behind.come;
-  looked = behind.looked;
-  rest = behind.rest;
+  looked = subst (λ (s : Slotted). Looked s left.slots) (ap (λ (h : Held). h.slots) behind.judged) behind.looked;
+  rest = both_rest behind.behind loaded left behind.judged behind.rest;
   loaded = subst (λ (m : Marked). IsLoaded pending (marked_in found) m p) (sym behind.same) all;
   idle = behind.idle;
   forked = forked;

@@ -19,7 +19,7 @@ use Rattle.lsm_opening.specs.Starting.{IsStartRefusal, IsStarted}
 use Rattle.lsm_opening.specs.declared.faults.writer_fault.WriterFault.TheVariants.{OutOfMemory}
 use Rattle.lsm_opening.specs.declared.faults.writer_fault.WriterFault.TheVariants.{Read}
 use Rattle.lsm_opening.specs.declared.prepared.Start.{Start}
-use Rattle.lsm_bulk_load.specs.Ending.{IsIdle}
+use Rattle.lsm_bulk_load.specs.Ending.{IsIdle, IsLooked}
 use Rattle.lsm_bulk_load.specs.Keeping.{HasComeTo, IsOfLines}
 use Rattle.lsm_bulk_load.specs.Loading.{IsLoaded, IsUnloaded}
 use Rattle.lsm_bulk_load.specs.Marks.{marked_in}
@@ -35,13 +35,14 @@ loaded_text p = codes "loaded "
     ++ (decimal p.batches ++ (codes " batches" ++ (10 ∷ [])))))
 
 -- The state came from the one that was begun or opened by steps of workers, and by ingests of
--- batches that lines spell, of those that were to come, alone.
+-- batches alone that lines spell, of those that were to come.
 abbrev pub HasComeBy : (Asked → ShelfFault → Type 0) → Type 0 → Pending → (found h : Held) → Type 0
 HasComeBy Refused Honest pending found h = HasComeTo Refused Honest (IsOfLines pending) found h
 
 -- The directory was begun or opened, and all lines that were to come came into it, so many; over an
 -- honest shelf nothing was due behind them; after the opening the shelf was asked for forks alone.
--- Of the state behind them slots were looked at, and nothing else was done to it.
+-- Of the state behind them no more changed then than slots that were looked at, live jobs, and the
+-- next ticket.
 pub record LoadsAll (Refused : Asked → ShelfFault
     → Type 0) (Honest : Type 0) (start : Start) (logs : List FolderFile) (pending : Pending) (p
     : Progress) (left : Held) (was is : Told) : Type 0 where
@@ -51,7 +52,8 @@ pub record LoadsAll (Refused : Asked → ShelfFault
   pub behind : Held
   pub come : ∥ HasComeBy Refused Honest pending found behind ∥₁
   pub looked : Looked behind.slots left.slots
-  pub rest : left ≡ record behind { slots = left.slots }
+  pub rest : left ≡ record behind
+      { slots = left.slots; live = left.live; next_ticket = left.next_ticket }
   pub loaded : IsLoaded pending (marked_in found) (marked_in left) p
   pub idle : Honest → IsIdle left
   pub forked : Forked mid is
@@ -87,7 +89,9 @@ pub record StopsLoading (Refused : Asked → ShelfFault
   pub left : Held
   pub board : TableId
   pub lawful : IsLawfulState Honest board left
-  pub come : ∥ HasComeBy Refused Honest pending found left ∥₁
+  pub behind : Held
+  pub come : ∥ HasComeBy Refused Honest pending found behind ∥₁
+  pub looked : IsLooked behind left
   pub unloaded : IsUnloaded Refused Honest (HasComeBy Refused Honest pending found) pending
       (marked_in found) (marked_in left) p fault
   pub forked : Forked mid is

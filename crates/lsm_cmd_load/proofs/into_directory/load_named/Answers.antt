@@ -24,7 +24,9 @@ returns-clause-fault g c = (
     left = c.load_beside-done.result.state;
     board = g.N.Boarded.board;
     lawful = c.options-options.ensures.law;
-    come = c.load_beside-done.ensures.kept;
+    behind = c.load_beside-done.ensures.kept.0;
+    come = c.load_beside-done.ensures.kept.1;
+    looked = c.load_beside-done.ensures.kept.2;
     unloaded = rw c.in-Err.is at c.load_beside-done.ensures.refused;
     forked = c.load_beside-done.ensures.told;
   },
@@ -38,7 +40,9 @@ returns-in_err-sweep-in-Ok-clause-fault g c =
     rw (p.1, p.2) (unswept (g.S.Shelf.refuses g.N.Naming.place) g.S.Shelf.honest c.args.prepared.now.start c.args.prepared.now.logs.items c.args.lines c.load_beside-done.result.progress
     c.in_err-sweep-in-Ok.field-0.0 g.N.Boarded.board c.in_ok-state.state c.load_beside-done.result.state c.sweep.new.state c.args.shelf.now c.start.new.shelf c.load_beside-done.new.shelf
     c.sweep.new.shelf c.in_ok-state.ensures.started loaded (record {
-      come = c.load_beside-done.ensures.kept;
+      behind = c.load_beside-done.ensures.kept.0;
+            come = c.load_beside-done.ensures.kept.1;
+            judged = c.load_beside-done.ensures.kept.2;
       looked = c.sweep.ensures.looked;
       rest = c.sweep.ensures.rest;
       idle = λ h. c.sweep.ensures.idle (idle h);
@@ -53,7 +57,9 @@ returns-in-Ok-reply-clause-done g c =
       loads_whole (g.S.Shelf.refuses g.N.Naming.place) g.S.Shelf.honest c.args.prepared.now.start c.args.prepared.now.logs.items c.args.lines c.load_beside-done.result.progress g.N.Boarded.board c.in_ok-state.state
           c.load_beside-done.result.state c.sweep.new.state c.args.shelf.now c.start.new.shelf c.load_beside-done.new.shelf c.sweep.new.shelf c.in_ok-state.ensures.started
           loaded (record {
-            come = c.load_beside-done.ensures.kept;
+            behind = c.load_beside-done.ensures.kept.0;
+            come = c.load_beside-done.ensures.kept.1;
+            judged = c.load_beside-done.ensures.kept.2;
             looked = c.sweep.ensures.looked;
             rest = c.sweep.ensures.rest;
             idle = λ h. c.sweep.ensures.idle (idle h);
@@ -70,7 +76,9 @@ returns-in-Ok-clause-fault g c =
       loads_whole (g.S.Shelf.refuses g.N.Naming.place) g.S.Shelf.honest c.args.prepared.now.start c.args.prepared.now.logs.items c.args.lines c.load_beside-done.result.progress g.N.Boarded.board c.in_ok-state.state
           c.load_beside-done.result.state c.sweep.new.state c.args.shelf.now c.start.new.shelf c.load_beside-done.new.shelf c.sweep.new.shelf c.in_ok-state.ensures.started
           loaded (record {
-            come = c.load_beside-done.ensures.kept;
+            behind = c.load_beside-done.ensures.kept.0;
+            come = c.load_beside-done.ensures.kept.1;
+            judged = c.load_beside-done.ensures.kept.2;
             looked = c.sweep.ensures.looked;
             rest = c.sweep.ensures.rest;
             idle = λ h. c.sweep.ensures.idle (idle h);
