@@ -69,8 +69,8 @@ pub record TakesBatch (old new : Pending) (was now : Marked) (p q : Progress) (e
 
 -- ---- refusals
 
--- Why the batch is not in, and what is in then: the store refused it, of which the lock's fact held,
--- and nothing came in; or it came in, and so did another one between this and the one before.
+-- Why the batch is not in, and what is in then: the store refused it, of which this fact held, and
+-- nothing came in; or it came in, and so did another one between this and the one before.
 abbrev pub StaysOut : (Asked → ShelfFault → Type 0) → (Held → Type 0) → List Write
     → (was now : Marked) → LoadFault → Type 0
 StaysOut Refused keeps batch was now (Ingest fault) =

@@ -111,9 +111,9 @@ fn load_all<N: Boarded, S: Shelf, O: Origin, R: Threads + Wait + Sync, I: Read +
 ///
 /// The state comes back. It is just as far as the lines made it that are counted; only behind
 /// `Other` it goes on from there. All of them are lines before the first one that is no write of a
-/// batch, where one is not. In any case the fact held of it that the caller picked, before a job was
-/// looked for: one that holds of the state that was found, and is kept by workers, and by the ingest
-/// of each batch that lines of the input spell.
+/// batch, where one is not. In any case the fact held of it that the caller picked, before a job
+/// was looked for: one that holds of the state that was found, and is kept by workers, and by the
+/// ingest of each batch that lines of the input spell.
 #[tactic(auto, using(crate::proofs::EndingLaws::finished, crate::proofs::EndingLaws::unfinished, crate::proofs::EndingLaws::unbegun, crate::proofs::MarkLaws::even_first))]
 pub fn load_beside<N, S, O, R, I, T>(
     rt: &R,

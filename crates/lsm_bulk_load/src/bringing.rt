@@ -37,8 +37,8 @@ fn mark_behind<N: Boarded, S: Shelf, O: Origin, R: Wait>(
     mark.behind(&mut store.lock(rt).state, came, memory)
 }
 
-/// Brings a batch into a store that is as far as a mark says, and marks how far it is then. The fact
-/// of the lock is one that the ingest of this batch keeps.
+/// Brings a batch into a store that is as far as a mark says, and marks how far it is then. The
+/// fact of the lock is one that the ingest of this batch keeps.
 ///
 /// A refusal has a mark too: `Ingest` this one, where the batch is not in; `Other` a later one,
 /// where it is in, and another batch is too.

@@ -23,8 +23,8 @@ impl Origin for Brand {
 }
 
 /// What the lock of a store keeps while batches come in: the fact; and that since the store was
-/// found as many entries came in as sequences were taken. By that a count of sequences tells whether
-/// another batch came in between two.
+/// found as many entries came in as sequences were taken. By that a count of sequences tells
+/// whether another batch came in between two.
 #[derive(Drop)]
 pub struct Grown<O: Origin> {
     of: PhantomData<O>,
