@@ -100,8 +100,8 @@ where
         shelves,
         &NoGate,
         move |background: &Background| -> Result<Mark<N, O>, BenchFault>
-            requires kept { IsKeptByPairs (S.refuses N.place) options.entry.now.num
-                options.entry.now.value_size O.keeps }
+            requires kept { IsKeptByPairs (S.refuses N.place) options.now.num options.now.value_size
+                O.keeps }
             requires readers { IsKeptByLearning O.keeps }
             ensures { IfOk result (RunsAll options.entry.now.num options.entry.now.value_size
                 options.entry.now.benchmarks.items mark) }
