@@ -1,4 +1,5 @@
-use Rattle.std.proofs.Common.{inl, inr}
+use Rattle.std.proofs.Common.{inl, inr, refl}
+use Rattle.std.proofs.lemmas.Result.{err_from_is_err_and}
 use Rattle.lsm_bulk_load.proofs.CallerLemmas.{come_compacting, come_ingests, come_learning, come_taken}
 use Rattle.lsm_cmd_bench.specs.Filled.{IsOfPairs}
 use Rattle.lsm_cmd_bench.proofs.running.run_named.Goals as goal
@@ -44,3 +45,8 @@ returns-in-Err-clause-fault g c = inr (record {
   come = c.in-Err.ensures.stopped.2;
   forked = c.run_state.ensures.told;
 })
+
+pub returns-in_err-state-clause-fault : goal.returns-in_err-state-clause-fault
+returns-in_err-state-clause-fault g c =
+    let p = err_from_is_err_and c.from_residual-in_err-state.result c.from_residual-in_err-state.ensures.1 in
+    rw (p.1, p.2) (inl (c.in_err-state.field-0.0, refl, c.in_err-state.ensures.refused))
