@@ -48,5 +48,5 @@ returns-in-Err-clause-fault g c = inr (record {
 
 pub returns-in_err-state-clause-fault : goal.returns-in_err-state-clause-fault
 returns-in_err-state-clause-fault g c =
-    let p = err_from_is_err_and c.from_residual-in_err-state.result c.from_residual-in_err-state.ensures.1 in
+    let p = err_from_is_err_and c.from_residual.result c.from_residual.ensures.1 in
     rw (p.1, p.2) (inl (c.in_err-state.field-0.0, refl, c.in_err-state.ensures.refused))
