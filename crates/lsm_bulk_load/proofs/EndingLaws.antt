@@ -8,15 +8,17 @@ use Rattle.lsm_shelf.specs.Asked.{Asked}
 use Rattle.lsm_shelf.specs.declared.shelf_fault.ShelfFault.{ShelfFault}
 use Rattle.lsm_history.specs.History.{IsLater}
 use Rattle.lsm_batch.specs.declared.write.Write.{Write}
+use Rattle.lsm_live.specs.Booked.{Booked}
 use Rattle.lsm_lines.specs.Gathering.{Pending}
 use Rattle.lsm_lines.specs.declared.write_line_fault.WriteLineFault.{WriteLineFault}
 use Rattle.lsm_lines.specs.declared.write_line_fault.WriteLineFault.TheVariants as lines
+use Rattle.lsm_state.specs.Held.{Held}
 use Rattle.lsm_store.specs.Workers.{IsWorkersEnd}
 use Rattle.lsm_store.specs.declared.worker_end.WorkerEnd.{WorkerEnd}
 use Rattle.lsm_store.specs.declared.worker_fault.WorkerFault.{WorkerFault}
-use Rattle.lsm_bulk_load.specs.Ending.{IsFaultless, IsFirstFault, IsLate}
+use Rattle.lsm_bulk_load.specs.Ending.{IsFaultless, IsFirstFault, IsLate, IsLooked}
 use Rattle.lsm_bulk_load.specs.Loading.{IsLoaded, IsStopped, IsUnloaded, SomeAreIn, SomeAreInToo, StopsBehind}
-use Rattle.lsm_bulk_load.specs.Marks.{Marked}
+use Rattle.lsm_bulk_load.specs.Marks.{Marked, marked_in}
 use Rattle.lsm_bulk_load.specs.declared.load_fault.LoadFault.{LoadFault}
 use Rattle.lsm_bulk_load.specs.declared.load_fault.LoadFault.TheVariants.{OutOfMemory, Shelf, Line, Ingest, Other, Worker, Due}
 use Rattle.lsm_bulk_load.specs.declared.progress.Progress.{Progress}
@@ -44,6 +46,26 @@ more_faultless ends i d lt before its = All-more IsFaultless ends i d lt before 
 
 pub all_faultless : (ends : List WorkerEnd) (i : ℕ) → length ends ≤ i → All IsFaultless (take i ends) → All IsFaultless ends
 all_faultless ends i end before = subst (λ (es : List WorkerEnd). All IsFaultless es) (take_all i ends end) before
+
+-- ---- what is due
+
+pub given_up : (was is : Held) (live : List Booked) → is ≡ record was { live = live } → is ≡ record was { live = is.live }
+given_up was is live e = e ∙ ap (λ (l : List Booked). record was { live = l }) (sym (ap (λ (h : Held). h.live) e))
+
+pub not_given_up : (was is : Held) → is ≡ was → is ≡ record was { live = is.live }
+not_given_up was is e = given_up was is was.live e
+
+pub looked_none : (was is : Held) → is ≡ was → IsLooked was is
+looked_none was is e = subst (λ (h : Held). IsLooked was h) (sym e) refl
+
+-- a job was reserved, which left `mid`, and given up again
+pub looked_back : (was mid is : Held) (live : List Booked) (next : ℕ) → mid ≡ record was { live = live; next_ticket = next } → is ≡ record mid { live = is.live } → IsLooked was is
+looked_back was mid is live next e f =
+    let whole : is ≡ record was { live = is.live; next_ticket = next } = f ∙ ap (λ (h : Held). record h { live = is.live }) e in
+    whole ∙ ap (λ n. record was { live = is.live; next_ticket = n }) (sym (ap (λ (h : Held). h.next_ticket) whole))
+
+pub looked_mark : (was is : Held) → IsLooked was is → marked_in is ≡ marked_in was
+looked_mark was is looked = ap marked_in looked
 
 -- ---- histories
 
@@ -74,52 +96,52 @@ before_line old found now p lines.Read s = (s.0, [], s.1)
 before_line old found now p lines.OutOfMemory s = s
 
 -- up to the mark, or some earlier one
-in_too : (Refused : Asked → ShelfFault → Type 0) (origin : Marked) (old : Pending) (found mark : Marked) (p : Progress) (e : LoadFault) → IsStopped Refused origin old found mark p e
+in_too : (Refused : Asked → ShelfFault → Type 0) (keeps : Held → Type 0) (old : Pending) (found mark : Marked) (p : Progress) (e : LoadFault) → IsStopped Refused keeps old found mark p e
     → SomeAreInToo old found mark p
-in_too Refused origin old found mark p OutOfMemory s = (mark, s, later_same mark.history)
-in_too Refused origin old found mark p (Line fault) s = (mark, before_line old found mark p fault s, later_same mark.history)
-in_too Refused origin old found mark p (Ingest fault) s = (mark, (s.0, s.1, s.2), later_same mark.history)
-in_too Refused origin old found mark p Other s = s
-in_too Refused origin old found mark p (Shelf fault) s = absurd s
-in_too Refused origin old found mark p (Worker fault) s = absurd s
-in_too Refused origin old found mark p Due s = absurd s
+in_too Refused keeps old found mark p OutOfMemory s = (mark, s, later_same mark.history)
+in_too Refused keeps old found mark p (Line fault) s = (mark, before_line old found mark p fault s, later_same mark.history)
+in_too Refused keeps old found mark p (Ingest fault) s = (mark, (s.0, s.1, s.2), later_same mark.history)
+in_too Refused keeps old found mark p Other s = s
+in_too Refused keeps old found mark p (Shelf fault) s = absurd s
+in_too Refused keeps old found mark p (Worker fault) s = absurd s
+in_too Refused keeps old found mark p Due s = absurd s
 
 too_later : (old : Pending) (found mark now : Marked) (p : Progress) → SomeAreInToo old found mark p → IsLater now.history mark.history → SomeAreInToo old found now p
 too_later old found mark now p s later = (s.0, s.1, later_then s.0.history mark.history now.history later s.2)
 
 -- ---- why all is not done
 
-of_lines : (Refused : Asked → ShelfFault → Type 0) (Honest : Type 0) (origin : Marked) (old : Pending) (found now : Marked) (p : Progress) (e : LoadFault)
-    → IsStopped Refused origin old found now p e → IsUnloaded Refused Honest origin old found now p e
-of_lines Refused Honest origin old found now p OutOfMemory s = s
-of_lines Refused Honest origin old found now p (Line fault) s = s
-of_lines Refused Honest origin old found now p (Ingest fault) s = s
-of_lines Refused Honest origin old found now p Other s = s
-of_lines Refused Honest origin old found now p (Shelf fault) s = absurd s
-of_lines Refused Honest origin old found now p (Worker fault) s = absurd s
-of_lines Refused Honest origin old found now p Due s = absurd s
+of_lines : (Refused : Asked → ShelfFault → Type 0) (Honest : Type 0) (keeps : Held → Type 0) (old : Pending) (found now : Marked) (p : Progress) (e : LoadFault)
+    → IsStopped Refused keeps old found now p e → IsUnloaded Refused Honest keeps old found now p e
+of_lines Refused Honest keeps old found now p OutOfMemory s = s
+of_lines Refused Honest keeps old found now p (Line fault) s = s
+of_lines Refused Honest keeps old found now p (Ingest fault) s = s
+of_lines Refused Honest keeps old found now p Other s = s
+of_lines Refused Honest keeps old found now p (Shelf fault) s = absurd s
+of_lines Refused Honest keeps old found now p (Worker fault) s = absurd s
+of_lines Refused Honest keeps old found now p Due s = absurd s
 
 -- all lines are in, and then this
-behind_all : {T : Type 0} (Refused : Asked → ShelfFault → Type 0) (Honest : Type 0) (origin : Marked) (old : Pending) (found mark now : Marked) (p : Progress) (x : T) (ends : List WorkerEnd) (e : LoadFault)
-    → IsLoaded old found mark p → All (IsWorkersEnd Honest) ends → IsLate {T = T} mark now (Ok x) ends e → IsUnloaded Refused Honest origin old found now p e
-behind_all Refused Honest origin old found mark now p x ends e l each (inl k) =
+behind_all : {T : Type 0} (Refused : Asked → ShelfFault → Type 0) (Honest : Type 0) (keeps : Held → Type 0) (old : Pending) (found mark now : Marked) (p : Progress) (x : T) (ends : List WorkerEnd) (e : LoadFault)
+    → IsLoaded old found mark p → All (IsWorkersEnd Honest) ends → IsLate {T = T} mark now (Ok x) ends e → IsUnloaded Refused Honest keeps old found now p e
+behind_all Refused Honest keeps old found mark now p x ends e l each (inl k) =
     rw k.0 (too_later old found mark now p (mark, all_in old found mark p l, later_same mark.history) k.1)
-behind_all Refused Honest origin old found mark now p x ends (Worker fault) l each (inr k) =
+behind_all Refused Honest keeps old found mark now p x ends (Worker fault) l each (inr k) =
     (subst (λ (m : Marked). IsLoaded old found m p) (sym k.0) l, (ends, each, k.1))
-behind_all Refused Honest origin old found mark now p x ends Due l each (inr k) = subst (λ (m : Marked). IsLoaded old found m p) (sym k.0) l
-behind_all Refused Honest origin old found mark now p x ends OutOfMemory l each (inr k) = absurd k.1
-behind_all Refused Honest origin old found mark now p x ends (Line fault) l each (inr k) = absurd k.1
-behind_all Refused Honest origin old found mark now p x ends (Ingest fault) l each (inr k) = absurd k.1
-behind_all Refused Honest origin old found mark now p x ends Other l each (inr k) = absurd k.1
-behind_all Refused Honest origin old found mark now p x ends (Shelf fault) l each (inr k) = absurd k.1
+behind_all Refused Honest keeps old found mark now p x ends Due l each (inr k) = subst (λ (m : Marked). IsLoaded old found m p) (sym k.0) l
+behind_all Refused Honest keeps old found mark now p x ends OutOfMemory l each (inr k) = absurd k.1
+behind_all Refused Honest keeps old found mark now p x ends (Line fault) l each (inr k) = absurd k.1
+behind_all Refused Honest keeps old found mark now p x ends (Ingest fault) l each (inr k) = absurd k.1
+behind_all Refused Honest keeps old found mark now p x ends Other l each (inr k) = absurd k.1
+behind_all Refused Honest keeps old found mark now p x ends (Shelf fault) l each (inr k) = absurd k.1
 
 -- not all are
-behind_some : (T : Type 0) (Refused : Asked → ShelfFault → Type 0) (Honest : Type 0) (origin : Marked) (old : Pending) (found mark now : Marked) (p : Progress) (f : LoadFault) (ends : List WorkerEnd) (e : LoadFault)
-    → IsStopped Refused origin old found mark p f → IsLate {T = T} mark now (Err f) ends e → IsUnloaded Refused Honest origin old found now p e
-behind_some T Refused Honest origin old found mark now p f ends e s (inl k) = rw k.0 (too_later old found mark now p (in_too Refused origin old found mark p f s) k.1)
-behind_some T Refused Honest origin old found mark now p f ends e s (inr k) =
-    let here : IsStopped Refused origin old found now p f = subst (λ (m : Marked). IsStopped Refused origin old found m p f) (sym k.0) s in
-    rw k.1 (of_lines Refused Honest origin old found now p f here)
+behind_some : (T : Type 0) (Refused : Asked → ShelfFault → Type 0) (Honest : Type 0) (keeps : Held → Type 0) (old : Pending) (found mark now : Marked) (p : Progress) (f : LoadFault) (ends : List WorkerEnd) (e : LoadFault)
+    → IsStopped Refused keeps old found mark p f → IsLate {T = T} mark now (Err f) ends e → IsUnloaded Refused Honest keeps old found now p e
+behind_some T Refused Honest keeps old found mark now p f ends e s (inl k) = rw k.0 (too_later old found mark now p (in_too Refused keeps old found mark p f s) k.1)
+behind_some T Refused Honest keeps old found mark now p f ends e s (inr k) =
+    let here : IsStopped Refused keeps old found now p f = subst (λ (m : Marked). IsStopped Refused keeps old found m p f) (sym k.0) s in
+    rw k.1 (of_lines Refused Honest keeps old found now p f here)
 
 -- ---- one reason
 
@@ -148,19 +170,19 @@ finished old found mark m now p (Ok x) (Ok y) same l none is =
 finished old found mark m now p (Err e) (Ok y) same l none is = absurd none
 finished old found mark m now p loaded (Err e) same l none is = tt
 
-pub unfinished : {T : Type 0} (Refused : Asked → ShelfFault → Type 0) (Honest : Type 0) (origin : Marked) (old : Pending) (found mark m now : Marked) (p : Progress) (ends : List WorkerEnd)
-    (loaded done : Result T LoadFault) → mark ≡ found → OnOk loaded (IsLoaded old mark m p) → IfErr loaded (λ e. IsStopped Refused origin old mark m p e)
-    → All (IsWorkersEnd Honest) ends → IfErr done (λ e. IsLate m now loaded ends e) → IfErr done (λ e. IsUnloaded Refused Honest origin old found now p e)
-unfinished Refused Honest origin old found mark m now p ends loaded (Ok y) same l s each late = tt
-unfinished Refused Honest origin old found mark m now p ends (Ok x) (Err e) same l s each late =
-    behind_all Refused Honest origin old found m now p x ends e (subst (λ (f : Marked). IsLoaded old f m p) same l) each late
-unfinished {T} Refused Honest origin old found mark m now p ends (Err f) (Err e) same l s each late =
-    behind_some T Refused Honest origin old found m now p f ends e (subst (λ (g : Marked). IsStopped Refused origin old g m p f) same s) late
+pub unfinished : {T : Type 0} (Refused : Asked → ShelfFault → Type 0) (Honest : Type 0) (keeps : Held → Type 0) (old : Pending) (found mark m now : Marked) (p : Progress) (ends : List WorkerEnd)
+    (loaded done : Result T LoadFault) → mark ≡ found → OnOk loaded (IsLoaded old mark m p) → IfErr loaded (λ e. IsStopped Refused keeps old mark m p e)
+    → All (IsWorkersEnd Honest) ends → IfErr done (λ e. IsLate m now loaded ends e) → IfErr done (λ e. IsUnloaded Refused Honest keeps old found now p e)
+unfinished Refused Honest keeps old found mark m now p ends loaded (Ok y) same l s each late = tt
+unfinished Refused Honest keeps old found mark m now p ends (Ok x) (Err e) same l s each late =
+    behind_all Refused Honest keeps old found m now p x ends e (subst (λ (f : Marked). IsLoaded old f m p) same l) each late
+unfinished {T} Refused Honest keeps old found mark m now p ends (Err f) (Err e) same l s each late =
+    behind_some T Refused Honest keeps old found m now p f ends e (subst (λ (g : Marked). IsStopped Refused keeps old g m p f) same s) late
 
 -- no worker began
-pub unbegun : {T : Type 0} (Refused : Asked → ShelfFault → Type 0) (Honest : Type 0) (origin : Marked) (old : Pending) (found mark now : Marked) (p : Progress) (done : Result T LoadFault)
+pub unbegun : {T : Type 0} (Refused : Asked → ShelfFault → Type 0) (Honest : Type 0) (keeps : Held → Type 0) (old : Pending) (found mark now : Marked) (p : Progress) (done : Result T LoadFault)
     → mark ≡ found → old.held ≡ [] → p ≡ record { lines = 0; batches = 0 } → IfErr done (λ e. IsLate {T = T} mark now (Err OutOfMemory) [] e)
-    → IfErr done (λ e. IsUnloaded Refused Honest origin old found now p e)
-unbegun Refused Honest origin old found mark now p (Ok y) same held none late = tt
-unbegun {T} Refused Honest origin old found mark now p (Err e) same held none late =
-    behind_some T Refused Honest origin old found mark now p OutOfMemory [] e (subst (λ (m : Marked). SomeAreIn old found m p) (sym same) (none_came old found p held none)) late
+    → IfErr done (λ e. IsUnloaded Refused Honest keeps old found now p e)
+unbegun Refused Honest keeps old found mark now p (Ok y) same held none late = tt
+unbegun {T} Refused Honest keeps old found mark now p (Err e) same held none late =
+    behind_some T Refused Honest keeps old found mark now p OutOfMemory [] e (subst (λ (m : Marked). SomeAreIn old found m p) (sym same) (none_came old found p held none)) late

@@ -18,6 +18,7 @@ use Rattle.lsm_shelf.specs.Asked.{Asked}
 use Rattle.lsm_shelf.specs.declared.shelf_fault.ShelfFault.{ShelfFault}
 use Rattle.lsm_bulk_load.specs.Coming.{CameIn, ComesNext, all_after, last_after}
 use Rattle.lsm_bulk_load.specs.Loading.{BatchCame, IsLoaded, IsNotTaken, IsStopped, KeepsNextOut, Loads, NoneCame, StaysOut, StopsBehind, TakesBatch}
+use Rattle.lsm_state.specs.Held.{Held}
 use Rattle.lsm_state.specs.declared.state_fault.StateFault.{StateFault}
 use Rattle.lsm_bulk_load.specs.Marks.{Marked}
 use Rattle.lsm_bulk_load.specs.declared.load_fault.LoadFault.{LoadFault}
@@ -147,15 +148,15 @@ taken_some old new r was now p q g few comes is = record {
   });
 }
 
-pub not_taken : (Refused : Asked → ShelfFault → Type 0) (found : Marked) (old new : Pending) (r : Gathered) (was now : Marked) (e : LoadFault) → IsGathered old new r
-    → StaysOut Refused found r.batch was now e → IsNotTaken Refused found old was now e
-not_taken Refused found old new r was now OutOfMemory g k = absurd k
-not_taken Refused found old new r was now (Line fault) g k = absurd k
-not_taken Refused found old new r was now (Ingest fault) g k = (new, r, g, k)
-not_taken Refused found old new r was now Other g k = (new, r, g, k)
-not_taken Refused found old new r was now (Shelf fault) g k = absurd k
-not_taken Refused found old new r was now (Worker fault) g k = absurd k
-not_taken Refused found old new r was now Due g k = absurd k
+pub not_taken : (Refused : Asked → ShelfFault → Type 0) (keeps : Held → Type 0) (old new : Pending) (r : Gathered) (was now : Marked) (e : LoadFault) → IsGathered old new r
+    → StaysOut Refused keeps r.batch was now e → IsNotTaken Refused keeps old was now e
+not_taken Refused keeps old new r was now OutOfMemory g k = absurd k
+not_taken Refused keeps old new r was now (Line fault) g k = absurd k
+not_taken Refused keeps old new r was now (Ingest fault) g k = (new, r, g, k)
+not_taken Refused keeps old new r was now Other g k = (new, r, g, k)
+not_taken Refused keeps old new r was now (Shelf fault) g k = absurd k
+not_taken Refused keeps old new r was now (Worker fault) g k = absurd k
+not_taken Refused keeps old new r was now Due g k = absurd k
 
 -- ---- the end of a load
 
@@ -163,27 +164,27 @@ not_taken Refused found old new r was now Due g k = absurd k
 same_pending : (old mid : Pending) → mid.form ≡ old.form → mid ≡ record { form = old.form; held = mid.held; left = mid.left }
 same_pending old mid form = ap (λ (f : Form). record { form = f; held = mid.held; left = mid.left }) form
 
-kept_next_out : (Refused : Asked → ShelfFault → Type 0) (origin : Marked) (old mid : Pending) (found was now : Marked) (p : Progress) (fault : StateFault) → mid.form ≡ old.form
-    → Loads old mid.left mid.held found was p → IsNotTaken Refused origin mid was now (Ingest fault) → KeepsNextOut Refused origin old found now p fault
-kept_next_out Refused origin old mid found was now p fault form l k =
+kept_next_out : (Refused : Asked → ShelfFault → Type 0) (keeps : Held → Type 0) (old mid : Pending) (found was now : Marked) (p : Progress) (fault : StateFault) → mid.form ≡ old.form
+    → Loads old mid.left mid.held found was p → IsNotTaken Refused keeps mid was now (Ingest fault) → KeepsNextOut Refused keeps old found now p fault
+kept_next_out Refused keeps old mid found was now p fault form l k =
     let same : now ≡ was = k.3.0 in
-    let here : IsNotTaken Refused origin mid now now (Ingest fault) = (k.0, k.1, k.2, (refl, k.3.1)) in (
+    let here : IsNotTaken Refused keeps mid now now (Ingest fault) = (k.0, k.1, k.2, (refl, k.3.1)) in (
       mid.left,
       mid.held,
       subst (λ (m : Marked). Loads old mid.left mid.held found m p) (sym same) l,
-      subst (λ (q : Pending). IsNotTaken Refused origin q now now (Ingest fault)) (same_pending old mid form) here,
+      subst (λ (q : Pending). IsNotTaken Refused keeps q now now (Ingest fault)) (same_pending old mid form) here,
     )
 
-pub stopped_short : (Refused : Asked → ShelfFault → Type 0) (origin : Marked) (old mid : Pending) (found was now : Marked) (p : Progress) (e : LoadFault) → mid.form ≡ old.form
-    → Loads old mid.left mid.held found was p → IsNotTaken Refused origin mid was now e → IsStopped Refused origin old found now p e
-stopped_short Refused origin old mid found was now p OutOfMemory form l k =
+pub stopped_short : (Refused : Asked → ShelfFault → Type 0) (keeps : Held → Type 0) (old mid : Pending) (found was now : Marked) (p : Progress) (e : LoadFault) → mid.form ≡ old.form
+    → Loads old mid.left mid.held found was p → IsNotTaken Refused keeps mid was now e → IsStopped Refused keeps old found now p e
+stopped_short Refused keeps old mid found was now p OutOfMemory form l k =
     (mid.left, mid.held, subst (λ (m : Marked). Loads old mid.left mid.held found m p) (sym k) l)
-stopped_short Refused origin old mid found was now p (Line fault) form l k = absurd k.3
-stopped_short Refused origin old mid found was now p (Ingest fault) form l k = kept_next_out Refused origin old mid found was now p fault form l k
-stopped_short Refused origin old mid found was now p Other form l k = (was, (mid.left, mid.held, l), k.3)
-stopped_short Refused origin old mid found was now p (Shelf fault) form l k = absurd k.3
-stopped_short Refused origin old mid found was now p (Worker fault) form l k = absurd k.3
-stopped_short Refused origin old mid found was now p Due form l k = absurd k.3
+stopped_short Refused keeps old mid found was now p (Line fault) form l k = absurd k.3
+stopped_short Refused keeps old mid found was now p (Ingest fault) form l k = kept_next_out Refused keeps old mid found was now p fault form l k
+stopped_short Refused keeps old mid found was now p Other form l k = (was, (mid.left, mid.held, l), k.3)
+stopped_short Refused keeps old mid found was now p (Shelf fault) form l k = absurd k.3
+stopped_short Refused keeps old mid found was now p (Worker fault) form l k = absurd k.3
+stopped_short Refused keeps old mid found was now p Due form l k = absurd k.3
 
 -- one batch more, up to here
 pub on : (old mid new : Pending) (left : Option (List ℕ)) (held : List Write) (found was now : Marked) (p q : Progress) (end : BatchEnd) → mid.form ≡ old.form

@@ -1,6 +1,6 @@
 -- How far a store is.
 use Rattle.std.proofs.Common.{◌≡◌, ℕ, suc, ◌+◌, List, [], ◌∷◌, ◌++◌, length, refl, sym, ap, ◌∙◌, subst, length-append, inl, inr, arith}
-use Rattle.std.proofs.Math.Logic.{∥∥₁_elim}
+use Rattle.std.proofs.Math.Logic.{∥∥₁_elim, ∥∥₁_map}
 use Rattle.std.proofs.Props.{props}
 use Rattle.lsm_codec.specs.Entries.{Entry}
 use Rattle.lsm_history.specs.History.{IsLater}
@@ -15,9 +15,11 @@ use Rattle.lsm_version.specs.Versions.{Levels}
 use Rattle.lsm_state.specs.Held.{Held}
 use Rattle.lsm_state.specs.Ingesting.{Ingests}
 use Rattle.lsm_state.specs.declared.ingest.Ingested.{Ingested}
-use Rattle.lsm_store.specs.Background.{BringsIn, IsBroughtIn, IsKeptByIngest}
+use Rattle.lsm_state.specs.declared.state_fault.StateFault.{StateFault}
+use Rattle.lsm_store.specs.Background.{BringsIn, IsBroughtIn, IsKeptByIngest, IsKeptOut}
 use Rattle.lsm_store.specs.Compacting.{IsKeptByCompaction, IsSeated}
 use Rattle.lsm_bulk_load.specs.Coming.{ComesNext}
+use Rattle.lsm_bulk_load.specs.Keeping.{IsKeptByLearning, IsKeptSince, IsLearnt, IsTaken}
 use Rattle.lsm_bulk_load.specs.Marks.{IsBehind, IsEven, Marked, marked_in}
 
 -- ---- lists
@@ -47,7 +49,7 @@ none_in (c ∷ a) e = absurd (omega (arith, e))
 abbrev mark_of : List Entry → ℕ → Marked
 mark_of es n = record { history = es; last = n }
 
-same_marked : (a b : Marked) → a.history ≡ b.history → a.last ≡ b.last → a ≡ b
+pub same_marked : (a b : Marked) → a.history ≡ b.history → a.last ≡ b.last → a ≡ b
 same_marked a b history last = ap (λ (es : List Entry). mark_of es a.last) history ∙ ap (λ (n : ℕ). mark_of b.history n) last
 
 -- a state whose sequences say that nothing came in since is just as far as the mark
@@ -78,28 +80,39 @@ next_is found mark now was ws came after even first last grown b =
 
 -- ---- what the lock keeps
 
-pub even_out : (found now : Marked) → ∥ IsEven found now ∥₁ → IsEven found now
-even_out found now t = ∥∥₁_elim t (Prim.hlevel props) (λ e. e)
-
 pub even_first : (found : Marked) → IsEven found found
 even_first found = refl
 
-pub even_seated : (found : Marked) (was is : Held) → found ≡ marked_in was → IsSeated was is → IsEven found (marked_in is)
+pub even_out : (keeps : Held → Type 0) (found : Marked) (h : Held) → ∥ IsKeptSince keeps found h ∥₁ → IsEven found (marked_in h)
+even_out keeps found h t = ∥∥₁_elim t (Prim.hlevel props) (λ k. k.1)
+
+pub fact_out : (keeps : Held → Type 0) (found : Marked) (h : Held) → ∥ IsKeptSince keeps found h ∥₁ → ∥ keeps h ∥₁
+fact_out keeps found h t = ∥∥₁_map t (λ k. k.0)
+
+even_seated : (found : Marked) (was is : Held) → found ≡ marked_in was → IsSeated was is → IsEven found (marked_in is)
 even_seated found was is at seated =
     subst (λ (h : Held). IsEven found (marked_in h)) (sym seated.1) (subst (λ (m : Marked). IsEven found m) at (even_first found))
 
--- the same, where its pinners were taken before
-pub even_put : (found : Marked) (was mid is : Held) → found ≡ marked_in was → mid ≡ record was { pinners = [] } → IsSeated mid is → IsEven found (marked_in is)
-even_put found was mid is at same seated = even_seated found mid is (at ∙ sym (ap (λ (h : Held). marked_in h) same)) seated
+pub kept_seated : (keeps : Held → Type 0) (found : Marked) (was is : Held) → found ≡ marked_in was → ((h : Held) → IsTaken was h → keeps h) → IsSeated was is → IsKeptSince keeps found is
+kept_seated keeps found was is at first seated = (first is (inr (inr seated)), even_seated found was is at seated)
 
-pub even_compacting : (Honest : Type 0) (found : Marked) → IsKeptByCompaction Honest (λ h. IsEven found (marked_in h))
-even_compacting Honest found was is step even = omega (arith, even, ap length step.found.history, step.found.last)
+-- the same, where its pinners were taken before
+pub kept_put : (keeps : Held → Type 0) (found : Marked) (was mid is : Held) → found ≡ marked_in was → ((h : Held) → IsTaken was h → keeps h) → mid ≡ record was { pinners = [] } → IsSeated mid is
+    → IsKeptSince keeps found is
+kept_put keeps found was mid is at first same seated =
+    kept_seated keeps found was is at first (let here : IsSeated (record was { pinners = [] }) is = subst (λ (h : Held). IsSeated h is) same seated in here)
+
+pub kept_compacting : (Honest : Type 0) (keeps : Held → Type 0) (found : Marked) → IsKeptByCompaction Honest keeps → IsKeptByCompaction Honest (IsKeptSince keeps found)
+kept_compacting Honest keeps found kept was is step k = (kept was is step k.0, omega (arith, k.1, ap length step.found.history, step.found.last))
+
+pub kept_learning : (keeps : Held → Type 0) (found : Marked) (was is : Held) → IsKeptByLearning keeps → IsLearnt was is → IsKeptSince keeps found was → IsKeptSince keeps found is
+kept_learning keeps found was is kept learnt k = (kept was is learnt k.0, subst (λ (m : Marked). IsEven found m) (sym (ap marked_in learnt)) k.1)
 
 -- a batch that came in at one taking of the lock, and then the mark behind it
-pub came_next : (found mark now : Marked) (ws : List Write) (r : Ingested × List Entry) (t u : Told) → IsBroughtIn (λ h. IsEven found (marked_in h)) ws r t u
+pub came_next : (keeps : Held → Type 0) (found mark now : Marked) (ws : List Write) (r : Ingested × List Entry) (t u : Told) → IsBroughtIn (IsKeptSince keeps found) ws r t u
     → IsBehind found mark r.0 r.1 now → ComesNext ws mark now
-came_next found mark now ws r t u b behind =
-    next_is found mark now (marked_in b.0) ws r.0 r.1 (even_out found (marked_in b.0) b.2) b.3.ingests.first b.3.ingests.last (b.4 ∙ b.3.history) behind
+came_next keeps found mark now ws r t u b behind =
+    next_is found mark now (marked_in b.0) ws r.0 r.1 (even_out keeps found b.0 b.2) b.3.ingests.first b.3.ingests.last (b.4 ∙ b.3.history) behind
 
 -- the last sequence after an ingest
 pub ingested_last : (old new : Held) (ws : List Write) (r : Ingested) (was is : Told) → Ingests old new ws r was is → new.slots.version.last ≡ old.slots.version.last + length ws
@@ -119,3 +132,11 @@ even_stays found was is history last even = omega (arith, even, ap length histor
 pub even_ingest : (Refused : Asked → ShelfFault → Type 0) (found : Marked) (ws : List Write) → IsKeptByIngest Refused ws (λ h. IsEven found (marked_in h))
 even_ingest Refused found ws was is (inl b) even = even_in found was is ws b.0 b.1 b.2 b.3 even
 even_ingest Refused found ws was is (inr k) even = even_stays found was is k.3.history (ap (λ (s : Plain). s.last) k.3.event.2) even
+
+pub kept_ingest : (Refused : Asked → ShelfFault → Type 0) (keeps : Held → Type 0) (found : Marked) (ws : List Write) → IsKeptByIngest Refused ws keeps → IsKeptByIngest Refused ws (IsKeptSince keeps found)
+kept_ingest Refused keeps found ws kept was is step k = (kept was is step k.0, even_ingest Refused found ws was is step k.1)
+
+-- a batch that was refused at one taking of the lock
+pub kept_out : (Refused : Asked → ShelfFault → Type 0) (keeps : Held → Type 0) (found : Marked) (ws : List Write) (e : StateFault) (t u : Told) → IsKeptOut Refused (IsKeptSince keeps found) ws e t u
+    → IsKeptOut Refused keeps ws e t u
+kept_out Refused keeps found ws e t u k = (k.0, k.1, fact_out keeps found k.0 k.2, k.3)

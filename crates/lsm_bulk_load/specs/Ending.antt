@@ -14,6 +14,11 @@ use Rattle.lsm_bulk_load.specs.declared.load_fault.LoadFault.TheVariants.{Other,
 abbrev pub IsIdle : Held → Type 0
 IsIdle h = HasNoChoice h.slots.version (reserved_jobs h.live)
 
+-- A job was looked for, and what was reserved was given up again: no more may have changed than the
+-- live jobs and the next ticket.
+abbrev pub IsLooked : Held → Held → Type 0
+IsLooked was is = is ≡ record was { live = is.live; next_ticket = is.next_ticket }
+
 abbrev pub IsFaultless : WorkerEnd → Type 0
 IsFaultless e = e.fault ≡ None
 

@@ -1,5 +1,6 @@
 -- What clauses cite
 pub mod Marks
 pub mod Coming
+pub mod Keeping
 pub mod Ending
 pub mod Loading

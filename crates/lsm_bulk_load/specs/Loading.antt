@@ -13,6 +13,7 @@ use Rattle.lsm_lines.specs.declared.gathered.BatchEnd.{BatchEnd}
 use Rattle.lsm_lines.specs.declared.gathered.Gathered.{Gathered}
 use Rattle.lsm_lines.specs.declared.write_line_fault.WriteLineFault.{WriteLineFault}
 use Rattle.lsm_lines.specs.declared.write_line_fault.WriteLineFault.TheVariants as lines
+use Rattle.lsm_state.specs.Held.{Held}
 use Rattle.lsm_state.specs.declared.state_fault.StateFault.{StateFault}
 use Rattle.lsm_store.specs.Background.{IsKeptOut}
 use Rattle.lsm_store.specs.Workers.{IsWorkersEnd}
@@ -20,7 +21,7 @@ use Rattle.lsm_store.specs.declared.worker_end.WorkerEnd.{WorkerEnd}
 use Rattle.lsm_store.specs.declared.worker_fault.WorkerFault.{WorkerFault}
 use Rattle.lsm_bulk_load.specs.Coming.{CameIn, ComesNext}
 use Rattle.lsm_bulk_load.specs.Ending.{IsFirstFault}
-use Rattle.lsm_bulk_load.specs.Marks.{IsEven, Marked, marked_in}
+use Rattle.lsm_bulk_load.specs.Marks.{Marked}
 use Rattle.lsm_bulk_load.specs.declared.load_fault.LoadFault.{LoadFault}
 use Rattle.lsm_bulk_load.specs.declared.load_fault.LoadFault.TheVariants.{OutOfMemory, Shelf, Line}
 use Rattle.lsm_bulk_load.specs.declared.load_fault.LoadFault.TheVariants.{Ingest, Other, Worker}
@@ -68,24 +69,23 @@ pub record TakesBatch (old new : Pending) (was now : Marked) (p q : Progress) (e
 
 -- ---- refusals
 
--- Why the batch is not in, and what is in then: the store refused it, of which the fact held, and
+-- Why the batch is not in, and what is in then: the store refused it, of which this fact held, and
 -- nothing came in; or it came in, and so did another one between this and the one before.
-abbrev pub StaysOut : (Asked → ShelfFault → Type 0) → Marked → List Write → (was now : Marked)
-    → LoadFault → Type 0
-StaysOut Refused found batch was now (Ingest fault) =
-    (now ≡ was) × ((t : Told) × (u : Told)
-    × IsKeptOut Refused (λ h. IsEven found (marked_in h)) batch fault t u)
-StaysOut Refused found batch was now Other = IsLater now.history was.history
-StaysOut Refused found batch was now fault = ⊥
+abbrev pub StaysOut : (Asked → ShelfFault → Type 0) → (Held → Type 0) → List Write
+    → (was now : Marked) → LoadFault → Type 0
+StaysOut Refused keeps batch was now (Ingest fault) =
+    (now ≡ was) × ((t : Told) × (u : Told) × IsKeptOut Refused keeps batch fault t u)
+StaysOut Refused keeps batch was now Other = IsLater now.history was.history
+StaysOut Refused keeps batch was now fault = ⊥
 
 -- Why the next of these lines are not in, and what is in then: there was no memory for their batch;
 -- or it was gathered, and stayed out.
-abbrev pub IsNotTaken : (Asked → ShelfFault → Type 0) → Marked → Pending → (was now : Marked)
-    → LoadFault → Type 0
-IsNotTaken Refused found old was now OutOfMemory = now ≡ was
-IsNotTaken Refused found old was now fault =
+abbrev pub IsNotTaken : (Asked → ShelfFault → Type 0) → (Held → Type 0) → Pending
+    → (was now : Marked) → LoadFault → Type 0
+IsNotTaken Refused keeps old was now OutOfMemory = now ≡ was
+IsNotTaken Refused keeps old was now fault =
     (new : Pending) × (r : Gathered) × IsGathered old new r
-    × StaysOut Refused found r.batch was now fault
+    × StaysOut Refused keeps r.batch was now fault
 
 -- just the first lines that were to come are in, so many
 abbrev pub SomeAreIn : Pending → (found now : Marked) → Progress → Type 0
@@ -104,24 +104,24 @@ StopsBehind old found now p fault =
     (left : Option (List ℕ)) × Loads old left [] found now p × Stops old.form left fault
 
 -- The store refused the batch of the lines behind those that are in.
-abbrev pub KeepsNextOut : (Asked → ShelfFault → Type 0) → Marked → Pending → (found now : Marked)
-    → Progress → StateFault → Type 0
-KeepsNextOut Refused origin old found now p fault =
+abbrev pub KeepsNextOut : (Asked → ShelfFault → Type 0) → (Held → Type 0) → Pending
+    → (found now : Marked) → Progress → StateFault → Type 0
+KeepsNextOut Refused keeps old found now p fault =
     (left : Option (List ℕ)) × (held : List Write) × Loads old left held found now p
-    × IsNotTaken Refused origin (record { form = old.form; held = held; left = left }) now now
+    × IsNotTaken Refused keeps (record { form = old.form; held = held; left = left }) now now
     (Ingest fault)
 
 -- Which lines are in a store, up to this mark, and why not all are.
-abbrev pub IsStopped : (Asked → ShelfFault → Type 0) → Marked → Pending → (found now : Marked)
-    → Progress → LoadFault → Type 0
-IsStopped Refused origin old found now p (Line fault) = StopsBehind old found now p fault
-IsStopped Refused origin old found now p (Ingest fault) =
-    KeepsNextOut Refused origin old found now p fault
-IsStopped Refused origin old found now p OutOfMemory = SomeAreIn old found now p
-IsStopped Refused origin old found now p Other = SomeAreInToo old found now p
-IsStopped Refused origin old found now p (Shelf fault) = ⊥
-IsStopped Refused origin old found now p (Worker fault) = ⊥
-IsStopped Refused origin old found now p Due = ⊥
+abbrev pub IsStopped : (Asked → ShelfFault → Type 0) → (Held → Type 0) → Pending
+    → (found now : Marked) → Progress → LoadFault → Type 0
+IsStopped Refused keeps old found now p (Line fault) = StopsBehind old found now p fault
+IsStopped Refused keeps old found now p (Ingest fault) =
+    KeepsNextOut Refused keeps old found now p fault
+IsStopped Refused keeps old found now p OutOfMemory = SomeAreIn old found now p
+IsStopped Refused keeps old found now p Other = SomeAreInToo old found now p
+IsStopped Refused keeps old found now p (Shelf fault) = ⊥
+IsStopped Refused keeps old found now p (Worker fault) = ⊥
+IsStopped Refused keeps old found now p Due = ⊥
 
 -- Workers ended, the first one in their order that has a fault with this one.
 abbrev pub EndedBy : Type 0 → WorkerFault → Type 0
@@ -130,18 +130,18 @@ EndedBy Honest fault = (ends : List WorkerEnd) × All (IsWorkersEnd Honest) ends
 
 -- Which lines are in the state behind a load, and why all is not done: nothing began; all lines are
 -- in, and a worker had ended early, or something is due; or not all are.
-abbrev pub IsUnloaded : (Asked → ShelfFault → Type 0) → Type 0 → Marked → Pending
-    → (found now : Marked) → Progress → LoadFault → Type 0
-IsUnloaded Refused Honest origin old found now p (Shelf fault) =
+abbrev pub IsUnloaded : (Asked → ShelfFault → Type 0) → Type 0 → (Held → Type 0)
+    → Pending → (found now : Marked) → Progress → LoadFault → Type 0
+IsUnloaded Refused Honest keeps old found now p (Shelf fault) =
     (now ≡ found) × (p ≡ record { lines = 0; batches = 0 })
-IsUnloaded Refused Honest origin old found now p (Worker fault) =
+IsUnloaded Refused Honest keeps old found now p (Worker fault) =
     IsLoaded old found now p × EndedBy Honest fault
-IsUnloaded Refused Honest origin old found now p Due = IsLoaded old found now p
-IsUnloaded Refused Honest origin old found now p (Line fault) =
-    IsStopped Refused origin old found now p (Line fault)
-IsUnloaded Refused Honest origin old found now p (Ingest fault) =
-    IsStopped Refused origin old found now p (Ingest fault)
-IsUnloaded Refused Honest origin old found now p OutOfMemory =
-    IsStopped Refused origin old found now p OutOfMemory
-IsUnloaded Refused Honest origin old found now p Other =
-    IsStopped Refused origin old found now p Other
+IsUnloaded Refused Honest keeps old found now p Due = IsLoaded old found now p
+IsUnloaded Refused Honest keeps old found now p (Line fault) =
+    IsStopped Refused keeps old found now p (Line fault)
+IsUnloaded Refused Honest keeps old found now p (Ingest fault) =
+    IsStopped Refused keeps old found now p (Ingest fault)
+IsUnloaded Refused Honest keeps old found now p OutOfMemory =
+    IsStopped Refused keeps old found now p OutOfMemory
+IsUnloaded Refused Honest keeps old found now p Other =
+    IsStopped Refused keeps old found now p Other

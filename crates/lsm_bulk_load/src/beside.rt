@@ -2,8 +2,11 @@
 
 ghost use Rattle.std.specs.Prelude.{◌≡◌, [], All, IfErr, IfSome, OnOk};
 ghost use Rattle.lsm_shelf.specs.Told.{Forked};
+ghost use Rattle.lsm_state.specs.Held.{Held};
+ghost use Rattle.lsm_store.specs.Compacting.{IsKeptByCompaction};
 ghost use Rattle.lsm_store.specs.Workers.{IsWorkersEnd};
-ghost use Rattle.lsm_bulk_load.specs.Ending.{IsIdle};
+ghost use Rattle.lsm_bulk_load.specs.Ending.{IsIdle, IsLooked};
+ghost use Rattle.lsm_bulk_load.specs.Keeping.{IsKeptByAll, IsOfLines, IsTaken};
 ghost use Rattle.lsm_bulk_load.specs.Loading.{IsLoaded, IsStopped, IsUnloaded};
 ghost use Rattle.lsm_bulk_load.specs.Marks.{IsEven, marked_in};
 
@@ -44,8 +47,8 @@ pub struct Loaded<N: Boarded, S: Shelf> {
 }
 
 /// Loads the lines of an input into a store, while its workers compact until nothing is due. None
-/// where there was no memory for the workers; then nothing came in of the lines.
-#[tactic(auto, using(crate::proofs::MarkLaws::even_compacting))]
+/// where there was no memory for the workers; then nothing came in of the lines. The fact of the
+/// lock is one that workers keep, and the ingest of each batch that lines of the input spell.
 fn load_all<N: Boarded, S: Shelf, O: Origin, R: Threads + Wait + Sync, I: Read + Drop, T: Teller>(
     rt: &R,
     alloc: Global,
@@ -54,12 +57,15 @@ fn load_all<N: Boarded, S: Shelf, O: Origin, R: Threads + Wait + Sync, I: Read +
     lines: BatchReader<I>,
     teller: &mut T,
 ) -> (Option<Answer<N, O>>, State<N, S>)
-    requires { lines.held ≡ [] }
+    requires held { lines.held ≡ [] }
+    requires asked { IsKeptByAll (S.refuses N.place) (IsOfLines lines) O.keeps }
+    requires workers { IsKeptByCompaction S.honest O.keeps }
     ensures loaded { IfSome result.0 (λ a.
         OnOk a.0.0 (IsLoaded lines mark a.0.1 a.0.2)) }
     ensures refused { IfSome result.0 (λ a. IfErr a.0.0 (λ e.
-        IsStopped (S.refuses N.place) O.found lines mark a.0.1 a.0.2 e)) }
+        IsStopped (S.refuses N.place) O.keeps lines mark a.0.1 a.0.2 e)) }
     ensures ends { IfSome result.0 (λ a. All (IsWorkersEnd S.honest) a.1.items) }
+    ensures kept { ∥ O.keeps result.1 ∥₁ }
     ensures even { IsEven O.found (marked_in result.1) }
 {
     let Crew {
@@ -76,10 +82,11 @@ fn load_all<N: Boarded, S: Shelf, O: Origin, R: Threads + Wait + Sync, I: Read +
         shelves,
         &NoGate,
         move |background: &Background| -> (Result<(), LoadFault>, Mark<N, O>, Progress)
-            requires { lines.held ≡ [] }
+            requires held { lines.held ≡ [] }
+            requires asked { IsKeptByAll (S.refuses N.place) (IsOfLines lines) O.keeps }
             ensures loaded { OnOk result.0 (IsLoaded lines mark result.1 result.2) }
             ensures refused { IfErr result.0 (λ e.
-                IsStopped (S.refuses N.place) O.found lines mark result.1 result.2 e) }
+                IsStopped (S.refuses N.place) O.keeps lines mark result.1 result.2 e) }
         {
             let mut own = own;
             let mut lines = lines;
@@ -104,7 +111,9 @@ fn load_all<N: Boarded, S: Shelf, O: Origin, R: Threads + Wait + Sync, I: Read +
 ///
 /// The state comes back. It is just as far as the lines made it that are counted; only behind
 /// `Other` it goes on from there. All of them are lines before the first one that is no write of a
-/// batch, where one is not.
+/// batch, where one is not. In any case the fact held of it that the caller picked, before a job
+/// was looked for: one that holds of the state that was found, and is kept by workers, and by the
+/// ingest of each batch that lines of the input spell.
 #[tactic(auto, using(crate::proofs::EndingLaws::finished, crate::proofs::EndingLaws::unfinished, crate::proofs::EndingLaws::unbegun, crate::proofs::MarkLaws::even_first))]
 pub fn load_beside<N, S, O, R, I, T>(
     rt: &R,
@@ -124,10 +133,14 @@ where
     T: Teller,
     requires found { O.found ≡ marked_in state }
     requires held { lines.held ≡ [] }
+    requires first { (h : Held) → IsTaken state h → O.keeps h }
+    requires asked { IsKeptByAll (S.refuses N.place) (IsOfLines lines) O.keeps }
+    requires workers { IsKeptByCompaction S.honest O.keeps }
+    ensures kept { (h : Held) × ∥ O.keeps h ∥₁ × IsLooked h result.state }
     ensures loaded { OnOk result.done
         (IsLoaded lines (marked_in state) (marked_in result.state) result.progress) }
     ensures idle { OnOk result.done (S.honest → IsIdle result.state) }
-    ensures refused { IfErr result.done (λ e. IsUnloaded (S.refuses N.place) S.honest O.found
+    ensures refused { IfErr result.done (λ e. IsUnloaded (S.refuses N.place) S.honest O.keeps
         lines (marked_in state) (marked_in result.state) result.progress e) }
     ensures told { Forked shelf.old shelf.new }
 {

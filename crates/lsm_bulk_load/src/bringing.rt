@@ -2,7 +2,9 @@
 
 ghost use Rattle.std.specs.Prelude.{◌≡◌, ◌+◌, ◌≤◌, ◌^◌, IfErr, IfOk};
 ghost use Rattle.lsm_history.specs.History.{IsLater};
+ghost use Rattle.lsm_store.specs.Background.{IsKeptByIngest};
 ghost use Rattle.lsm_bulk_load.specs.Coming.{ComesNext};
+ghost use Rattle.lsm_bulk_load.specs.Keeping.{IsKeptByNext};
 ghost use Rattle.lsm_bulk_load.specs.Loading.{IsNotTaken, StaysOut, TakesBatch};
 ghost use Rattle.lsm_bulk_load.specs.Marks.{IsBehind};
 
@@ -35,7 +37,8 @@ fn mark_behind<N: Boarded, S: Shelf, O: Origin, R: Wait>(
     mark.behind(&mut store.lock(rt).state, came, memory)
 }
 
-/// Brings a batch into a store that is as far as a mark says, and marks how far it is then.
+/// Brings a batch into a store that is as far as a mark says, and marks how far it is then. The
+/// fact of the lock is one that the ingest of this batch keeps.
 ///
 /// A refusal has a mark too: `Ingest` this one, where the batch is not in; `Other` a later one,
 /// where it is in, and another batch is too.
@@ -48,9 +51,10 @@ pub fn bring_in<N: Boarded, S: Shelf, O: Origin, R: Wait>(
     batch: &Batch,
     mark: Mark<N, O>,
 ) -> Result<Mark<N, O>, (LoadFault, Mark<N, O>)>
+    requires asked { IsKeptByIngest (S.refuses N.place) batch.now O.keeps }
     ensures came { IfOk result (λ m. ComesNext batch.now mark m) }
     ensures refused { IfErr result (λ e.
-        StaysOut (S.refuses N.place) O.found batch.now mark e.1 e.0) }
+        StaysOut (S.refuses N.place) O.keeps batch.now mark e.1 e.0) }
 {
     let (came, memory) = match background.ingest(rt, alloc, store, shelf, batch) {
         Ok(came) => came,
@@ -76,10 +80,11 @@ pub(crate) fn take_batch<N: Boarded, S: Shelf, O: Origin, R: Wait, I: Read + Dro
 ) -> Result<(Mark<N, O>, Progress, BatchEnd), (LoadFault, Mark<N, O>)>
     requires lines { progress.lines + 2 ^ 64 ≤ 2 ^ 128 }
     requires batches { progress.batches + 2 ^ 64 ≤ 2 ^ 128 }
+    requires asked { IsKeptByNext (S.refuses N.place) lines.old O.keeps }
     ensures taken { IfOk result (λ r.
         TakesBatch lines.old lines.new mark r.0 progress r.1 r.2) }
     ensures refused { IfErr result (λ e.
-        IsNotTaken (S.refuses N.place) O.found lines.old mark e.1 e.0) }
+        IsNotTaken (S.refuses N.place) O.keeps lines.old mark e.1 e.0) }
 {
     let Ok(gathered) = lines.next(alloc) else {
         return Err((LoadFault::OutOfMemory, mark));

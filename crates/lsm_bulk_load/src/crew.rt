@@ -1,7 +1,9 @@
 //! A store that is loaded, and the shelves beside it.
 
-ghost use Rattle.std.specs.Prelude.{◌≡◌, IfErr, IfOk, vec_len};
+ghost use Rattle.std.specs.Prelude.{◌≡◌, [], IfErr, IfOk, vec_len};
 ghost use Rattle.lsm_shelf.specs.Told.{Forked, NotNamed};
+ghost use Rattle.lsm_state.specs.Held.{Held};
+ghost use Rattle.lsm_bulk_load.specs.Keeping.{IsTaken};
 ghost use Rattle.lsm_bulk_load.specs.Marks.{marked_in};
 
 use crate::origin::{Grown, Origin};
@@ -71,9 +73,8 @@ where
 }
 
 impl<N: Boarded, S: Shelf, O: Origin> Crew<N, S, O> {
-    /// The store of a state, which has no readers, and forks of its shelf. A refusal hands the
-    /// state back.
-    #[tactic(auto, using(crate::proofs::MarkLaws::even_put))]
+    /// The store of a state, which has no readers, and forks of its shelf. The fact of the lock is
+    /// one that holds of the state that was found. A refusal hands the state back.
     pub(crate) fn new(
         alloc: Global,
         state: State<N, S>,
@@ -81,8 +82,9 @@ impl<N: Boarded, S: Shelf, O: Origin> Crew<N, S, O> {
         workers: usize,
     ) -> Result<Crew<N, S, O>, (State<N, S>, ShelfFault)>
         requires found { O.found ≡ marked_in state }
+        requires first { (h : Held) → IsTaken state h → O.keeps h }
         ensures count { IfOk result (λ c. vec_len c.shelves ≡ workers) }
-        ensures back { IfErr result (λ e. marked_in e.0 ≡ marked_in state) }
+        ensures back { IfErr result (λ e. e.0 ≡ record state { pinners = [] }) }
         ensures cause { IfErr result (λ e. NotNamed e.1) }
         ensures told { Forked shelf.old shelf.new }
     {

@@ -1,7 +1,7 @@
 //! What is left behind the lines: whether workers ended early, and whether nothing is due.
 
 ghost use Rattle.std.specs.Prelude.{◌≡◌, All, IfErr, OnErr, OnOk};
-ghost use Rattle.lsm_bulk_load.specs.Ending.{IsFaultless, IsFirstFault, IsIdle, IsLate};
+ghost use Rattle.lsm_bulk_load.specs.Ending.{IsFaultless, IsFirstFault, IsIdle, IsLate, IsLooked};
 ghost use Rattle.lsm_bulk_load.specs.Marks.{IsEven, marked_in};
 ghost use Rattle.lsm_bulk_load.specs.declared.load_fault.LoadFault.TheVariants.{Due};
 
@@ -34,19 +34,32 @@ fn judge(ends: &[WorkerEnd]) -> Result<(), WorkerFault>
     Ok(())
 }
 
+/// Gives a job up again.
+fn give_up<N: Boarded, S: Shelf>(state: &mut State<N, S>, ticket: u64)
+    ensures { state.new ≡ record state.old { live = state.new.live } }
+{
+    match state.cancel(ticket) {
+        Ok(()) => {}
+        // A job that is not live needs no cancel.
+        Err(_) => {}
+    }
+}
+
 /// Whether there is nothing to compact. What is chosen is given up again.
+#[tactic(auto, using(crate::proofs::EndingLaws::looked_none, crate::proofs::EndingLaws::looked_mark))]
 fn nothing_is_due<N: Boarded, S: Shelf>(
     alloc: Global,
     state: &mut State<N, S>,
 ) -> Result<(), LoadFault>
     ensures idle { OnOk result (S.honest → IsIdle state.new) }
     ensures due { IfErr result (λ e. e ≡ Due) }
+    ensures looked { IsLooked state.old state.new }
     ensures same { marked_in state.new ≡ marked_in state.old }
 {
     match state.reserve(alloc) {
         Ok(None) => Ok(()),
         Ok(Some(job)) => {
-            let _ = state.cancel(job.ticket());
+            give_up(state, job.ticket());
             Err(LoadFault::Due)
         }
         Err(_) => Err(LoadFault::Due),
@@ -55,7 +68,7 @@ fn nothing_is_due<N: Boarded, S: Shelf>(
 
 /// Whether all is done, where lines came in up to a mark, and workers ended so: the state is just
 /// as far as the mark, all lines are in, no worker ended early, and nothing is due.
-#[tactic(auto, using(crate::proofs::EndingLaws::late_other, crate::proofs::EndingLaws::late_lines, crate::proofs::EndingLaws::late_worker, crate::proofs::EndingLaws::late_due, crate::proofs::EndingLaws::none_refused))]
+#[tactic(auto, using(crate::proofs::EndingLaws::late_other, crate::proofs::EndingLaws::late_lines, crate::proofs::EndingLaws::late_worker, crate::proofs::EndingLaws::late_due, crate::proofs::EndingLaws::none_refused, crate::proofs::EndingLaws::looked_none))]
 pub(crate) fn finish<N: Boarded, S: Shelf, O: Origin>(
     alloc: Global,
     mark: Mark<N, O>,
@@ -68,6 +81,7 @@ pub(crate) fn finish<N: Boarded, S: Shelf, O: Origin>(
     ensures loaded { OnOk result (OnErr loaded ⊥) }
     ensures idle { OnOk result (S.honest → IsIdle state.new) }
     ensures faultless { OnOk result (All IsFaultless ends.now) }
+    ensures looked { IsLooked state.old state.new }
     ensures late { IfErr result (λ e. IsLate mark (marked_in state.new) loaded ends.now e) }
 {
     if !mark.is_of(state) {

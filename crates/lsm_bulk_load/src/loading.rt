@@ -1,6 +1,7 @@
 //! Lines come into a store.
 
 ghost use Rattle.std.specs.Prelude.{◌≡◌, [], IfErr, OnOk};
+ghost use Rattle.lsm_bulk_load.specs.Keeping.{IsKeptByAll, IsOfLines};
 ghost use Rattle.lsm_bulk_load.specs.Loading.{IsLoaded, IsStopped};
 
 use crate::bringing::take_batch;
@@ -19,7 +20,8 @@ use std::sync::Wait;
 
 /// Brings the lines of an input, of which none was gathered yet, into a store that is as far as a
 /// mark says, as batches, one after another, while its workers compact beside. How far it is then,
-/// and how much came in.
+/// and how much came in. The fact of the lock is one that the ingest of each batch keeps that lines
+/// of the input spell.
 ///
 /// A refusal leaves whole batches: the mark is behind them, and the progress says how many lines
 /// they are, which are all lines before the first one that is no write of a batch, where one is
@@ -34,10 +36,11 @@ pub fn load<N: Boarded, S: Shelf, O: Origin, R: Wait, I: Read + Drop, T: Teller>
     mark: Mark<N, O>,
     teller: &mut T,
 ) -> (Result<(), LoadFault>, Mark<N, O>, Progress)
-    requires { lines.old.held ≡ [] }
+    requires held { lines.old.held ≡ [] }
+    requires asked { IsKeptByAll (S.refuses N.place) (IsOfLines lines.old) O.keeps }
     ensures loaded { OnOk result.0 (IsLoaded lines.old mark result.1 result.2) }
     ensures refused { IfErr result.0 (λ e.
-        IsStopped (S.refuses N.place) O.found lines.old mark result.1 result.2 e) }
+        IsStopped (S.refuses N.place) O.keeps lines.old mark result.1 result.2 e) }
 {
     let mut mark = mark;
     let mut progress = Progress::none();

@@ -1,7 +1,8 @@
 //! One benchmark after another.
 
 ghost use Rattle.std.specs.Prelude.{◌≡◌, ◌/◌, ◌≤◌, IfOk, false, true};
-ghost use Rattle.lsm_cmd_bench.specs.Filled.{Fills, Runs, RunsAll};
+ghost use Rattle.lsm_bulk_load.specs.Keeping.{IsKeptByLearning};
+ghost use Rattle.lsm_cmd_bench.specs.Filled.{Fills, IsKeptByPairs, Runs, RunsAll};
 
 use crate::bench_fault::BenchFault;
 use crate::draws::Draws;
@@ -123,7 +124,9 @@ fn run_both<N: Boarded, S: Shelf, O: Origin, R: Threads + Wait + Sync>(
     keys: u64,
     found: &mut Found,
 ) -> Result<Mark<N, O>, BenchFault>
-    requires { filling.pairs ≤ filling.keys }
+    requires within { filling.pairs ≤ filling.keys }
+    requires kept { IsKeptByPairs (S.refuses N.place) filling.keys filling.size O.keeps }
+    requires readers { IsKeptByLearning O.keeps }
     ensures { IfOk result
         (Fills filling.keys filling.size filling.ascends filling.pairs mark) }
 {
@@ -131,9 +134,12 @@ fn run_both<N: Boarded, S: Shelf, O: Origin, R: Threads + Wait + Sync>(
     let (readers, draws) = (&mut tools.readers, &mut tools.draws);
     let (read, written) = join(
         rt,
-        move || read_drawn(rt, alloc, store, readers, keys, draws, found),
+        move || -> Result<(), BenchFault>
+            requires readers { IsKeptByLearning O.keeps }
+        { read_drawn(rt, alloc, store, readers, keys, draws, found) },
         move || -> Result<Mark<N, O>, BenchFault>
-            requires { filling.pairs ≤ filling.keys }
+            requires within { filling.pairs ≤ filling.keys }
+            requires kept { IsKeptByPairs (S.refuses N.place) filling.keys filling.size O.keeps }
             ensures { IfOk result
                 (Fills filling.keys filling.size filling.ascends filling.pairs mark) }
         {
@@ -163,6 +169,9 @@ fn run_one<N: Boarded, S: Shelf, O: Origin, R: Threads + Wait + Sync>(
     options: &BenchOptions,
     found: &mut Found,
 ) -> Result<Mark<N, O>, BenchFault>
+    requires kept { IsKeptByPairs (S.refuses N.place) options.now.num options.now.value_size
+        O.keeps }
+    requires readers { IsKeptByLearning O.keeps }
     ensures { IfOk result (Runs options.now.num options.now.value_size benchmark mark) }
 {
     let keys = options.num;
@@ -237,6 +246,9 @@ fn measure<N: Boarded, S: Shelf, O: Origin, R: Threads + Wait + Clock + Sync, W:
     options: &BenchOptions,
     out: &mut W,
 ) -> Result<Mark<N, O>, BenchFault>
+    requires kept { IsKeptByPairs (S.refuses N.place) options.now.num options.now.value_size
+        O.keeps }
+    requires readers { IsKeptByLearning O.keeps }
     ensures { IfOk result (Runs options.now.num options.now.value_size benchmark mark) }
 {
     let begun = begin_now(rt)?;
@@ -266,6 +278,9 @@ where
     O: Origin,
     R: Threads + Wait + Clock + Sync,
     W: Write,
+    requires kept { IsKeptByPairs (S.refuses N.place) options.now.num options.now.value_size
+        O.keeps }
+    requires readers { IsKeptByLearning O.keeps }
     ensures { IfOk result
         (RunsAll options.now.num options.now.value_size benchmarks.now mark) }
 {

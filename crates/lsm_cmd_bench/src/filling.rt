@@ -4,7 +4,7 @@ ghost use Rattle.std.specs.Prelude.{◌≡◌, ◌∷◌, ◌++◌, ◌+◌, ◌
 ghost use Rattle.lsm_batch.specs.declared.write.Write.{Write};
 ghost use Rattle.lsm_lines.specs.LastWrites.{KeepsLast};
 ghost use Rattle.lsm_bulk_load.specs.Coming.{ComesNext};
-ghost use Rattle.lsm_cmd_bench.specs.Filled.{Fills};
+ghost use Rattle.lsm_cmd_bench.specs.Filled.{Fills, IsKeptByPairs};
 ghost use Rattle.lsm_cmd_bench.specs.Pairs.{ArePairs, IsPairAt};
 
 use crate::bench_fault::BenchFault;
@@ -133,7 +133,8 @@ fn bring_next<N: Boarded, S: Shelf, O: Origin, R: Wait>(
     draws: &mut Draws,
     mark: Mark<N, O>,
 ) -> Result<Mark<N, O>, BenchFault>
-    requires { first + count ≤ filling.keys }
+    requires within { first + count ≤ filling.keys }
+    requires kept { IsKeptByPairs (S.refuses N.place) filling.keys filling.size O.keeps }
     ensures { IfOk result (λ m. (ws : List Write)
         × ArePairs filling.keys filling.size filling.ascends first ws × (length ws ≡ count)
         × (batch : List Write) × KeepsLast ws batch × ComesNext batch mark m) }
@@ -157,7 +158,8 @@ pub(crate) fn fill<N: Boarded, S: Shelf, O: Origin, R: Wait>(
     draws: &mut Draws,
     mark: Mark<N, O>,
 ) -> Result<Mark<N, O>, BenchFault>
-    requires { filling.pairs ≤ filling.keys }
+    requires within { filling.pairs ≤ filling.keys }
+    requires kept { IsKeptByPairs (S.refuses N.place) filling.keys filling.size O.keeps }
     ensures { IfOk result
         (Fills filling.keys filling.size filling.ascends filling.pairs mark) }
 {

@@ -1,8 +1,8 @@
 //! One run of `bench`.
 
-ghost use Rattle.std.specs.Prelude.{◌≡◌, ◌≢◌, IfOk, OnOk};
+ghost use Rattle.std.specs.Prelude.{◌≡◌, ◌≢◌, IfOk, OnErr, OnOk};
 ghost use Rattle.std.specs.Io.KnownBytes.{Keeps};
-ghost use Rattle.lsm_cmd_bench.specs.Benched.{BenchesAt};
+ghost use Rattle.lsm_cmd_bench.specs.Benched.{BenchesAt, FailsToBench};
 ghost use Rattle.lsm_directory.specs.Logs.{NoneUnread};
 ghost use Rattle.lsm_opening.specs.declared.prepared.Start.TheVariants.{Begin};
 
@@ -49,6 +49,8 @@ where
     R: Threads + Wait + Clock + Sync,
     O: Write,
     ensures done { OnOk result (BenchesAt C.FolderCalls path.now options.now) }
+    ensures refused { OnErr result (FailsToBench C.FolderCalls path.now options.now
+        (O.contents out.old) (O.contents out.new)) }
 {
     let mut folder = open_at(paths, path, reasons)?;
     let prepared = prepare(rt, paths.alloc(), &mut folder, plainly())?;
@@ -77,7 +79,8 @@ where
     O: Write,
     E: Write,
     ensures done { result ≡ 0 → BenchesAt C.FolderCalls path.now options.now }
-    ensures refused { result ≢ 0 → result ≡ 1 }
+    ensures refused { result ≢ 0 → (result ≡ 1) × FailsToBench C.FolderCalls path.now options.now
+        (O.contents out.old) (O.contents out.new) }
     ensures quiet { result ≡ 0 → Keeps (E.contents err.old) (E.contents err.new) }
 {
     let reasons = match Reasons::new(paths.alloc()) {

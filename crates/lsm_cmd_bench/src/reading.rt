@@ -1,5 +1,7 @@
 //! Pairs are read.
 
+ghost use Rattle.lsm_bulk_load.specs.Keeping.{IsKeptByLearning};
+
 use crate::bench_fault::BenchFault;
 use crate::draws::Draws;
 use crate::key::key_of;
@@ -41,7 +43,9 @@ fn read_key<N: Boarded, S: Shelf, O: Origin, R: Wait>(
     readers: &mut Vec<Reader<N, S>>,
     key: &[u8],
     found: &mut Found,
-) -> Result<(), BenchFault> {
+) -> Result<(), BenchFault>
+    requires readers { IsKeptByLearning O.keeps }
+{
     let mut view = view_now(rt, store, readers)?;
     let last = view.last();
     let value = view.get(alloc, key, last);
@@ -65,7 +69,9 @@ pub(crate) fn read_drawn<N: Boarded, S: Shelf, O: Origin, R: Wait>(
     keys: u64,
     draws: &mut Draws,
     found: &mut Found,
-) -> Result<(), BenchFault> {
+) -> Result<(), BenchFault>
+    requires readers { IsKeptByLearning O.keeps }
+{
     for _ in 0..keys {
         let key = key_of(draws.number_below(keys));
         read_key(rt, alloc, store, readers, &key, found)?;
@@ -109,7 +115,9 @@ pub(crate) fn read_all<N: Boarded, S: Shelf, O: Origin, R: Wait>(
     store: &Store<N, S, Grown<O>>,
     readers: &mut Vec<Reader<N, S>>,
     found: &mut Found,
-) -> Result<(), BenchFault> {
+) -> Result<(), BenchFault>
+    requires readers { IsKeptByLearning O.keeps }
+{
     let mut view = view_now(rt, store, readers)?;
     let read = read_pairs(alloc, &mut view, found);
     end(view, readers);

@@ -1,11 +1,13 @@
 //! Benchmarks on a new database, beside workers.
 
-ghost use Rattle.std.specs.Prelude.{◌≡◌, ◌≤◌, IfOk, Ok, OnOk, vec_len};
-ghost use Rattle.lsm_cmd_bench.specs.Benched.{IsBenchedOn};
-ghost use Rattle.lsm_cmd_bench.specs.Filled.{RunsAll};
+ghost use Rattle.std.specs.Prelude.{◌≡◌, ◌≤◌, IfErr, IfOk, Ok, OnErr, OnOk, vec_len};
+ghost use Rattle.lsm_cmd_bench.specs.Benched.{IsBenchedOn, IsUnbenched, Leaves};
+ghost use Rattle.lsm_cmd_bench.specs.Filled.{IsKeptByPairs, RunsAll};
+ghost use Rattle.lsm_bulk_load.specs.Keeping.{IsKeptByLearning, IsTaken};
 ghost use Rattle.lsm_bulk_load.specs.Marks.{IsEven, marked_in};
 ghost use Rattle.lsm_shelf.specs.Told.{Forked};
-ghost use Rattle.lsm_state.specs.Held.{Held, IsLawfulState};
+ghost use Rattle.lsm_state.specs.Held.{Held};
+ghost use Rattle.lsm_store.specs.Compacting.{IsKeptByCompaction};
 ghost use Rattle.lsm_store.specs.Readers.{SeatsPinners};
 ghost use Rattle.lsm_opening.specs.Parts.{AreOf, usual};
 
@@ -68,7 +70,6 @@ fn judged<N: Boarded, O: Origin>(
 
 /// Writes the head, and runs the benchmarks on a store while its workers compact. How far the store
 /// is then.
-#[tactic(auto, using(lsm_bulk_load::proofs::CallerLemmas::even_compacting))]
 fn run_beside<N, S, O, R, W>(
     rt: &R,
     alloc: Global,
@@ -85,6 +86,10 @@ where
     O: Origin,
     R: Threads + Wait + Clock + Sync,
     W: Write,
+    requires kept { IsKeptByPairs (S.refuses N.place) options.now.num options.now.value_size
+        O.keeps }
+    requires readers { IsKeptByLearning O.keeps }
+    requires workers { IsKeptByCompaction S.honest O.keeps }
     ensures { IfOk result (RunsAll options.now.num options.now.value_size
         options.now.benchmarks.items mark) }
 {
@@ -95,6 +100,9 @@ where
         shelves,
         &NoGate,
         move |background: &Background| -> Result<Mark<N, O>, BenchFault>
+            requires kept { IsKeptByPairs (S.refuses N.place) options.now.num options.now.value_size
+                O.keeps }
+            requires readers { IsKeptByLearning O.keeps }
             ensures { IfOk result (RunsAll options.entry.now.num options.entry.now.value_size
                 options.entry.now.benchmarks.items mark) }
         {
@@ -134,7 +142,11 @@ where
     O: Origin,
     R: Threads + Wait + Clock + Sync,
     W: Write,
-    requires { 1 ≤ vec_len shelves }
+    requires shelves { 1 ≤ vec_len shelves }
+    requires kept { IsKeptByPairs (S.refuses N.place) options.now.num options.now.value_size
+        O.keeps }
+    requires readers { IsKeptByLearning O.keeps }
+    requires workers { IsKeptByCompaction S.honest O.keeps }
     ensures { IfOk result (RunsAll options.now.num options.now.value_size
         options.now.benchmarks.items mark) }
 {
@@ -157,11 +169,8 @@ fn judge_state<N: Boarded, S: Shelf, O: Origin>(
     mark: Mark<N, O>,
 ) -> Result<(), BenchFault>
     requires { IsEven O.found (marked_in state.old) }
-    ensures mark { OnOk result (marked_in state.old ≡ mark) }
-    ensures lawful { IsLawfulState S.honest N.board state.old }
+    ensures { OnOk result (marked_in state.old ≡ mark) }
 {
-    // The law of the state is told by this call.
-    let _options = state.options();
     if mark.is_of(state) {
         return Ok(());
     }
@@ -185,13 +194,19 @@ where
     O: Origin,
     R: Threads + Wait + Clock + Sync,
     W: Write,
-    requires { 1 ≤ vec_len shelves }
-    ensures { OnOk result ((left : Held) × IsLawfulState S.honest N.board left
-        × RunsAll options.now.num options.now.value_size options.now.benchmarks.items
-        mark (marked_in left)) }
+    requires shelves { 1 ≤ vec_len shelves }
+    requires kept { IsKeptByPairs (S.refuses N.place) options.now.num options.now.value_size
+        O.keeps }
+    requires readers { IsKeptByLearning O.keeps }
+    requires workers { IsKeptByCompaction S.honest O.keeps }
+    ensures ran { OnOk result (Leaves S.honest N.board O.keeps (λ h. RunsAll options.now.num
+        options.now.value_size options.now.benchmarks.items mark (marked_in h))) }
+    ensures stopped { OnErr result (Leaves S.honest N.board O.keeps (λ _. Unit {0})) }
 {
     let came = run_with(rt, alloc, &store, readers, shelves, mark, options, out);
     let mut state = store.into_state();
+    // The law of the state is told by this call.
+    let _options = state.options();
     match came {
         Ok(mark) => judge_state(&mut state, mark),
         Err(fault) => Err(fault),
@@ -199,7 +214,6 @@ where
 }
 
 /// The store of a state, and its readers.
-#[tactic(auto, using(lsm_bulk_load::proofs::CallerLemmas::even_seated))]
 fn store_of<N: Boarded, S: Shelf, O: Origin>(
     alloc: Global,
     state: State<N, S>,
@@ -207,6 +221,7 @@ fn store_of<N: Boarded, S: Shelf, O: Origin>(
 ) -> Result<(Store<N, S, Grown<O>>, Vec<Reader<N, S>>), BenchFault>
     requires seats { SeatsPinners state }
     requires found { O.found ≡ marked_in state }
+    requires first { (h : Held) → IsTaken state h → O.keeps h }
 {
     match Store::new(alloc, state, reading) {
         Ok(made) => Ok(made),
@@ -238,11 +253,18 @@ where
     requires seats { SeatsPinners state }
     requires found { O.found ≡ marked_in state }
     requires shelves { 2 ≤ vec_len shelves }
-    ensures { OnOk result ((left : Held) × IsLawfulState S.honest N.board left
-        × RunsAll options.now.num options.now.value_size options.now.benchmarks.items
-        (marked_in state) (marked_in left)) }
+    requires first { (h : Held) → IsTaken state h → O.keeps h }
+    requires kept { IsKeptByPairs (S.refuses N.place) options.now.num options.now.value_size
+        O.keeps }
+    requires readers { IsKeptByLearning O.keeps }
+    requires workers { IsKeptByCompaction S.honest O.keeps }
+    ensures ran { OnOk result (Leaves S.honest N.board O.keeps (λ h. RunsAll options.now.num
+        options.now.value_size options.now.benchmarks.items (marked_in state) (marked_in h))) }
+    ensures stopped { OnErr result (Leaves S.honest N.board O.keeps (λ _. Unit {0})) }
 {
     let (mut state, mut shelves) = (state, shelves);
+    // The law of the state is told by this call.
+    let _options = state.options();
     let Some(reading) = shelves.pop() else {
         unreachable!()
     };
@@ -271,11 +293,18 @@ where
     W: Write,
     requires seats { SeatsPinners state }
     requires found { O.found ≡ marked_in state }
-    ensures ran { OnOk result ((left : Held) × IsLawfulState S.honest N.board left
-        × RunsAll options.now.num options.now.value_size options.now.benchmarks.items
-        (marked_in state) (marked_in left)) }
+    requires first { (h : Held) → IsTaken state h → O.keeps h }
+    requires kept { IsKeptByPairs (S.refuses N.place) options.now.num options.now.value_size
+        O.keeps }
+    requires readers { IsKeptByLearning O.keeps }
+    requires workers { IsKeptByCompaction S.honest O.keeps }
+    ensures ran { OnOk result (Leaves S.honest N.board O.keeps (λ h. RunsAll options.now.num
+        options.now.value_size options.now.benchmarks.items (marked_in state) (marked_in h))) }
+    ensures stopped { OnErr result (Leaves S.honest N.board O.keeps (λ _. Unit {0})) }
     ensures told { Forked shelf.old shelf.new }
 {
+    // The law of the state is told by this call.
+    let _options = state.options();
     match forks::<N, S>(alloc, shelf, options.workers.saturating_add(2)) {
         Ok(shelves) => run_shelves::<N, S, O, R, W>(rt, alloc, state, shelves, options, out),
         Err(fault) => {
@@ -296,7 +325,10 @@ fn run_named<N: Boarded, S: Shelf, R: Threads + Wait + Clock + Sync, W: Write>(
     out: &mut W,
 ) -> Result<(), BenchFault>
     requires parts { AreOf usual N.registry N.board N.history parts }
-    ensures { OnOk result (IsBenchedOn S.honest number options.now shelf.old shelf.new) }
+    ensures done { OnOk result (IsBenchedOn (S.refuses N.place) S.honest number options.now
+        shelf.old shelf.new) }
+    ensures fault { IfErr result (λ e. IsUnbenched (S.refuses N.place) S.honest number options.now
+        e shelf.old shelf.new) }
 {
     let state: State<N, S> = begin(rt, alloc, shelf, number, parts)?;
     match run_state::<N, S, Brand, R, W>(rt, alloc, state, shelf, options, out) {
@@ -317,8 +349,10 @@ fn run_as<N: Boarded, S: Shelf, R: Threads + Wait + Clock + Sync, W: Write>(
 ) -> (Result<(), BenchFault>, S)
     requires parts { AreOf usual N.registry N.board N.history parts }
     requires shelf { (S.told shelf).place ≡ N.place }
-    ensures { OnOk result.0
-        (IsBenchedOn S.honest number options.now (S.told shelf) (S.told result.1)) }
+    ensures done { OnOk result.0 (IsBenchedOn (S.refuses N.place) S.honest number options.now
+        (S.told shelf) (S.told result.1)) }
+    ensures fault { IfErr result.0 (λ e. IsUnbenched (S.refuses N.place) S.honest number
+        options.now e (S.told shelf) (S.told result.1)) }
 {
     let mut shelf: NamedShelf<N, S> = NamedShelf::of(shelf);
     let done = run_named(rt, alloc, &mut shelf, number, parts, options, out);
@@ -335,8 +369,10 @@ pub(crate) fn run_on<S: Shelf, R: Threads + Wait + Clock + Sync, W: Write>(
     options: &BenchOptions,
     out: &mut W,
 ) -> (Result<(), BenchFault>, S)
-    ensures { OnOk result.0
-        (IsBenchedOn S.honest number options.now (S.told shelf) (S.told result.1)) }
+    ensures done { OnOk result.0 (IsBenchedOn (S.refuses (S.told shelf).place) S.honest number
+        options.now (S.told shelf) (S.told result.1)) }
+    ensures fault { IfErr result.0 (λ e. IsUnbenched (S.refuses (S.told shelf).place) S.honest
+        number options.now e (S.told shelf) (S.told result.1)) }
 {
     match NewParts::make(alloc) {
         Ok(parts) => run_as::<Brand, S, R, W>(rt, alloc, shelf, number, parts, options, out),

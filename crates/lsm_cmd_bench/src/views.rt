@@ -1,7 +1,6 @@
 //! A view of the newest version.
 
-ghost use Rattle.std.specs.Prelude.{◌≡◌};
-ghost use Rattle.lsm_bulk_load.specs.Marks.{marked_in};
+ghost use Rattle.lsm_bulk_load.specs.Keeping.{IsKeptByLearning, IsLearnt};
 
 use lsm_bulk_load::{Grown, Origin};
 use lsm_slots::Boarded;
@@ -16,7 +15,7 @@ fn view_of<N: Boarded, S: Shelf>(
     state: &mut State<N, S>,
     reader: Reader<N, S>,
 ) -> Result<View<N, S>, StateFault>
-    ensures { marked_in state.new ≡ marked_in state.old }
+    ensures { IsLearnt state.old state.new }
 {
     let mut reader = reader;
     if reader.refresh(state).is_err() {
@@ -38,7 +37,9 @@ pub(crate) fn view_now<N: Boarded, S: Shelf, O: Origin, R: Wait>(
     rt: &R,
     store: &Store<N, S, Grown<O>>,
     readers: &mut Vec<Reader<N, S>>,
-) -> Result<View<N, S>, StateFault> {
+) -> Result<View<N, S>, StateFault>
+    requires readers { IsKeptByLearning O.keeps }
+{
     let Some(reader) = readers.pop() else {
         return Err(StateFault::OutOfMemory);
     };

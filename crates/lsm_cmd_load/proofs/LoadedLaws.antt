@@ -5,20 +5,21 @@ use Rattle.atomic_table.specs.Seated.{TableId}
 use Rattle.lsm_shelf.specs.Asked.{Asked}
 use Rattle.lsm_shelf.specs.Told.{Forked, Told}
 use Rattle.lsm_shelf.specs.declared.shelf_fault.ShelfFault.{ShelfFault}
+use Rattle.lsm_slots.specs.Slots.{Looked, Slotted}
 use Rattle.lsm_state.specs.Held.{Held}
 use Rattle.lsm_state.specs.declared.state_fault.StateFault.{StateFault}
 use Rattle.lsm_text.specs.declared.form.Form.{Form}
 use Rattle.lsm_directory.specs.declared.folder.folder_file.FolderFile.{FolderFile}
 use Rattle.lsm_lines.specs.Gathering.{Pending}
 use Rattle.lsm_lines.specs.Passing.{PassesLines}
-use Rattle.lsm_bulk_load.specs.Ending.{IsIdle}
+use Rattle.lsm_bulk_load.specs.Ending.{IsIdle, IsLooked}
 use Rattle.lsm_bulk_load.specs.Loading.{IsLoaded}
 use Rattle.lsm_bulk_load.specs.Marks.{Marked, marked_in}
 use Rattle.lsm_bulk_load.specs.declared.progress.Progress.{Progress}
 use Rattle.lsm_opening.specs.Compactions.{IsSwept, Refuses}
 use Rattle.lsm_opening.specs.Starting.{IsStarted}
 use Rattle.lsm_opening.specs.declared.prepared.Start.{Start}
-use Rattle.lsm_cmd_load.specs.Loaded.{IsToCome, IsUnswept, LoadsAll, LoadsWhole}
+use Rattle.lsm_cmd_load.specs.Loaded.{HasComeBy, IsToCome, IsUnswept, LoadsAll, LoadsWhole}
 
 -- the lines that are still to come, behind those that were passed over
 pub to_come : (form : Form) (from count : ℕ) (input : Option (List ℕ)) (old new : Pending) → old ≡ record { form = form; held = []; left = input } → count ≡ from - 1
@@ -30,38 +31,57 @@ to_come form from count input old new made is passed rest = (
   rest ∙ ap (λ (p : Pending). record p { left = new.left }) made,
 )
 
--- all lines came in; what is left is just as far as the state behind them
-pub loads_all : (Honest : Type 0) (start : Start) (logs : List FolderFile) (pending : Pending) (p : Progress) (found loaded left : Held) (was opened is : Told)
-    → IsStarted Honest start logs found was opened → IsLoaded pending (marked_in found) (marked_in loaded) p → (Honest → IsIdle left) → Forked opened is → marked_in left ≡ marked_in loaded
-    → LoadsAll Honest start logs pending p left was is
-loads_all Honest start logs pending p found loaded left was opened is started all idle forked same = record {
+both_rest : (behind loaded left : Held) → IsLooked behind loaded → left ≡ record loaded { slots = left.slots }
+    → left ≡ record behind { slots = left.slots; live = left.live; next_ticket = left.next_ticket }
+both_rest behind loaded left judged rest =
+    let whole : left ≡ record behind { slots = left.slots; live = loaded.live; next_ticket = loaded.next_ticket } = rest ∙ ap (λ (h : Held). record h { slots = left.slots }) judged in
+    whole ∙ ap (λ (h : Held). record behind { slots = left.slots; live = h.live; next_ticket = h.next_ticket }) (sym rest)
+
+-- all lines came in; what is left is just as far as the state behind them, of which slots alone were looked at
+pub record Behind (Refused : Asked → ShelfFault → Type 0) (Honest : Type 0) (pending : Pending) (found loaded left : Held) : Type 0 where
+  pub behind : Held
+  pub come : ∥ HasComeBy Refused Honest pending found behind ∥₁
+  pub judged : IsLooked behind loaded
+  pub looked : Looked loaded.slots left.slots
+  pub rest : left ≡ record loaded { slots = left.slots }
+  pub idle : Honest → IsIdle left
+  pub same : marked_in left ≡ marked_in loaded
+
+pub loads_all : (Refused : Asked → ShelfFault → Type 0) (Honest : Type 0) (start : Start) (logs : List FolderFile) (pending : Pending) (p : Progress) (found loaded left : Held) (was opened is : Told)
+    → IsStarted Honest start logs found was opened → IsLoaded pending (marked_in found) (marked_in loaded) p → Behind Refused Honest pending found loaded left → Forked opened is
+    → LoadsAll Refused Honest start logs pending p left was is
+loads_all Refused Honest start logs pending p found loaded left was opened is started all behind forked = record {
   found = found;
   mid = opened;
   started = started;
-  loaded = subst (λ (m : Marked). IsLoaded pending (marked_in found) m p) (sym same) all;
-  idle = idle;
+  behind = behind.behind;
+  come = behind.come;
+  looked = subst (λ (s : Slotted). Looked s left.slots) (ap (λ (h : Held). h.slots) behind.judged) behind.looked;
+  rest = both_rest behind.behind loaded left behind.judged behind.rest;
+  loaded = subst (λ (m : Marked). IsLoaded pending (marked_in found) m p) (sym behind.same) all;
+  idle = behind.idle;
   forked = forked;
 }
 
-pub loads_whole : (Honest : Type 0) (start : Start) (logs : List FolderFile) (pending : Pending) (p : Progress) (board : TableId) (found loaded left : Held) (was opened mid is : Told)
-    → IsStarted Honest start logs found was opened → IsLoaded pending (marked_in found) (marked_in loaded) p → (Honest → IsIdle left) → Forked opened mid → marked_in left ≡ marked_in loaded
-    → IsSwept Honest board left mid is → LoadsWhole Honest start logs pending p was is
-loads_whole Honest start logs pending p board found loaded left was opened mid is started all idle forked same swept = record {
+pub loads_whole : (Refused : Asked → ShelfFault → Type 0) (Honest : Type 0) (start : Start) (logs : List FolderFile) (pending : Pending) (p : Progress) (board : TableId) (found loaded left : Held) (was opened mid is : Told)
+    → IsStarted Honest start logs found was opened → IsLoaded pending (marked_in found) (marked_in loaded) p → Behind Refused Honest pending found loaded left → Forked opened mid
+    → IsSwept Honest board left mid is → LoadsWhole Refused Honest start logs pending p was is
+loads_whole Refused Honest start logs pending p board found loaded left was opened mid is started all behind forked swept = record {
   left = left;
   mid = mid;
-  loads = loads_all Honest start logs pending p found loaded left was opened mid started all idle forked same;
+  loads = loads_all Refused Honest start logs pending p found loaded left was opened mid started all behind forked;
   board = board;
   swept = swept;
 }
 
 pub unswept : (Refused : Asked → ShelfFault → Type 0) (Honest : Type 0) (start : Start) (logs : List FolderFile) (pending : Pending) (p : Progress) (fault : StateFault) (board : TableId)
-    (found loaded left : Held) (was opened mid is : Told) → IsStarted Honest start logs found was opened → IsLoaded pending (marked_in found) (marked_in loaded) p → (Honest → IsIdle left) → Forked opened mid
-    → marked_in left ≡ marked_in loaded → Refuses Refused Honest board left fault mid is → IsUnswept Refused Honest start logs pending fault was is
-unswept Refused Honest start logs pending p fault board found loaded left was opened mid is started all idle forked same refuses = record {
+    (found loaded left : Held) (was opened mid is : Told) → IsStarted Honest start logs found was opened → IsLoaded pending (marked_in found) (marked_in loaded) p
+    → Behind Refused Honest pending found loaded left → Forked opened mid → Refuses Refused Honest board left fault mid is → IsUnswept Refused Honest start logs pending fault was is
+unswept Refused Honest start logs pending p fault board found loaded left was opened mid is started all behind forked refuses = record {
   p = p;
   left = left;
   mid = mid;
-  loads = loads_all Honest start logs pending p found loaded left was opened mid started all idle forked same;
+  loads = loads_all Refused Honest start logs pending p found loaded left was opened mid started all behind forked;
   board = board;
   refuses = refuses;
 }

@@ -20,7 +20,7 @@ use Rattle.lsm_cmd_load.specs.declared.stopped.Stopped.TheVariants.{Write}
 module _ {C M : Type 0} (folders : Ghosts C M) where
   pub loads_at : {T F : Type 0} (r : Result T F) (path : List ℕ) (options : LoadOptions) (input : Option (List ℕ)) (start : Start) (logs : List FolderFile) (begun ended : FileShelf C M)
       (old new : Option (List ℕ)) → IsShelfAt folders path (IsPrepared options.ingest start logs) begun
-      → OnOk r (IsInputLoaded (AreHonest folders.calls) start logs options input (told_by folders begun) (told_by folders ended) old new) → OnOk r (LoadsAt folders path options input old new)
+      → OnOk r (IsInputLoaded MayRefuse (AreHonest folders.calls) start logs options input (told_by folders begun) (told_by folders ended) old new) → OnOk r (LoadsAt folders path options input old new)
   loads_at (Ok x) path options input start logs begun ended old new on done = record { start = start; logs = logs; begun = begun; on = on; ended = ended; done = done }
   loads_at (Err e) path options input start logs begun ended old new on done = tt
 

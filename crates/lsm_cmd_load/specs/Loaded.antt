@@ -6,6 +6,7 @@ use Rattle.atomic_table.specs.Seated.{TableId}
 use Rattle.lsm_shelf.specs.Asked.{Asked}
 use Rattle.lsm_shelf.specs.Told.{Forked, Told}
 use Rattle.lsm_shelf.specs.declared.shelf_fault.ShelfFault.{ShelfFault}
+use Rattle.lsm_slots.specs.Slots.{Looked}
 use Rattle.lsm_state.specs.Held.{Held, IsLawfulState}
 use Rattle.lsm_state.specs.declared.state_fault.StateFault.{StateFault}
 use Rattle.lsm_text.specs.declared.form.Form.{Form}
@@ -18,7 +19,8 @@ use Rattle.lsm_opening.specs.Starting.{IsStartRefusal, IsStarted}
 use Rattle.lsm_opening.specs.declared.faults.writer_fault.WriterFault.TheVariants.{OutOfMemory}
 use Rattle.lsm_opening.specs.declared.faults.writer_fault.WriterFault.TheVariants.{Read}
 use Rattle.lsm_opening.specs.declared.prepared.Start.{Start}
-use Rattle.lsm_bulk_load.specs.Ending.{IsIdle}
+use Rattle.lsm_bulk_load.specs.Ending.{IsIdle, IsLooked}
+use Rattle.lsm_bulk_load.specs.Keeping.{HasComeTo, IsOfLines}
 use Rattle.lsm_bulk_load.specs.Loading.{IsLoaded, IsUnloaded}
 use Rattle.lsm_bulk_load.specs.Marks.{marked_in}
 use Rattle.lsm_bulk_load.specs.declared.load_fault.LoadFault.{LoadFault}
@@ -32,36 +34,52 @@ loaded_text p = codes "loaded "
     ++ (decimal p.lines ++ (codes " lines in "
     ++ (decimal p.batches ++ (codes " batches" ++ (10 ∷ [])))))
 
+-- The state came from the one that was begun or opened by steps of workers, and by ingests of
+-- batches alone that lines spell, of those that were to come.
+abbrev pub HasComeBy : (Asked → ShelfFault → Type 0) → Type 0 → Pending → (found h : Held) → Type 0
+HasComeBy Refused Honest pending found h = HasComeTo Refused Honest (IsOfLines pending) found h
+
 -- The directory was begun or opened, and all lines that were to come came into it, so many; over an
 -- honest shelf nothing was due behind them; after the opening the shelf was asked for forks alone.
-pub record LoadsAll (Honest : Type 0) (start : Start) (logs : List FolderFile) (pending : Pending)
-    (p : Progress) (left : Held) (was is : Told) : Type 0 where
+-- Of the state behind them no more changed then than slots that were looked at, live jobs, and the
+-- next ticket.
+pub record LoadsAll (Refused : Asked → ShelfFault
+    → Type 0) (Honest : Type 0) (start : Start) (logs : List FolderFile) (pending : Pending) (p
+    : Progress) (left : Held) (was is : Told) : Type 0 where
   pub found : Held
   pub mid : Told
   pub started : IsStarted Honest start logs found was mid
+  pub behind : Held
+  pub come : ∥ HasComeBy Refused Honest pending found behind ∥₁
+  pub looked : Looked behind.slots left.slots
+  pub rest : left ≡ record behind
+      { slots = left.slots; live = left.live; next_ticket = left.next_ticket }
   pub loaded : IsLoaded pending (marked_in found) (marked_in left) p
   pub idle : Honest → IsIdle left
   pub forked : Forked mid is
 
 -- ... and what the state behind them does not keep was removed.
-pub record LoadsWhole (Honest : Type 0) (start : Start) (logs : List FolderFile) (pending : Pending)
-    (p : Progress) (was is : Told) : Type 0 where
+pub record LoadsWhole (Refused : Asked → ShelfFault
+    → Type 0) (Honest : Type 0) (start : Start) (logs : List FolderFile) (pending : Pending) (p
+    : Progress) (was is : Told) : Type 0 where
   pub left : Held
   pub mid : Told
-  pub loads : LoadsAll Honest start logs pending p left was mid
+  pub loads : LoadsAll Refused Honest start logs pending p left was mid
   pub board : TableId
   pub swept : IsSwept Honest board left mid is
 
 -- That was done, and how much it was is written.
-abbrev pub IsLoadDone : Type 0 → Start → List FolderFile → Pending → Told → Told → Option (List ℕ)
-    → Option (List ℕ) → Type 0
-IsLoadDone Honest start logs pending was is old new =
-    (p : Progress) × LoadsWhole Honest start logs pending p was is × Appends old new (loaded_text p)
+abbrev pub IsLoadDone : (Asked → ShelfFault → Type 0) → Type 0 → Start → List FolderFile → Pending
+    → Told → Told → Option (List ℕ) → Option (List ℕ) → Type 0
+IsLoadDone Refused Honest start logs pending was is old new =
+    (p : Progress) × LoadsWhole Refused Honest start logs pending p was is
+    × Appends old new (loaded_text p)
 
 -- ---- refusals
 
 -- The directory was begun or opened; just so much came into it, which is in the lawful state that
--- was left, and this fault kept the others out, or what was due from being compacted.
+-- was left, and this fault kept the others out, or what was due from being compacted. Whatever the
+-- fault is, nothing came in that no line spells.
 pub record StopsLoading (Refused : Asked → ShelfFault
     → Type 0) (Honest : Type 0) (start : Start) (logs : List FolderFile) (pending : Pending) (p
     : Progress) (fault : LoadFault) (was is : Told) : Type 0 where
@@ -71,8 +89,11 @@ pub record StopsLoading (Refused : Asked → ShelfFault
   pub left : Held
   pub board : TableId
   pub lawful : IsLawfulState Honest board left
-  pub unloaded : IsUnloaded Refused Honest (marked_in found) pending (marked_in found)
-      (marked_in left) p fault
+  pub behind : Held
+  pub come : ∥ HasComeBy Refused Honest pending found behind ∥₁
+  pub looked : IsLooked behind left
+  pub unloaded : IsUnloaded Refused Honest (HasComeBy Refused Honest pending found) pending
+      (marked_in found) (marked_in left) p fault
   pub forked : Forked mid is
 
 -- All lines came in, and the collect behind them was refused.
@@ -82,7 +103,7 @@ pub record IsUnswept (Refused : Asked → ShelfFault
   pub p : Progress
   pub left : Held
   pub mid : Told
-  pub loads : LoadsAll Honest start logs pending p left was mid
+  pub loads : LoadsAll Refused Honest start logs pending p left was mid
   pub board : TableId
   pub refuses : Refuses Refused Honest board left fault mid is
 
@@ -101,7 +122,7 @@ IsLoadFault Stored Refused Honest start logs from pending (Lines fault line) was
 IsLoadFault Stored Refused Honest start logs from pending (Sweep fault) was is =
     IsUnswept Refused Honest start logs pending fault was is
 IsLoadFault Stored Refused Honest start logs from pending Write was is =
-    (p : Progress) × LoadsWhole Honest start logs pending p was is
+    (p : Progress) × LoadsWhole Refused Honest start logs pending p was is
 
 -- ---- of an input
 
@@ -113,11 +134,11 @@ IsToCome from form input pending =
     × (pending ≡ record { form = form; held = []; left = rest })
 
 -- That came in, and how much it was is written.
-abbrev pub IsInputLoaded : Type 0 → Start → List FolderFile → LoadOptions → Option (List ℕ) → Told
-    → Told → Option (List ℕ) → Option (List ℕ) → Type 0
-IsInputLoaded Honest start logs options input was is old new =
+abbrev pub IsInputLoaded : (Asked → ShelfFault → Type 0) → Type 0 → Start → List FolderFile
+    → LoadOptions → Option (List ℕ) → Told → Told → Option (List ℕ) → Option (List ℕ) → Type 0
+IsInputLoaded Refused Honest start logs options input was is old new =
     (pending : Pending) × IsToCome options.from_line options.ingest.form input pending
-    × IsLoadDone Honest start logs pending was is old new
+    × IsLoadDone Refused Honest start logs pending was is old new
 
 -- Memory ran out, or the input could not be read, before the shelf was asked for anything; or a
 -- fault was met behind these lines.

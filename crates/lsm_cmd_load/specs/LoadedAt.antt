@@ -26,7 +26,7 @@ module _ {C M : Type 0} (folders : Ghosts C M) where
     pub begun : FileShelf C M
     pub on : IsShelfAt folders path (IsPrepared options.ingest start logs) begun
     pub ended : FileShelf C M
-    pub done : IsInputLoaded (AreHonest folders.calls) start logs options input
+    pub done : IsInputLoaded MayRefuse (AreHonest folders.calls) start logs options input
         (told_by folders begun) (told_by folders ended) old new
 
 module _ {C M : Type 0} (folders : Ghosts C M) (marks : mark.Ghosts M) where

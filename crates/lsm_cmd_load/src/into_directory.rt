@@ -66,8 +66,9 @@ where
     O: Write,
     requires parts { AreOf usual N.registry N.board N.history parts }
     requires held { lines.held ≡ [] }
-    ensures done { OnOk result (IsLoadDone S.honest prepared.now.start prepared.now.logs.items
-        lines shelf.old shelf.new (O.contents out.old) (O.contents out.new)) }
+    ensures done { OnOk result (IsLoadDone (S.refuses N.place) S.honest prepared.now.start
+        prepared.now.logs.items lines shelf.old shelf.new
+        (O.contents out.old) (O.contents out.new)) }
     ensures fault { IfErr result (λ e. IsLoadFault (Stored S.Receipt (S.is_of N.place)
         S.Receipt.number S.Receipt.image) (S.refuses N.place) S.honest prepared.now.start
         prepared.now.logs.items options.from_line lines e shelf.old shelf.new) }
@@ -128,8 +129,9 @@ where
     requires parts { AreOf usual N.registry N.board N.history parts }
     requires shelf { (S.told shelf).place ≡ N.place }
     requires held { lines.held ≡ [] }
-    ensures done { OnOk result.0 (IsLoadDone S.honest prepared.now.start prepared.now.logs.items
-        lines (S.told shelf) (S.told result.1) (O.contents out.old) (O.contents out.new)) }
+    ensures done { OnOk result.0 (IsLoadDone (S.refuses N.place) S.honest prepared.now.start
+        prepared.now.logs.items lines (S.told shelf) (S.told result.1)
+        (O.contents out.old) (O.contents out.new)) }
     ensures fault { IfErr result.0 (λ e. IsLoadFault (Stored S.Receipt (S.is_of N.place)
         S.Receipt.number S.Receipt.image) (S.refuses N.place) S.honest prepared.now.start
         prepared.now.logs.items options.from_line lines e (S.told shelf) (S.told result.1)) }
@@ -180,9 +182,9 @@ where
     I: Read + Drop,
     T: Teller,
     O: Write,
-    ensures done { OnOk result.0 (IsInputLoaded S.honest prepared.now.start
-        prepared.now.logs.items options (I.remaining input) (S.told shelf) (S.told result.1)
-        (O.contents out.old) (O.contents out.new)) }
+    ensures done { OnOk result.0 (IsInputLoaded (S.refuses (S.told shelf).place) S.honest
+        prepared.now.start prepared.now.logs.items options (I.remaining input)
+        (S.told shelf) (S.told result.1) (O.contents out.old) (O.contents out.new)) }
     ensures fault { IfErr result.0 (λ e. IsInputFault (Stored S.Receipt
         (S.is_of (S.told shelf).place) S.Receipt.number S.Receipt.image)
         (S.refuses (S.told shelf).place) S.honest prepared.now.start prepared.now.logs.items

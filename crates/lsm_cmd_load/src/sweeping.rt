@@ -1,6 +1,7 @@
 //! What nothing names any more is removed.
 
 ghost use Rattle.std.specs.Prelude.{◌≡◌, IfErr, OnOk};
+ghost use Rattle.lsm_slots.specs.Slots.{Looked};
 ghost use Rattle.lsm_opening.specs.Compactions.{IsSwept, Refuses};
 ghost use Rattle.lsm_bulk_load.specs.Ending.{IsIdle};
 ghost use Rattle.lsm_bulk_load.specs.Marks.{marked_in};
@@ -21,6 +22,8 @@ pub(crate) fn sweep<N: Boarded, S: Shelf, R: Wait>(
     ensures ok { OnOk result (IsSwept S.honest N.board state.new shelf.old shelf.new) }
     ensures refused { IfErr result (λ e.
         Refuses (S.refuses N.place) S.honest N.board state.new e shelf.old shelf.new) }
+    ensures looked { Looked state.old.slots state.new.slots }
+    ensures rest { state.new ≡ record state.old { slots = state.new.slots } }
     ensures same { marked_in state.new ≡ marked_in state.old }
     ensures idle { IsIdle state.old → IsIdle state.new }
 {

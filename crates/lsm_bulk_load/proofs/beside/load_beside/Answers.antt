@@ -1,7 +1,9 @@
-use Rattle.std.proofs.Common.{rules, ◌≡◌, [], List, All, IfErr, OnOk, subst, sym}
+use Rattle.std.proofs.Common.{rules, ◌≡◌, ◌∙◌, [], List, All, IfErr, OnOk, ap, inl, inr, refl, subst, sym}
+use Rattle.lsm_state.specs.Held.{Held}
 use Rattle.lsm_store.specs.Workers.{IsWorkersEnd}
 use Rattle.lsm_store.specs.declared.worker_end.WorkerEnd.{WorkerEnd}
 use Rattle.lsm_bulk_load.specs.Ending.{IsLate}
+use Rattle.lsm_bulk_load.specs.Keeping.{IsTaken}
 use Rattle.lsm_bulk_load.specs.Loading.{IsLoaded, IsStopped}
 use Rattle.lsm_bulk_load.specs.Marks.{marked_in}
 use Rattle.lsm_bulk_load.proofs.EndingLaws.{unbegun, unfinished}
@@ -12,15 +14,31 @@ returns-in-Some-clause-refused g c =
     let a = c.in-Some.answer in
     let same : c.of-mark.result ≡ marked_in c.args.state = search rules in
     let l : OnOk a.0.0 (IsLoaded c.args.lines c.of-mark.result a.0.1 a.0.2) = search rules in
-    let s : IfErr a.0.0 (λ e. IsStopped (g.S.Shelf.refuses g.N.Naming.place) g.O.Origin.found c.args.lines c.of-mark.result a.0.1 a.0.2 e) = search rules in
+    let s : IfErr a.0.0 (λ e. IsStopped (g.S.Shelf.refuses g.N.Naming.place) g.O.Origin.keeps c.args.lines c.of-mark.result a.0.1 a.0.2 e) = search rules in
     let those : All (IsWorkersEnd g.S.Shelf.honest) a.1.items = search rules in
     let each : All (IsWorkersEnd g.S.Shelf.honest) c.deref.result.now = subst (λ (es : List WorkerEnd). All (IsWorkersEnd g.S.Shelf.honest) es) (sym c.deref.ensures.value) those in
     let late : IfErr c.finish-done.result (λ e. IsLate a.0.1 (marked_in c.finish-done.new.state) a.0.0 c.deref.result.now e) = c.finish-done.ensures.late in
-    unfinished (g.S.Shelf.refuses g.N.Naming.place) g.S.Shelf.honest g.O.Origin.found c.args.lines (marked_in c.args.state) c.of-mark.result a.0.1 (marked_in c.finish-done.new.state) a.0.2
+    unfinished (g.S.Shelf.refuses g.N.Naming.place) g.S.Shelf.honest g.O.Origin.keeps c.args.lines (marked_in c.args.state) c.of-mark.result a.0.1 (marked_in c.finish-done.new.state) a.0.2
     c.deref.result.now a.0.0 c.finish-done.result same l s each late
 
 pub returns-in-None-clause-refused : goal.returns-in-None-clause-refused
 returns-in-None-clause-refused g c =
     let same : c.of-before.result ≡ marked_in c.args.state = search rules in
-    unbegun (g.S.Shelf.refuses g.N.Naming.place) g.S.Shelf.honest g.O.Origin.found c.args.lines (marked_in c.args.state) c.of-before.result _ c.none-in-None.result
+    unbegun (g.S.Shelf.refuses g.N.Naming.place) g.S.Shelf.honest g.O.Origin.keeps c.args.lines (marked_in c.args.state) c.of-before.result _ c.none-in-None.result
     c.finish-done-in-None.result same c.requires.held c.none-in-None.ensures c.finish-done-in-None.ensures.late
+
+pub returns-in-Some-clause-kept : goal.returns-in-Some-clause-kept
+returns-in-Some-clause-kept g c = (c.load_all-answer.result.1, c.load_all-answer.ensures.kept, c.finish-done.ensures.looked)
+
+pub returns-in-None-clause-kept : goal.returns-in-None-clause-kept
+returns-in-None-clause-kept g c = (c.load_all-answer.result.1, c.load_all-answer.ensures.kept, c.finish-done-in-None.ensures.looked)
+
+pub new-requires-clause-first : goal.new-requires-clause-first
+new-requires-clause-first g c κs within = λ h taken. c.requires.first h (subst (λ (s : Held). IsTaken s h) (c.of-mark.ensures.same ∙ c.of-before.ensures.same) taken)
+
+pub returns-in-Err-clause-kept : goal.returns-in-Err-clause-kept
+returns-in-Err-clause-kept g c =
+    let back : c.in-Err.state ≡ record c.args.state { pinners = [] } =
+    c.in-Err.ensures.back ∙ ap (λ (s : Held). record s { pinners = [] }) (c.of-mark.ensures.same ∙ c.of-before.ensures.same)
+    in
+    (c.in-Err.state, ∣ c.requires.first c.in-Err.state (inr (inl back)) ∣₁, refl)

@@ -1,11 +1,12 @@
 use Rattle.std.proofs.Common.{refl, ap, arith}
 use Rattle.lsm_bulk_load.specs.declared.progress.Progress.{Progress}
+use Rattle.lsm_bulk_load.proofs.KeepingLaws.{kept_next}
 use Rattle.lsm_bulk_load.proofs.LoadLaws.{counted, end_on, few_lines, full_on, loads_none, room, room_of_batches, stopped_on, stopped_short}
 use Rattle.lsm_bulk_load.proofs.loading.load.Goals as goal
 
 pub batches-init : goal.batches-init
 batches-init g c = record {
-  loads = loads_none c.args.lines.now c.args.mark c.none-progress.result c.requires (ap (λ (p : Progress). p.lines) c.none-progress.ensures) (ap (λ (p : Progress). p.batches) c.none-progress.ensures);
+  loads = loads_none c.args.lines.now c.args.mark c.none-progress.result c.requires.held (ap (λ (p : Progress). p.lines) c.none-progress.ensures) (ap (λ (p : Progress). p.batches) c.none-progress.ensures);
   form = refl;
   lines = omega (arith, ap (λ (p : Progress). p.lines) c.none-progress.ensures);
   count = omega (arith, ap (λ (p : Progress). p.batches) c.none-progress.ensures);
@@ -17,9 +18,14 @@ take_batch-requires-clause-lines g c κs within = room c.batches._turn c.batches
 pub take_batch-requires-clause-batches : goal.take_batch-requires-clause-batches
 take_batch-requires-clause-batches g c κs within = room_of_batches c.batches._turn c.batches.progress.batches c.batches.invariant.count c.batches-test.true
 
+pub take_batch-requires-clause-asked : goal.take_batch-requires-clause-asked
+take_batch-requires-clause-asked g c κs within =
+    kept_next (g.S.Shelf.refuses g.N.Naming.place) g.O.Origin.keeps c.args.lines.now c.batches.lines c.args.mark c.batches.mark c.batches.progress c.requires.asked c.batches.invariant.form
+    c.batches.invariant.loads
+
 pub returns-in-Err-clause-refused : goal.returns-in-Err-clause-refused
 returns-in-Err-clause-refused g c =
-    stopped_short (g.S.Shelf.refuses g.N.Naming.place) g.O.Origin.found c.args.lines.now c.batches.lines c.args.mark c.batches.mark c.in-Err.left c.batches.progress c.in-Err.fault
+    stopped_short (g.S.Shelf.refuses g.N.Naming.place) g.O.Origin.keeps c.args.lines.now c.batches.lines c.args.mark c.batches.mark c.in-Err.left c.batches.progress c.in-Err.fault
     c.batches.invariant.form c.batches.invariant.loads c.in-Err.ensures.refused
 
 pub returns-in-End-clause-loaded : goal.returns-in-End-clause-loaded

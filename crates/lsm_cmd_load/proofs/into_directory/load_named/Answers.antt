@@ -1,6 +1,17 @@
 use Rattle.std.proofs.lemmas.Result.{err_from_is_err_and}
+use Rattle.lsm_bulk_load.proofs.CallerLemmas.{come_compacting, come_ingests, come_taken}
+use Rattle.lsm_bulk_load.specs.Keeping.{IsOfLines}
 use Rattle.lsm_cmd_load.proofs.LoadedLaws.{loads_whole, unswept}
 use Rattle.lsm_cmd_load.proofs.into_directory.load_named.Goals as goal
+
+pub load_beside-done-requires-clause-first : goal.load_beside-done-requires-clause-first
+load_beside-done-requires-clause-first g c κs within = λ h taken. come_taken (g.S.Shelf.refuses g.N.Naming.place) g.S.Shelf.honest (IsOfLines c.args.lines) _ h taken
+
+pub load_beside-done-requires-clause-asked : goal.load_beside-done-requires-clause-asked
+load_beside-done-requires-clause-asked g c κs within = come_ingests (g.S.Shelf.refuses g.N.Naming.place) g.S.Shelf.honest (IsOfLines c.args.lines) _
+
+pub load_beside-done-requires-clause-workers : goal.load_beside-done-requires-clause-workers
+load_beside-done-requires-clause-workers g c κs within = come_compacting (g.S.Shelf.refuses g.N.Naming.place) g.S.Shelf.honest (IsOfLines c.args.lines) _
 
 pub returns-clause-fault : goal.returns-clause-fault
 returns-clause-fault g c = (
@@ -13,6 +24,9 @@ returns-clause-fault g c = (
     left = c.load_beside-done.result.state;
     board = g.N.Boarded.board;
     lawful = c.options-options.ensures.law;
+    behind = c.load_beside-done.ensures.kept.0;
+    come = c.load_beside-done.ensures.kept.1;
+    looked = c.load_beside-done.ensures.kept.2;
     unloaded = rw c.in-Err.is at c.load_beside-done.ensures.refused;
     forked = c.load_beside-done.ensures.told;
   },
@@ -25,16 +39,32 @@ returns-in_err-sweep-in-Ok-clause-fault g c =
     let idle = rw c.in-Ok.is at c.load_beside-done.ensures.idle in
     rw (p.1, p.2) (unswept (g.S.Shelf.refuses g.N.Naming.place) g.S.Shelf.honest c.args.prepared.now.start c.args.prepared.now.logs.items c.args.lines c.load_beside-done.result.progress
     c.in_err-sweep-in-Ok.field-0.0 g.N.Boarded.board c.in_ok-state.state c.load_beside-done.result.state c.sweep.new.state c.args.shelf.now c.start.new.shelf c.load_beside-done.new.shelf
-    c.sweep.new.shelf c.in_ok-state.ensures.started loaded (λ h. c.sweep.ensures.idle (idle h)) c.load_beside-done.ensures.told c.sweep.ensures.same c.in_err-sweep-in-Ok.ensures.refused)
+    c.sweep.new.shelf c.in_ok-state.ensures.started loaded (record {
+      behind = c.load_beside-done.ensures.kept.0;
+      come = c.load_beside-done.ensures.kept.1;
+      judged = c.load_beside-done.ensures.kept.2;
+      looked = c.sweep.ensures.looked;
+      rest = c.sweep.ensures.rest;
+      idle = λ h. c.sweep.ensures.idle (idle h);
+      same = c.sweep.ensures.same;
+    }) c.load_beside-done.ensures.told c.in_err-sweep-in-Ok.ensures.refused)
 
 pub returns-in-Ok-reply-clause-done : goal.returns-in-Ok-reply-clause-done
 returns-in-Ok-reply-clause-done g c =
     let loaded = rw c.in-Ok.is at c.load_beside-done.ensures.loaded in
     let idle = rw c.in-Ok.is at c.load_beside-done.ensures.idle in (
       c.load_beside-done.result.progress,
-      loads_whole g.S.Shelf.honest c.args.prepared.now.start c.args.prepared.now.logs.items c.args.lines c.load_beside-done.result.progress g.N.Boarded.board c.in_ok-state.state
+      loads_whole (g.S.Shelf.refuses g.N.Naming.place) g.S.Shelf.honest c.args.prepared.now.start c.args.prepared.now.logs.items c.args.lines c.load_beside-done.result.progress g.N.Boarded.board c.in_ok-state.state
           c.load_beside-done.result.state c.sweep.new.state c.args.shelf.now c.start.new.shelf c.load_beside-done.new.shelf c.sweep.new.shelf c.in_ok-state.ensures.started
-          loaded (λ h. c.sweep.ensures.idle (idle h)) c.load_beside-done.ensures.told c.sweep.ensures.same c.in_ok-sweep-in-Ok.ensures.ok,
+          loaded (record {
+            behind = c.load_beside-done.ensures.kept.0;
+            come = c.load_beside-done.ensures.kept.1;
+            judged = c.load_beside-done.ensures.kept.2;
+            looked = c.sweep.ensures.looked;
+            rest = c.sweep.ensures.rest;
+            idle = λ h. c.sweep.ensures.idle (idle h);
+            same = c.sweep.ensures.same;
+          }) c.load_beside-done.ensures.told c.in_ok-sweep-in-Ok.ensures.ok,
       c.in-Ok-reply.ensures.written,
     )
 
@@ -43,7 +73,15 @@ returns-in-Ok-clause-fault g c =
     let loaded = rw c.in-Ok.is at c.load_beside-done.ensures.loaded in
     let idle = rw c.in-Ok.is at c.load_beside-done.ensures.idle in (
       c.load_beside-done.result.progress,
-      loads_whole g.S.Shelf.honest c.args.prepared.now.start c.args.prepared.now.logs.items c.args.lines c.load_beside-done.result.progress g.N.Boarded.board c.in_ok-state.state
+      loads_whole (g.S.Shelf.refuses g.N.Naming.place) g.S.Shelf.honest c.args.prepared.now.start c.args.prepared.now.logs.items c.args.lines c.load_beside-done.result.progress g.N.Boarded.board c.in_ok-state.state
           c.load_beside-done.result.state c.sweep.new.state c.args.shelf.now c.start.new.shelf c.load_beside-done.new.shelf c.sweep.new.shelf c.in_ok-state.ensures.started
-          loaded (λ h. c.sweep.ensures.idle (idle h)) c.load_beside-done.ensures.told c.sweep.ensures.same c.in_ok-sweep-in-Ok.ensures.ok,
+          loaded (record {
+            behind = c.load_beside-done.ensures.kept.0;
+            come = c.load_beside-done.ensures.kept.1;
+            judged = c.load_beside-done.ensures.kept.2;
+            looked = c.sweep.ensures.looked;
+            rest = c.sweep.ensures.rest;
+            idle = λ h. c.sweep.ensures.idle (idle h);
+            same = c.sweep.ensures.same;
+          }) c.load_beside-done.ensures.told c.in_ok-sweep-in-Ok.ensures.ok,
     )
