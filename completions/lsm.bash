@@ -23,7 +23,7 @@ _lsm() {
     load) options='--text --begin --beside-log --workers --from-line --progress --help' places='DIR FILE' ;;
     compact) options='--all --from --to --text --workers --accept-rest --progress --help' places='DIR' ;;
     clean) options='--accept-rest --help' places='DIR' ;;
-    shell) options='--text --begin --beside-log --workers --help' places='DIR' ;;
+    shell) options='--text --begin --beside-log --workers --bail --help' places='DIR' ;;
     bench) options='--benchmarks --num --value-size --workers --help' places='DIR' ;;
     help) options='--help' places='COMMAND' ;;
     *) return ;;

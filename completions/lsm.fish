@@ -131,6 +131,7 @@ complete -c lsm -n '__lsm_is shell' -l text -d 'Keys and values are text, with `
 complete -c lsm -n '__lsm_is shell' -l begin -d 'Begin a database also where CURRENT was lost'
 complete -c lsm -n '__lsm_is shell' -l beside-log -d 'Go on also where LevelDB has not flushed its log'
 complete -c lsm -n '__lsm_is shell' -l workers -x -d 'How many threads compact beside, 1 to 16'
+complete -c lsm -n '__lsm_is shell' -l bail -d 'End behind the first bad or refused line'
 complete -c lsm -n '__lsm_is shell' -l help -d 'Print help'
 complete -c lsm -n '__lsm_is' -a bench -d 'Measures writes, reads and compactions in a fresh folder'
 complete -c lsm -n '__lsm_at bench 1' -a '(__fish_complete_directories)'

@@ -47,6 +47,7 @@ CRATES = {
     "lsm_journal": ("part", "the manifest held"),
     "lsm_batch": ("part", "batches and their tables"),
     "lsm_wal": ("part", "write-ahead logs"),
+    "lsm_import": ("part", "copies on other shelves"),
     "lsm_live": ("part", "live jobs, drawn numbers"),
     "lsm_slots": ("part", "versions by slot"),
     "lsm_merge": ("part", "jobs, drops, outputs"),

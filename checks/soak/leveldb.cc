@@ -1,9 +1,11 @@
 // The writes of one kind of writer, by LevelDB: leveldb DIR KIND FIRST COUNT BATCH SIZE. Prints how many
-// bytes the process wrote. The keys are those of soak.py.
+// bytes the folder's files have after each eighth of the writes, in a line, and then how many bytes the
+// process wrote. The keys are those of soak.py.
 #include <cinttypes>
 #include <cstdio>
 #include <cstdlib>
 #include <cstring>
+#include <filesystem>
 #include <fstream>
 #include <string>
 
@@ -17,6 +19,16 @@ static unsigned long long written() {
   while (file >> name >> count)
     if (name == "wchar:") return count;
   abort();
+}
+
+static unsigned long long used(const char* folder) {
+  unsigned long long total = 0;
+  std::error_code gone;
+  for (const auto& entry : std::filesystem::directory_iterator(folder)) {
+    const auto size = entry.file_size(gone);
+    if (!gone) total += size;
+  }
+  return total;
 }
 
 static std::uint64_t mixed(std::uint64_t x) {  // splitmix64
@@ -48,6 +60,7 @@ int main(int count, char** words) {
   if (!leveldb::DB::Open(options, words[1], &db).ok()) return 1;
   const unsigned long long before = written();
   leveldb::WriteBatch writes;
+  std::uint64_t eighths = 0;
   for (std::uint64_t i = first; i < first + all; i++) {
     char key[20], value[32];
     snprintf(key, sizeof key, "%016" PRIu64, key_at(kind, i));
@@ -59,8 +72,11 @@ int main(int count, char** words) {
     if ((i - first + 1) % batch == 0 || i + 1 == first + all) {
       if (!db->Write(leveldb::WriteOptions(), &writes).ok()) return 1;
       writes.Clear();
+      const std::uint64_t done = i - first + 1;
+      for (; eighths < 8 && done * 8 >= all * (eighths + 1); eighths++) printf("%llu ", used(words[1]));
     }
   }
+  printf("\n");
   delete db;
   printf("%llu\n", written() - before);
 }

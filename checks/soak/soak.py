@@ -1,10 +1,11 @@
 """What a database costs that is written for long: soak.py LSM LEVELDB FOLDER SECONDS.
 
 Writers of each kind bring their keys in by `lsm shell --workers 1`, round after round, each kind into
-a folder of its own, with single puts and with batches. After each round the shell is asked how many
-tables and bytes the levels have, and the folder is looked at. LevelDB has the same writes. A line is
-printed for each round, and at the first figure that is out of its bounds the status is 1. Bytes on the
-disk are printed and not judged: tables that nothing needs go beside the worker, old manifests stay.
+a folder of its own, with single puts and with batches. After each eighth of a round the folder is
+looked at, and once more after the round, when the worker has come to rest; the shell is asked how many
+tables and bytes the levels have. LevelDB has the same writes, and its folder is looked at after the
+same ones. At the end each database is closed and opened twice. A line is printed for each round, and
+at the first figure that is out of its bounds the status is 1.
 """
 
 import os
@@ -34,6 +35,13 @@ OF_LEVELDB = {
     ("overwriting", 1): 30,
     ("overwriting", 10): 20,
 }
+
+# Bytes on the disk for one of LevelDB's, while no program calls anything that removes: at rest behind
+# the writes, once the database was opened twice more, and in the midst of the writes, where 1 MiB more
+# is let be, since little is there at first. A single put of these sizes leaves as many bytes in the
+# manifests as in its table. They go with the next openings, and not before: so such a writer is not
+# below 1.3 at rest.
+AT_REST, OPENED, IN_THE_MIDST, MORE = {1: 2.5, 10: 1.3, 1000: 1.3}, 1.3, 2, 1 << 20
 
 
 def mixed(x):
@@ -71,13 +79,29 @@ def used(folder):
     return total
 
 
+def at_rest(folder):
+    """How many bytes its files have once that changes no more, for half a second."""
+    last, since = used(folder), time.monotonic()
+    while time.monotonic() < since + 0.5:
+        time.sleep(0.05)
+        now = used(folder)
+        if now != last:
+            last, since = now, time.monotonic()
+    return last
+
+
+def manifests(folder):
+    return sum(name.startswith("MANIFEST-") for name in os.listdir(folder))
+
+
 class Shell:
     """A database that is open in `lsm shell`."""
 
     def __init__(self, lsm, folder):
-        os.makedirs(folder)
+        os.makedirs(folder, exist_ok=True)
         self.folder = folder
         self.replied = 0
+        self.was_refused = False
         self.child = subprocess.Popen(
             [lsm, "shell", folder, "--text", "--begin", "--workers", "1"],
             stdin=subprocess.PIPE,
@@ -111,6 +135,7 @@ class Shell:
                 return
             if not said.startswith("refused 40 "):
                 sys.exit(f"a batch was answered {said}")
+            self.was_refused = True
             time.sleep(0.001)
 
     def levels(self):
@@ -138,7 +163,7 @@ class Shell:
 
     def end(self):
         self.child.stdin.close()
-        if self.child.wait() != 0:
+        if self.child.wait() != self.was_refused:
             sys.exit(f"the shell of {self.folder} ended with status {self.child.returncode}")
 
 
@@ -148,7 +173,7 @@ class Writer:
     def __init__(self, lsm, leveldb, folder, kind, batch):
         self.name = f"{kind}-{batch}"
         self.kind, self.batch, self.leveldb = kind, batch, leveldb
-        self.theirs = os.path.join(folder, self.name + "-leveldb")
+        self.lsm, self.theirs = lsm, os.path.join(folder, self.name + "-leveldb")
         self.count = self.they_wrote = 0
         self.newest = {}
         self.shell = Shell(lsm, os.path.join(folder, self.name))
@@ -157,6 +182,7 @@ class Writer:
         all_ = ROUND[self.batch]
         began = time.monotonic()
         worst = 0.0
+        ours = []
         for first in range(self.count, self.count + all_, self.batch):
             pairs = {}
             for i in range(first, first + self.batch):
@@ -167,30 +193,41 @@ class Writer:
             start = time.monotonic()
             self.shell.bring_in(list(pairs.items()))
             worst = max(worst, time.monotonic() - start)
+            while (first - self.count + self.batch) * 8 >= all_ * (len(ours) + 1):
+                ours.append(used(self.shell.folder))
         took = time.monotonic() - began
         said = subprocess.run(
             [self.leveldb, self.theirs, self.kind, str(self.count), str(all_), str(self.batch), str(SIZE)],
             check=True,
             capture_output=True,
         )
-        self.they_wrote += int(said.stdout)
+        theirs, wrote = said.stdout.decode().splitlines()
+        theirs = [int(word) for word in theirs.split()]
+        self.they_wrote += int(wrote)
         self.count += all_
-        return took, worst
+        return took, worst, list(zip(ours, theirs, strict=True))
 
-    def judge(self, took, worst):
+    def judge(self, took, worst, looks):
+        disk, theirs = at_rest(self.shell.folder), used(self.theirs)
         tables, total = self.shell.levels()
-        disk, theirs = used(self.shell.folder), used(self.theirs)
         came = self.count * (16 + SIZE)
         wrote = self.shell.written()
         each, ratio = wrote / came, wrote / self.they_wrote
+        midst, rest = max(our / their for our, their in looks), disk / theirs
         most = 64 + 4 * total / TARGET
         print(
             f"{self.name}: {self.count} puts, {took / ROUND[self.batch] * 1e6:.0f} us each, worst {worst * 1e3:.0f} ms;"
-            f" {tables} tables of {total} bytes; disk {disk}, LevelDB {theirs}; written {each:.1f} a byte, {ratio:.2f} of LevelDB's",
+            f" {tables} tables of {total} bytes; disk {disk}, {rest:.2f} of LevelDB's, before at most {midst:.2f};"
+            f" {manifests(self.shell.folder)} manifests; written {each:.1f} a byte, {ratio:.2f} of LevelDB's",
             flush=True,
         )
-        self.figures = (tables / most, each, ratio, disk / theirs, worst)
+        self.figures = (tables / most, each, ratio, midst, rest, worst)
         bad = []
+        for our, their in looks:
+            if our >= IN_THE_MIDST * their + MORE:
+                bad.append(f"in the midst it had {our} bytes on the disk, LevelDB {their}")
+        if disk >= AT_REST[self.batch] * theirs:
+            bad.append(f"at rest it has {disk} bytes on the disk, LevelDB {theirs}")
         if tables >= most:
             bad.append(f"{tables} tables are not below {most:.0f}")
         if each >= (IN_ORDER if self.kind in ("ascending", "descending") else EVERYWHERE):
@@ -203,6 +240,23 @@ class Writer:
                 bad.append(f"get {key} was answered {said}")
         return [f"{self.name}: {it}" for it in bad]
 
+    def open_again(self):
+        """Closes the database, and opens it twice, as a program would that runs now and then."""
+        for _ in range(2):
+            self.shell.end()
+            self.shell = Shell(self.lsm, self.shell.folder)
+            self.shell.levels()
+        disk, theirs = at_rest(self.shell.folder), used(self.theirs)
+        left = manifests(self.shell.folder)
+        self.shell.end()
+        print(f"{self.name}: opened twice: {left} manifests; disk {disk}, LevelDB {theirs}", flush=True)
+        bad = []
+        if left > 2:
+            bad.append(f"{left} manifests are left by openings")
+        if disk >= OPENED * theirs:
+            bad.append(f"opened again it has {disk} bytes on the disk, LevelDB {theirs}")
+        return [f"{self.name}: {it}" for it in bad]
+
 
 def main():
     lsm, leveldb, folder, seconds = sys.argv[1:]
@@ -210,21 +264,21 @@ def main():
     writers = [Writer(lsm, leveldb, folder, kind, batch) for kind in KINDS for batch in BATCHES]
     bad = []
     rounds = 0
-    worst_of = [0.0] * 5
+    worst_of = [0.0] * 6
     while (time.monotonic() < end or not rounds) and not bad:
         rounds += 1
         for writer in writers:
-            took, worst = writer.round()
-            bad += writer.judge(took, worst)
+            bad += writer.judge(*writer.round())
             worst_of = [max(pair) for pair in zip(worst_of, writer.figures)]
     for writer in writers:
-        writer.shell.end()
+        bad += writer.open_again()
     for it in bad:
         print(it)
-    full, each, ratio, disk, worst = worst_of
+    full, each, ratio, midst, rest, worst = worst_of
     print(
         f"{rounds} rounds of {len(writers)} writers: tables at most {full:.2f} of their bound; written at most {each:.1f} a byte"
-        f" and {ratio:.1f} times LevelDB's; disk at most {disk:.1f} times LevelDB's; a batch at most {worst * 1e3:.0f} ms"
+        f" and {ratio:.1f} times LevelDB's; disk at most {midst:.2f} times LevelDB's in the midst and"
+        f" {rest:.2f} at rest; a batch at most {worst * 1e3:.0f} ms"
     )
     return 1 if bad else 0
 

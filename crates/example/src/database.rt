@@ -1,7 +1,7 @@
 //! A database in a folder: an apple is put into it, and read again.
 
 use anyhow::Context;
-use lsm_database::{Database, Images, Program, StateFault, open};
+use lsm_database::{Database, Images, Program, StateFault, SystemPaths, open};
 use std::io::Print;
 use std::sync::Wait;
 use std::thread::Threads;
@@ -26,7 +26,7 @@ fn show_apple<R: Threads + Wait + Print + Sync>(
     files: HostRuntime,
     path: &str,
 ) -> anyhow::Result<()> {
-    let (apple, _ends) = open::<Images, _, _>(rt, files, path, Fruits)?;
+    let (apple, _ends) = open(rt, &SystemPaths::<Images>::new(files), path, Fruits)?;
     match apple? {
         Some(value) => println!(rt; "apple: {}", str::from_utf8(&value)?)?,
         None => println!(rt; "apple: absent")?,

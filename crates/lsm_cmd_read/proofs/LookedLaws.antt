@@ -1,5 +1,5 @@
 -- What a run that only reads says, by what its command says of the shelf that was opened.
-use Rattle.std.proofs.Common.{◌≡◌, ℕ, Bool, List, Option, IfErr, OnErr, OnOk, arith, inr}
+use Rattle.std.proofs.Common.{◌≡◌, ℕ, List, Option, IfErr, OnErr, OnOk, arith, inr}
 use Rattle.std.specs.Prelude.{Result, Ok, Err}
 use Rattle.std.specs.Io.KnownBytes.{Keeps}
 use Rattle.std.proofs.KnownBytes.{Keeps-trans}
@@ -7,12 +7,9 @@ use Rattle.lsm_folder.specs.Calls.{AreHonest}
 use Rattle.lsm_folder.specs.declared.folder_calls.FolderCalls.{Ghosts}
 use Rattle.lsm_folder.specs.declared.mark.Mark as mark
 use Rattle.lsm_shelf.specs.Refusals.{MayRefuse}
-use Rattle.lsm_shelf.specs.Told.{Told}
 use Rattle.lsm_storage.specs.declared.file.file_shelf.FileShelf.{FileShelf}
-use Rattle.lsm_requests.specs.declared.directory_command.DirectoryCommand.{DirectoryCommand}
-use Rattle.lsm_text.specs.declared.form.Form.{Form}
 use Rattle.lsm_requests.specs.declared.directory_line.DirectoryLine.{DirectoryLine}
-use Rattle.lsm_cmd_read.specs.Answers.{IsLookedInto, IsLookedIntoAsGiven, IsNotLookedInto}
+use Rattle.lsm_cmd_read.specs.Answers.{Asking, IsLookedInto, IsLookedIntoAsGiven, IsNotLookedInto, Moment, asked_by, moment}
 use Rattle.lsm_cmd_read.specs.Directory.{OnlyReads}
 use Rattle.lsm_directory.specs.Folders.{IsShelfAt, stored_at, told_by}
 use Rattle.lsm_directory.specs.Looking.{TellsBeside}
@@ -21,9 +18,9 @@ use Rattle.lsm_directory.specs.declared.faults.directory_fault.DirectoryFault.{D
 use Rattle.lsm_directory.specs.declared.folder.folder_file.FolderFile.{FolderFile}
 
 module _ (Honest : Type 0) where
-  abbrev then_quiet : (form : Form) (command : DirectoryCommand) (others : List FolderFile) (strict progress : Bool) (was is : Told) (old new said told last : Option (List ℕ))
-      → IsLookedInto form command others strict progress Honest was is old new said told → Keeps told last → IsLookedInto form command others strict progress Honest was is old new said last
-  then_quiet form command others strict progress was is old new said told last done kept = record {
+  abbrev then_quiet : (asked : Asking) (before after : Moment) (said told last : Option (List ℕ))
+      → IsLookedInto asked Honest before after said told → Keeps told last → IsLookedInto asked Honest before after said last
+  then_quiet asked before after said told last done kept = record {
     version = done.version;
     rest = done.rest;
     log = done.log;
@@ -31,20 +28,20 @@ module _ (Honest : Type 0) where
     holds = done.holds;
     whole = done.whole;
     printed = done.printed;
-    quiet = λ asked none. Keeps-trans said told last (done.quiet asked none) kept;
+    quiet = λ quiet none. Keeps-trans said told last (done.quiet quiet none) kept;
   }
 
-  pub done_on : {T F : Type 0} (r : Result T F) (status : ℕ) (form : Form) (command : DirectoryCommand) (others : List FolderFile) (strict progress : Bool) (Stored : ℕ → List ℕ → Type 0) (was is : Told)
-      (old new said told last : Option (List ℕ)) → OnErr r (status ≡ 1) → OnOk r (IsLookedIntoAsGiven form command others strict progress Stored Honest was is old new said told)
-      → (status ≡ 0 → Keeps told last) → status ≡ 0 → IsLookedIntoAsGiven form command others strict progress Stored Honest was is old new said last
-  done_on (Ok x) status form command others strict progress Stored was is old new said told last err done kept zero =
-      record { looked = then_quiet form command others strict progress was is old new said told last done.looked (kept zero); given = done.given }
-  done_on (Err e) status form command others strict progress Stored was is old new said told last err done kept zero = absurd (omega (arith, err, zero))
+  pub done_on : {T F : Type 0} (r : Result T F) (status : ℕ) (asked : Asking) (Stored : ℕ → List ℕ → Type 0) (before after : Moment) (said told last : Option (List ℕ))
+      → OnErr r (status ≡ 1) → OnOk r (IsLookedIntoAsGiven asked Stored Honest before after said told)
+      → (status ≡ 0 → Keeps told last) → status ≡ 0 → IsLookedIntoAsGiven asked Stored Honest before after said last
+  done_on (Ok x) status asked Stored before after said told last err done kept zero =
+      record { looked = then_quiet asked before after said told last done.looked (kept zero); given = done.given }
+  done_on (Err e) status asked Stored before after said told last err done kept zero = absurd (omega (arith, err, zero))
 
 module _ {C M : Type 0} (folders : Ghosts C M) (marks : mark.Ghosts M) where
   pub looks_at : {T F : Type 0} (r : Result T F) (line : DirectoryLine) (others : List FolderFile) (begun ended : FileShelf C M) (old new said told : Option (List ℕ))
       → IsShelfAt folders line.path.now (TellsBeside others) begun
-      → OnOk r (IsLookedIntoAsGiven line.form line.command others line.strict line.progress (stored_at folders marks (told_by folders begun).place) (AreHonest folders.calls) (told_by folders begun) (told_by folders ended) old new said told)
+      → OnOk r (IsLookedIntoAsGiven (asked_by line others) (stored_at folders marks (told_by folders begun).place) (AreHonest folders.calls) (moment (told_by folders begun) old) (moment (told_by folders ended) new) said told)
       → OnlyReads (told_by folders begun) (told_by folders ended) → OnOk r (LooksAtGiven folders marks line old new said told)
   looks_at (Ok x) line others begun ended old new said told on done reads =
       record { looks = record { others = others; begun = begun; on = on; ended = ended; done = done.looked; reads = reads }; given = done.given }
@@ -56,7 +53,7 @@ module _ {C M : Type 0} (folders : Ghosts C M) (marks : mark.Ghosts M) where
     begun = looked.begun;
     on = looked.on;
     ended = looked.ended;
-    done = then_quiet (AreHonest folders.calls) line.form line.command looked.others line.strict line.progress (told_by folders looked.begun) (told_by folders looked.ended) old new said told last looked.done kept;
+    done = then_quiet (AreHonest folders.calls) (asked_by line looked.others) (moment (told_by folders looked.begun) old) (moment (told_by folders looked.ended) new) said told last looked.done kept;
     reads = looked.reads;
   }
 
@@ -73,7 +70,7 @@ module _ {C M : Type 0} (folders : Ghosts C M) (marks : mark.Ghosts M) where
 module _ {C M : Type 0} (folders : Ghosts C M) (marks : mark.Ghosts M) where
   pub fails_at : {T : Type 0} (r : Result T DirectoryFault) (line : DirectoryLine) (others : List FolderFile) (begun ended : FileShelf C M) (old new : Option (List ℕ))
       → IsShelfAt folders line.path.now (TellsBeside others) begun
-      → IfErr r (λ e. IsNotLookedInto line.form line.command line.strict others e (stored_at folders marks (told_by folders begun).place) MayRefuse (AreHonest folders.calls) (told_by folders begun) (told_by folders ended) old new)
+      → IfErr r (λ e. IsNotLookedInto (asked_by line others) (stored_at folders marks (told_by folders begun).place) MayRefuse (AreHonest folders.calls) e (moment (told_by folders begun) old) (moment (told_by folders ended) new))
       → OnlyReads (told_by folders begun) (told_by folders ended) → IfErr r (λ e. FailsToLook folders marks line e old new)
   fails_at (Ok x) line others begun ended old new on refused reads = tt
   fails_at (Err e) line others begun ended old new on refused reads = inr record { others = others; begun = begun; on = on; ended = ended; refused = refused; reads = reads }

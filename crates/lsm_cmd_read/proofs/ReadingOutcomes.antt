@@ -24,7 +24,7 @@ use Rattle.lsm_requests.specs.declared.directory_command.DirectoryCommand.{Direc
 use Rattle.lsm_requests.specs.declared.directory_command.DirectoryCommand.TheVariants.{Check, List as ListFiles, Get, Scan}
 use Rattle.lsm_directory.specs.DirectoryFault.{of_open}
 use Rattle.lsm_directory.specs.Rest.{IsLeftOut, LeavesNothingOut}
-use Rattle.lsm_cmd_read.specs.Answers.{HasNoNote, IsLookedIntoAsGiven, IsLookFault, IsNotLookedInto, IsPerformFault, Leaves, Prints, PrintsBefore, ReliesOn, SaysAbsent}
+use Rattle.lsm_cmd_read.specs.Answers.{Asking, HasNoNote, IsLookedIntoAsGiven, IsLookFault, IsNotLookedInto, IsPerformFault, Leaves, Moment, Prints, PrintsBefore, ReliesOn, SaysAbsent, moment}
 use Rattle.lsm_text.specs.declared.form.Form.{Form}
 use Rattle.lsm_cmd_read.specs.Directory.{AreGiven, Holds, OnlyReads}
 use Rattle.lsm_cmd_read.specs.Opening.{IsOpenRefusal}
@@ -76,92 +76,92 @@ module _ (Stored : ℕ → List ℕ → Type 0) (Refused : Asked → ShelfFault 
   open_refused (open_faults.Check e) was is h = h
   open_refused open_faults.NumbersSpent was is h = h
 
-  pub fault_from_open : (strict : Bool) (others : List FolderFile) (command : DirectoryCommand) (e : DirectoryFault) (was is : Told) → IsOpenRefusal Stored Refused Honest e was is
-      → IsLookFault Stored Refused Honest strict others command e was is
-  fault_from_open strict others command OutOfMemory was is h = tt
-  fault_from_open strict others command Write was is h = absurd h
-  fault_from_open strict others command (Shelf e) was is h = h
-  fault_from_open strict others command (Manifest e) was is h = h
-  fault_from_open strict others command (Tables e) was is h = h
-  fault_from_open strict others command (Read e) was is h = absurd h
-  fault_from_open strict others command NumbersSpent was is h = h
-  fault_from_open strict others command Locked was is h = absurd h
-  fault_from_open strict others command (UnflushedLog number) was is h = absurd h
-  fault_from_open strict others command (TornManifest rest) was is h = absurd h
-  fault_from_open strict others command Absent was is h = absurd h
+  pub fault_from_open : (asked : Asking) (e : DirectoryFault) (was is : Told) → IsOpenRefusal Stored Refused Honest e was is
+      → IsLookFault asked Stored Refused Honest e was is
+  fault_from_open asked OutOfMemory was is h = tt
+  fault_from_open asked Write was is h = absurd h
+  fault_from_open asked (Shelf e) was is h = h
+  fault_from_open asked (Manifest e) was is h = h
+  fault_from_open asked (Tables e) was is h = h
+  fault_from_open asked (Read e) was is h = absurd h
+  fault_from_open asked NumbersSpent was is h = h
+  fault_from_open asked Locked was is h = absurd h
+  fault_from_open asked (UnflushedLog number) was is h = absurd h
+  fault_from_open asked (TornManifest rest) was is h = absurd h
+  fault_from_open asked Absent was is h = absurd h
 
   -- where nothing was written, a refusal to open leaves what it may
-  pub keeps_leaves : (form : Form) (command : DirectoryCommand) (fault : DirectoryFault) (was is : Told) (old : Option (List ℕ))
-      → IsOpenRefusal Stored Refused Honest fault was is → Leaves form command Stored Honest fault was is old old
-  keeps_leaves form command OutOfMemory was is old f = inl (Keeps-refl old)
-  keeps_leaves form command Write was is old f = absurd f
-  keeps_leaves form command (Shelf fault) was is old f = Keeps-refl old
-  keeps_leaves form command (Manifest fault) was is old f = Keeps-refl old
-  keeps_leaves form command (Tables fault) was is old f = Keeps-refl old
-  keeps_leaves form command (Read fault) was is old f = absurd f
-  keeps_leaves form command NumbersSpent was is old f = Keeps-refl old
-  keeps_leaves form command Locked was is old f = absurd f
-  keeps_leaves form command (UnflushedLog number) was is old f = absurd f
-  keeps_leaves form command (TornManifest rest) was is old f = absurd f
-  keeps_leaves form command Absent was is old f = absurd f
+  pub keeps_leaves : (asked : Asking) (fault : DirectoryFault) (was is : Told) (old : Option (List ℕ))
+      → IsOpenRefusal Stored Refused Honest fault was is → Leaves asked Stored Honest fault (moment was old) (moment is old)
+  keeps_leaves asked OutOfMemory was is old f = inl (Keeps-refl old)
+  keeps_leaves asked Write was is old f = absurd f
+  keeps_leaves asked (Shelf fault) was is old f = Keeps-refl old
+  keeps_leaves asked (Manifest fault) was is old f = Keeps-refl old
+  keeps_leaves asked (Tables fault) was is old f = Keeps-refl old
+  keeps_leaves asked (Read fault) was is old f = absurd f
+  keeps_leaves asked NumbersSpent was is old f = Keeps-refl old
+  keeps_leaves asked Locked was is old f = absurd f
+  keeps_leaves asked (UnflushedLog number) was is old f = absurd f
+  keeps_leaves asked (TornManifest rest) was is old f = absurd f
+  keeps_leaves asked Absent was is old f = absurd f
 
   -- ---- something is left out
 
-  pub left_out : (strict : Bool) (others : List FolderFile) (command : DirectoryCommand) (e : DirectoryFault) (was is : Told) (v : Levels) (rest log prev : ℕ) → Holds Honest was is v rest log prev → AreGiven Stored v
-      → IsTrue strict × IsLeftOut rest log prev others e → IsLookFault Stored Refused Honest strict others command e was is
-  left_out strict others command OutOfMemory was is v rest log prev h given l = absurd l.1
-  left_out strict others command Write was is v rest log prev h given l = absurd l.1
-  left_out strict others command (Shelf e) was is v rest log prev h given l = absurd l.1
-  left_out strict others command (Manifest e) was is v rest log prev h given l = absurd l.1
-  left_out strict others command (Tables e) was is v rest log prev h given l = absurd l.1
-  left_out strict others command (Read e) was is v rest log prev h given l = absurd l.1
-  left_out strict others command NumbersSpent was is v rest log prev h given l = absurd l.1
-  left_out strict others command Locked was is v rest log prev h given l = absurd l.1
-  left_out strict others command (UnflushedLog number) was is v rest log prev h given l = (l.0, (v, rest, log, prev, h, given, l.1))
-  left_out strict others command (TornManifest torn) was is v rest log prev h given l = (l.0, (v, rest, log, prev, h, given, l.1))
-  left_out strict others command Absent was is v rest log prev h given l = absurd l.1
+  pub left_out : (asked : Asking) (e : DirectoryFault) (was is : Told) (v : Levels) (rest log prev : ℕ) → Holds Honest was is v rest log prev → AreGiven Stored v
+      → IsTrue asked.strict × IsLeftOut rest log prev asked.others e → IsLookFault asked Stored Refused Honest e was is
+  left_out asked OutOfMemory was is v rest log prev h given l = absurd l.1
+  left_out asked Write was is v rest log prev h given l = absurd l.1
+  left_out asked (Shelf e) was is v rest log prev h given l = absurd l.1
+  left_out asked (Manifest e) was is v rest log prev h given l = absurd l.1
+  left_out asked (Tables e) was is v rest log prev h given l = absurd l.1
+  left_out asked (Read e) was is v rest log prev h given l = absurd l.1
+  left_out asked NumbersSpent was is v rest log prev h given l = absurd l.1
+  left_out asked Locked was is v rest log prev h given l = absurd l.1
+  left_out asked (UnflushedLog number) was is v rest log prev h given l = (l.0, (v, rest, log, prev, h, given, l.1))
+  left_out asked (TornManifest torn) was is v rest log prev h given l = (l.0, (v, rest, log, prev, h, given, l.1))
+  left_out asked Absent was is v rest log prev h given l = absurd l.1
 
-  pub left_out_leaves : (form : Form) (command : DirectoryCommand) (e : DirectoryFault) (was is : Told) (rest log prev : ℕ) (others : List FolderFile) (old : Option (List ℕ)) → IsLeftOut rest log prev others e
-      → Leaves form command Stored Honest e was is old old
-  left_out_leaves form command OutOfMemory was is rest log prev others old l = absurd l
-  left_out_leaves form command Write was is rest log prev others old l = absurd l
-  left_out_leaves form command (Shelf e) was is rest log prev others old l = absurd l
-  left_out_leaves form command (Manifest e) was is rest log prev others old l = absurd l
-  left_out_leaves form command (Tables e) was is rest log prev others old l = absurd l
-  left_out_leaves form command (Read e) was is rest log prev others old l = absurd l
-  left_out_leaves form command NumbersSpent was is rest log prev others old l = absurd l
-  left_out_leaves form command Locked was is rest log prev others old l = absurd l
-  left_out_leaves form command (UnflushedLog number) was is rest log prev others old l = Keeps-refl old
-  left_out_leaves form command (TornManifest torn) was is rest log prev others old l = Keeps-refl old
-  left_out_leaves form command Absent was is rest log prev others old l = absurd l
+  pub left_out_leaves : (asked : Asking) (e : DirectoryFault) (was is : Told) (rest log prev : ℕ) (others : List FolderFile) (old : Option (List ℕ)) → IsLeftOut rest log prev others e
+      → Leaves asked Stored Honest e (moment was old) (moment is old)
+  left_out_leaves asked OutOfMemory was is rest log prev others old l = absurd l
+  left_out_leaves asked Write was is rest log prev others old l = absurd l
+  left_out_leaves asked (Shelf e) was is rest log prev others old l = absurd l
+  left_out_leaves asked (Manifest e) was is rest log prev others old l = absurd l
+  left_out_leaves asked (Tables e) was is rest log prev others old l = absurd l
+  left_out_leaves asked (Read e) was is rest log prev others old l = absurd l
+  left_out_leaves asked NumbersSpent was is rest log prev others old l = absurd l
+  left_out_leaves asked Locked was is rest log prev others old l = absurd l
+  left_out_leaves asked (UnflushedLog number) was is rest log prev others old l = Keeps-refl old
+  left_out_leaves asked (TornManifest torn) was is rest log prev others old l = Keeps-refl old
+  left_out_leaves asked Absent was is rest log prev others old l = absurd l
 
   -- ---- an open directory
 
-  fault_later : (strict : Bool) (others : List FolderFile) (command : DirectoryCommand) (was mid is : Told) (v : Levels) (rest log prev : ℕ) (fault : DirectoryFault)
-      → Becomes mid is → Holds Honest was mid v rest log prev → AreGiven Stored v → IsPerformFault Honest command v fault mid is → IsLookFault Stored Refused Honest strict others command fault was is
-  fault_later strict others command was mid is v rest log prev OutOfMemory b h given f = f
-  fault_later strict others command was mid is v rest log prev Write b h given f = (v, (rest, log, prev, holds_later Honest was mid is v rest log prev b h, given))
-  fault_later strict others command was mid is v rest log prev (Shelf fault) b h given f = absurd f
-  fault_later strict others command was mid is v rest log prev (Manifest fault) b h given f = absurd f
-  fault_later strict others command was mid is v rest log prev (Tables fault) b h given f = absurd f
-  fault_later strict others command was mid is v rest log prev (Read fault) b h given f =
+  fault_later : (asked : Asking) (was mid is : Told) (v : Levels) (rest log prev : ℕ) (fault : DirectoryFault)
+      → Becomes mid is → Holds Honest was mid v rest log prev → AreGiven Stored v → IsPerformFault Honest asked.command v fault mid is → IsLookFault asked Stored Refused Honest fault was is
+  fault_later asked was mid is v rest log prev OutOfMemory b h given f = f
+  fault_later asked was mid is v rest log prev Write b h given f = (v, (rest, log, prev, holds_later Honest was mid is v rest log prev b h, given))
+  fault_later asked was mid is v rest log prev (Shelf fault) b h given f = absurd f
+  fault_later asked was mid is v rest log prev (Manifest fault) b h given f = absurd f
+  fault_later asked was mid is v rest log prev (Tables fault) b h given f = absurd f
+  fault_later asked was mid is v rest log prev (Read fault) b h given f =
       (v, (rest, log, prev, holds_later Honest was mid is v rest log prev b h, given), f.0, read_counted_from Honest fault was mid is v rest log prev h f.1)
-  fault_later strict others command was mid is v rest log prev NumbersSpent b h given f = absurd f
-  fault_later strict others command was mid is v rest log prev Locked b h given f = absurd f
-  fault_later strict others command was mid is v rest log prev (UnflushedLog number) b h given f = absurd f
-  fault_later strict others command was mid is v rest log prev (TornManifest torn) b h given f = absurd f
-  fault_later strict others command was mid is v rest log prev Absent b h given f = (v, (rest, log, prev, holds_later Honest was mid is v rest log prev b h, given), f)
+  fault_later asked was mid is v rest log prev NumbersSpent b h given f = absurd f
+  fault_later asked was mid is v rest log prev Locked b h given f = absurd f
+  fault_later asked was mid is v rest log prev (UnflushedLog number) b h given f = absurd f
+  fault_later asked was mid is v rest log prev (TornManifest torn) b h given f = absurd f
+  fault_later asked was mid is v rest log prev Absent b h given f = (v, (rest, log, prev, holds_later Honest was mid is v rest log prev b h, given), f)
 
-  pub is_fault : {T : Type 0} (r : Result T DirectoryFault) (strict : Bool) (others : List FolderFile) (command : DirectoryCommand) (was mid is : Told) (v : Levels) (rest log prev : ℕ)
-      → Becomes mid is → Holds Honest was mid v rest log prev → AreGiven Stored v → IfErr r (λ e. IsPerformFault Honest command v e mid is)
-      → IfErr r (λ e. IsLookFault Stored Refused Honest strict others command e was is)
-  is_fault (Ok x) strict others command was mid is v rest log prev b h given f = search
-  is_fault (Err e) strict others command was mid is v rest log prev b h given f = fault_later strict others command was mid is v rest log prev e b h given f
+  pub is_fault : {T : Type 0} (r : Result T DirectoryFault) (asked : Asking) (was mid is : Told) (v : Levels) (rest log prev : ℕ)
+      → Becomes mid is → Holds Honest was mid v rest log prev → AreGiven Stored v → IfErr r (λ e. IsPerformFault Honest asked.command v e mid is)
+      → IfErr r (λ e. IsLookFault asked Stored Refused Honest e was is)
+  is_fault (Ok x) asked was mid is v rest log prev b h given f = search
+  is_fault (Err e) asked was mid is v rest log prev b h given f = fault_later asked was mid is v rest log prev e b h given f
 
-pub is_done : {T : Type 0} (r : Result T DirectoryFault) (form : Form) (command : DirectoryCommand) (others : List FolderFile) (strict progress : Bool) (Stored : ℕ → List ℕ → Type 0) (Honest : Type 0) (was mid is : Told) (v : Levels) (rest log prev : ℕ)
-    (old new said judged noted told : Option (List ℕ)) → Becomes mid is → Holds Honest was mid v rest log prev → (IsTrue strict → LeavesNothingOut rest log prev others) → AreGiven Stored v → (ReliesOn Honest command → OnOk r (Prints form command v rest log prev others old new))
-    → (IsFalse progress → Keeps said judged) → (HasNoNote command rest log prev others → Keeps judged noted) → (IsFalse progress → Keeps noted told) → OnOk r (IsLookedIntoAsGiven form command others strict progress Stored Honest was is old new said told)
-is_done (Ok x) form command others strict progress Stored Honest was mid is v rest log prev old new said judged noted told b h all given w j q k = record {
+pub is_done : {T : Type 0} (r : Result T DirectoryFault) (asked : Asking) (Stored : ℕ → List ℕ → Type 0) (Honest : Type 0) (was mid is : Told) (v : Levels) (rest log prev : ℕ)
+    (old new said judged noted told : Option (List ℕ)) → Becomes mid is → Holds Honest was mid v rest log prev → (IsTrue asked.strict → LeavesNothingOut rest log prev asked.others) → AreGiven Stored v → (ReliesOn Honest asked.command → OnOk r (Prints asked.form asked.command v rest log prev asked.others old new))
+    → (IsFalse asked.progress → Keeps said judged) → (HasNoNote asked.command rest log prev asked.others → Keeps judged noted) → (IsFalse asked.progress → Keeps noted told) → OnOk r (IsLookedIntoAsGiven asked Stored Honest (moment was old) (moment is new) said told)
+is_done (Ok x) asked Stored Honest was mid is v rest log prev old new said judged noted told b h all given w j q k = record {
   looked = record {
     version = v;
     rest = rest;
@@ -170,11 +170,11 @@ is_done (Ok x) form command others strict progress Stored Honest was mid is v re
     holds = holds_later Honest was mid is v rest log prev b h;
     whole = all;
     printed = w;
-    quiet = λ asked none. Keeps-trans said noted told (Keeps-trans said judged noted (j asked) (q none)) (k asked);
+    quiet = λ quiet none. Keeps-trans said noted told (Keeps-trans said judged noted (j quiet) (q none)) (k quiet);
   };
   given = given;
 }
-is_done (Err e) form command others strict progress Stored Honest was mid is v rest log prev old new said judged noted told b h all given w j q k = search
+is_done (Err e) asked Stored Honest was mid is v rest log prev old new said judged noted told b h all given w j q k = search
 
 -- an absent key leaves what is written before a fault by a read of a key: nothing
 absent_leaves : (form : Form) (command : DirectoryCommand) (Honest : Type 0) (v : Levels) (old new : Option (List ℕ)) → SaysAbsent Honest command v
@@ -184,36 +184,37 @@ absent_leaves form ListFiles Honest v old new says p = p
 absent_leaves form (Get key output) Honest v old new says p = p
 absent_leaves form (Scan options) Honest v old new says p = absurd says
 
-leaves_later : (form : Form) (command : DirectoryCommand) (Stored : ℕ → List ℕ → Type 0) (Honest : Type 0) (fault : DirectoryFault) (was mid is : Told) (v : Levels) (rest log prev : ℕ) (old new : Option (List ℕ))
-    → Becomes mid is → Holds Honest was mid v rest log prev → AreGiven Stored v → IsPerformFault Honest command v fault mid is → (fault ≢ Write → PrintsBefore form command Honest v old new)
-    → Leaves form command Stored Honest fault was is old new
-leaves_later form command Stored Honest OutOfMemory was mid is v rest log prev old new b h given f p = inr (v, (rest, log, prev, holds_later Honest was mid is v rest log prev b h, given), p (λ e. cc))
-leaves_later form command Stored Honest Write was mid is v rest log prev old new b h given f p = tt
-leaves_later form command Stored Honest (Shelf fault) was mid is v rest log prev old new b h given f p = absurd f
-leaves_later form command Stored Honest (Manifest fault) was mid is v rest log prev old new b h given f p = absurd f
-leaves_later form command Stored Honest (Tables fault) was mid is v rest log prev old new b h given f p = absurd f
-leaves_later form command Stored Honest (Read fault) was mid is v rest log prev old new b h given f p = (v, (rest, log, prev, holds_later Honest was mid is v rest log prev b h, given), p (λ e. cc))
-leaves_later form command Stored Honest NumbersSpent was mid is v rest log prev old new b h given f p = absurd f
-leaves_later form command Stored Honest Locked was mid is v rest log prev old new b h given f p = absurd f
-leaves_later form command Stored Honest (UnflushedLog number) was mid is v rest log prev old new b h given f p = absurd f
-leaves_later form command Stored Honest (TornManifest torn) was mid is v rest log prev old new b h given f p = absurd f
-leaves_later form command Stored Honest Absent was mid is v rest log prev old new b h given f p = absent_leaves form command Honest v old new f (p (λ e. cc))
+leaves_later : (asked : Asking) (Stored : ℕ → List ℕ → Type 0) (Honest : Type 0) (fault : DirectoryFault) (was mid is : Told) (v : Levels) (rest log prev : ℕ) (old new : Option (List ℕ))
+    → Becomes mid is → Holds Honest was mid v rest log prev → AreGiven Stored v → IsPerformFault Honest asked.command v fault mid is → (fault ≢ Write → PrintsBefore asked.form asked.command Honest v old new)
+    → Leaves asked Stored Honest fault (moment was old) (moment is new)
+leaves_later asked Stored Honest OutOfMemory was mid is v rest log prev old new b h given f p = inr (v, (rest, log, prev, holds_later Honest was mid is v rest log prev b h, given), p (λ e. cc))
+leaves_later asked Stored Honest Write was mid is v rest log prev old new b h given f p = tt
+leaves_later asked Stored Honest (Shelf fault) was mid is v rest log prev old new b h given f p = absurd f
+leaves_later asked Stored Honest (Manifest fault) was mid is v rest log prev old new b h given f p = absurd f
+leaves_later asked Stored Honest (Tables fault) was mid is v rest log prev old new b h given f p = absurd f
+leaves_later asked Stored Honest (Read fault) was mid is v rest log prev old new b h given f p = (v, (rest, log, prev, holds_later Honest was mid is v rest log prev b h, given), p (λ e. cc))
+leaves_later asked Stored Honest NumbersSpent was mid is v rest log prev old new b h given f p = absurd f
+leaves_later asked Stored Honest Locked was mid is v rest log prev old new b h given f p = absurd f
+leaves_later asked Stored Honest (UnflushedLog number) was mid is v rest log prev old new b h given f p = absurd f
+leaves_later asked Stored Honest (TornManifest torn) was mid is v rest log prev old new b h given f p = absurd f
+leaves_later asked Stored Honest Absent was mid is v rest log prev old new b h given f p = absent_leaves asked.form asked.command Honest v old new f (p (λ e. cc))
 
-pub is_left : {T : Type 0} (r : Result T DirectoryFault) (form : Form) (command : DirectoryCommand) (Stored : ℕ → List ℕ → Type 0) (Honest : Type 0) (was mid is : Told) (v : Levels) (rest log prev : ℕ) (old new : Option (List ℕ))
-    → Becomes mid is → Holds Honest was mid v rest log prev → AreGiven Stored v → IfErr r (λ e. IsPerformFault Honest command v e mid is) → IfErr r (λ e. e ≢ Write → PrintsBefore form command Honest v old new)
-    → IfErr r (λ e. Leaves form command Stored Honest e was is old new)
-is_left (Ok x) form command Stored Honest was mid is v rest log prev old new b h given f p = search
-is_left (Err e) form command Stored Honest was mid is v rest log prev old new b h given f p = leaves_later form command Stored Honest e was mid is v rest log prev old new b h given f p
+pub is_left : {T : Type 0} (r : Result T DirectoryFault) (asked : Asking) (Stored : ℕ → List ℕ → Type 0) (Honest : Type 0) (was mid is : Told) (v : Levels) (rest log prev : ℕ) (old new : Option (List ℕ))
+    → Becomes mid is → Holds Honest was mid v rest log prev → AreGiven Stored v → IfErr r (λ e. IsPerformFault Honest asked.command v e mid is) → IfErr r (λ e. e ≢ Write → PrintsBefore asked.form asked.command Honest v old new)
+    → IfErr r (λ e. Leaves asked Stored Honest e (moment was old) (moment is new))
+is_left (Ok x) asked Stored Honest was mid is v rest log prev old new b h given f p = search
+is_left (Err e) asked Stored Honest was mid is v rest log prev old new b h given f p = leaves_later asked Stored Honest e was mid is v rest log prev old new b h given f p
 
-pub is_refused : {T : Type 0} (r : Result T DirectoryFault) (form : Form) (command : DirectoryCommand) (strict : Bool) (others : List FolderFile) (Stored : ℕ → List ℕ → Type 0) (Refused : Asked → ShelfFault → Type 0) (Honest : Type 0) (was is : Told) (old new : Option (List ℕ))
-    → IfErr r (λ e. IsLookFault Stored Refused Honest strict others command e was is) → IfErr r (λ e. Leaves form command Stored Honest e was is old new) → IfErr r (λ e. IsNotLookedInto form command strict others e Stored Refused Honest was is old new)
-is_refused (Ok x) form command strict others Stored Refused Honest was is old new f k = search
-is_refused (Err e) form command strict others Stored Refused Honest was is old new f k = record { says = f; left = k }
+pub is_refused : {T : Type 0} (r : Result T DirectoryFault) (asked : Asking) (Stored : ℕ → List ℕ → Type 0) (Refused : Asked → ShelfFault → Type 0) (Honest : Type 0) (before after : Moment)
+    → IfErr r (λ e. IsLookFault asked Stored Refused Honest e before.told after.told) → IfErr r (λ e. Leaves asked Stored Honest e before after)
+    → IfErr r (λ e. IsNotLookedInto asked Stored Refused Honest e before after)
+is_refused (Ok x) asked Stored Refused Honest before after f k = search
+is_refused (Err e) asked Stored Refused Honest before after f k = record { says = f; left = k }
 
 -- memory ran out before anything was written
-pub memory_refused : (form : Form) (command : DirectoryCommand) (strict : Bool) (others : List FolderFile) (Stored : ℕ → List ℕ → Type 0) (Refused : Asked → ShelfFault → Type 0) (Honest : Type 0) (was is : Told) (old : Option (List ℕ))
-    → IsNotLookedInto form command strict others OutOfMemory Stored Refused Honest was is old old
-memory_refused form command strict others Stored Refused Honest was is old = record { says = tt; left = inl (Keeps-refl old) }
+pub memory_refused : (asked : Asking) (Stored : ℕ → List ℕ → Type 0) (Refused : Asked → ShelfFault → Type 0) (Honest : Type 0) (told : Told) (out : Option (List ℕ))
+    → IsNotLookedInto asked Stored Refused Honest OutOfMemory (moment told out) (moment told out)
+memory_refused asked Stored Refused Honest told out = record { says = tt; left = inl (Keeps-refl out) }
 
 -- ---- nothing but reads
 

@@ -11,7 +11,12 @@ use Rattle.lsm_table.specs.ReadFault.{IsMemoryOrShelf, ReadCounted}
 use Rattle.lsm_model.specs.Files.{all_entries}
 use Rattle.lsm_version.specs.Versions.{Levels, files}
 use Rattle.lsm_requests.specs.declared.directory_command.DirectoryCommand.{DirectoryCommand}
-use Rattle.lsm_requests.specs.declared.directory_command.DirectoryCommand.TheVariants.{Check, List as ListFiles, Get, Scan}
+use Rattle.lsm_requests.specs.declared.directory_command.DirectoryCommand.TheVariants.{
+  Check,
+  List as ListFiles,
+  Get,
+  Scan,
+}
 use Rattle.lsm_text.specs.declared.form.Form.{Form}
 use Rattle.lsm_requests.specs.declared.get_output.GetOutput.TheVariants.{Line}
 use Rattle.lsm_cmd_read.specs.Directory.{AreGiven, Holds}
@@ -22,7 +27,62 @@ use Rattle.lsm_cmd_read.specs.Scanned.{LeavesScan, PrintsScan}
 use Rattle.lsm_cmd_read.specs.Opening.{IsOpenRefusal}
 use Rattle.lsm_directory.specs.declared.folder.folder_file.FolderFile.{FolderFile}
 use Rattle.lsm_directory.specs.declared.faults.directory_fault.DirectoryFault.{DirectoryFault}
-use Rattle.lsm_directory.specs.declared.faults.directory_fault.DirectoryFault.TheVariants.{OutOfMemory, Write, Shelf, Manifest, Tables, Read, NumbersSpent, Locked, UnflushedLog, TornManifest, Absent}
+use Rattle.lsm_directory.specs.declared.faults.directory_fault.DirectoryFault.TheVariants.{
+  OutOfMemory,
+  Write,
+  Shelf,
+  Manifest,
+  Tables,
+  Read,
+  NumbersSpent,
+  Locked,
+  UnflushedLog,
+  TornManifest,
+  Absent,
+}
+use Rattle.lsm_requests.specs.declared.directory_line.DirectoryLine.{DirectoryLine}
+use Rattle.lsm_cmd_read.specs.declared.inquiry.Inquiry.{Inquiry}
+
+-- ---- what is asked, and the moments before and after
+
+-- what is asked: a command, with the form of keys and values, of a folder with these files beside
+-- its tables; whether it is refused where something is not read, and whether it tells how far it is
+pub record Asking : Type 0 where
+  pub command : DirectoryCommand
+  pub form : Form
+  pub others : List FolderFile
+  pub strict : Bool
+  pub progress : Bool
+
+-- what an inquiry asks
+abbrev pub asking : Inquiry → Asking
+asking i = record {
+  command = i.command.now;
+  form = i.form;
+  others = i.files.now;
+  strict = i.strict;
+  progress = i.progress;
+}
+
+-- what a line asks of a folder with these files
+abbrev pub asked_by : DirectoryLine → List FolderFile → Asking
+asked_by line files = record {
+  command = line.command;
+  form = line.form;
+  others = files;
+  strict = line.strict;
+  progress = line.progress;
+}
+
+-- a moment: what the shelf was told, and what stands on standard output
+pub record Moment : Type 0 where
+  pub told : Told
+  pub out : Option (List ℕ)
+
+abbrev pub moment : Told → Option (List ℕ) → Moment
+moment told out = record { told = told; out = out }
+
+-- ---- what is written
 
 -- what a command writes for a version, for a manifest with so many bytes at its end that hold no
 -- whole record and with these log numbers, and for the files beside it
@@ -75,25 +135,22 @@ IsQuiet command progress rest log prev others old new =
 -- The shelf's directory holds a version, of which nothing is left out where that is asked for; what
 -- the command prints of it was written on standard output (by `get` and `scan`, over an honest
 -- shelf), and standard error is quiet.
-pub record IsLookedInto (form : Form) (command : DirectoryCommand) (others : List FolderFile)
-    (strict progress : Bool) (Honest : Type 0) (was is : Told)
-    (old new said_old said_new : Option (List ℕ)) : Type 0 where
+pub record IsLookedInto (asked : Asking) (Honest : Type 0) (before after : Moment)
+    (said_old said_new : Option (List ℕ)) : Type 0 where
   pub version : Levels
   pub rest : ℕ
   pub log : ℕ
   pub prev : ℕ
-  pub holds : Holds Honest was is version rest log prev
-  pub whole : IsTrue strict → LeavesNothingOut rest log prev others
-  pub printed : ReliesOn Honest command → Prints form command version rest log prev others old new
-  pub quiet : IsQuiet command progress rest log prev others said_old said_new
+  pub holds : Holds Honest before.told after.told version rest log prev
+  pub whole : IsTrue asked.strict → LeavesNothingOut rest log prev asked.others
+  pub printed : ReliesOn Honest asked.command
+      → Prints asked.form asked.command version rest log prev asked.others before.out after.out
+  pub quiet : IsQuiet asked.command asked.progress rest log prev asked.others said_old said_new
 
 -- So it is of a version whose tables the shelf gave.
-pub record IsLookedIntoAsGiven (form : Form) (command : DirectoryCommand) (others : List FolderFile)
-    (strict progress : Bool) (Stored : ℕ → List ℕ
-    → Type 0) (Honest : Type 0) (was is : Told) (old new said_old said_new
-    : Option (List ℕ)) : Type 0 where
-  pub looked : IsLookedInto form command others strict progress Honest was is old new
-      said_old said_new
+pub record IsLookedIntoAsGiven (asked : Asking) (Stored : ℕ → List ℕ → Type 0) (Honest : Type 0)
+    (before after : Moment) (said_old said_new : Option (List ℕ)) : Type 0 where
+  pub looked : IsLookedInto asked Honest before after said_old said_new
   pub given : AreGiven Stored looked.version
 
 -- the directory holds a version, and the shelf gave its tables
@@ -111,39 +168,39 @@ SaysAbsent Honest (Get key output) v =
 SaysAbsent Honest (Scan options) v = ⊥
 
 -- Nothing is to be left out, and of the version that the directory holds this is.
-abbrev pub LeavesOut : (ℕ → List ℕ → Type 0) → Type 0 → Bool → List FolderFile → DirectoryFault
-    → Told → Told → Type 0
-LeavesOut Stored Honest strict others fault was is =
-    IsTrue strict
+abbrev pub LeavesOut : Asking → (ℕ → List ℕ → Type 0) → Type 0 → DirectoryFault → Told → Told
+    → Type 0
+LeavesOut asked Stored Honest fault was is =
+    IsTrue asked.strict
     × ((v : Levels) × (rest : ℕ) × (log : ℕ) × (prev : ℕ) × Holds Honest was is v rest log prev
-    × AreGiven Stored v × IsLeftOut rest log prev others fault)
+    × AreGiven Stored v × IsLeftOut rest log prev asked.others fault)
 
 -- What a fault says of the directory: the first fault that opening it meets; or it was opened, and
 -- something is left out that is not to be, a write failed, or the shelf did, or the key is absent.
 -- Want of memory says nothing.
-abbrev pub IsLookFault : (ℕ → List ℕ → Type 0) → (Asked → ShelfFault → Type 0) → Type 0 → Bool
-    → List FolderFile → DirectoryCommand → DirectoryFault → Told → Told → Type 0
-IsLookFault Stored Refused Honest strict others command OutOfMemory was is = ⊤
-IsLookFault Stored Refused Honest strict others command Write was is =
+abbrev pub IsLookFault : Asking → (ℕ → List ℕ → Type 0) → (Asked → ShelfFault → Type 0) → Type 0
+    → DirectoryFault → Told → Told → Type 0
+IsLookFault asked Stored Refused Honest OutOfMemory was is = ⊤
+IsLookFault asked Stored Refused Honest Write was is =
     (v : Levels) × HoldsVersion Stored Honest was is v
-IsLookFault Stored Refused Honest strict others command (Shelf fault) was is =
+IsLookFault asked Stored Refused Honest (Shelf fault) was is =
     IsOpenRefusal Stored Refused Honest (Shelf fault) was is
-IsLookFault Stored Refused Honest strict others command (Manifest fault) was is =
+IsLookFault asked Stored Refused Honest (Manifest fault) was is =
     IsOpenRefusal Stored Refused Honest (Manifest fault) was is
-IsLookFault Stored Refused Honest strict others command (Tables fault) was is =
+IsLookFault asked Stored Refused Honest (Tables fault) was is =
     IsOpenRefusal Stored Refused Honest (Tables fault) was is
-IsLookFault Stored Refused Honest strict others command (Read fault) was is =
+IsLookFault asked Stored Refused Honest (Read fault) was is =
     (v : Levels) × HoldsVersion Stored Honest was is v × (Honest → IsMemoryOrShelf fault)
     × ReadCounted fault was is
-IsLookFault Stored Refused Honest strict others command NumbersSpent was is =
+IsLookFault asked Stored Refused Honest NumbersSpent was is =
     IsOpenRefusal Stored Refused Honest NumbersSpent was is
-IsLookFault Stored Refused Honest strict others command Locked was is = ⊥
-IsLookFault Stored Refused Honest strict others command (UnflushedLog number) was is =
-    LeavesOut Stored Honest strict others (UnflushedLog number) was is
-IsLookFault Stored Refused Honest strict others command (TornManifest torn) was is =
-    LeavesOut Stored Honest strict others (TornManifest torn) was is
-IsLookFault Stored Refused Honest strict others command Absent was is =
-    (v : Levels) × HoldsVersion Stored Honest was is v × SaysAbsent Honest command v
+IsLookFault asked Stored Refused Honest Locked was is = ⊥
+IsLookFault asked Stored Refused Honest (UnflushedLog number) was is =
+    LeavesOut asked Stored Honest (UnflushedLog number) was is
+IsLookFault asked Stored Refused Honest (TornManifest torn) was is =
+    LeavesOut asked Stored Honest (TornManifest torn) was is
+IsLookFault asked Stored Refused Honest Absent was is =
+    (v : Levels) × HoldsVersion Stored Honest was is v × SaysAbsent Honest asked.command v
 
 -- What is written of a version before a fault that is no failed write: nothing, or, by a scan and
 -- over an honest shelf, its first lines.
@@ -155,30 +212,31 @@ PrintsBefore form (Get key output) Honest v old new = Keeps old new
 PrintsBefore form (Scan options) Honest v old new = LeavesScan form options Honest v old new
 
 -- What a fault leaves on standard output: nothing where the directory could not be opened.
-abbrev pub Leaves : Form → DirectoryCommand → (ℕ → List ℕ → Type 0) → Type 0 → DirectoryFault → Told
-    → Told → Option (List ℕ) → Option (List ℕ) → Type 0
-Leaves form command Stored Honest OutOfMemory was is old new =
-    Keeps old new ⊎ ((v : Levels) × HoldsVersion Stored Honest was is v
-    × PrintsBefore form command Honest v old new)
-Leaves form command Stored Honest Write was is old new = ⊤
-Leaves form command Stored Honest (Shelf fault) was is old new = Keeps old new
-Leaves form command Stored Honest (Manifest fault) was is old new = Keeps old new
-Leaves form command Stored Honest (Tables fault) was is old new = Keeps old new
-Leaves form command Stored Honest (Read fault) was is old new =
-    (v : Levels) × HoldsVersion Stored Honest was is v × PrintsBefore form command Honest v old new
-Leaves form command Stored Honest NumbersSpent was is old new = Keeps old new
-Leaves form command Stored Honest Locked was is old new = Keeps old new
-Leaves form command Stored Honest (UnflushedLog number) was is old new = Keeps old new
-Leaves form command Stored Honest (TornManifest rest) was is old new = Keeps old new
-Leaves form command Stored Honest Absent was is old new = Keeps old new
+abbrev pub Leaves : Asking → (ℕ → List ℕ → Type 0) → Type 0 → DirectoryFault
+    → (before after : Moment) → Type 0
+Leaves asked Stored Honest OutOfMemory before after =
+    Keeps before.out after.out
+    ⊎ ((v : Levels) × HoldsVersion Stored Honest before.told after.told v
+    × PrintsBefore asked.form asked.command Honest v before.out after.out)
+Leaves asked Stored Honest Write before after = ⊤
+Leaves asked Stored Honest (Shelf fault) before after = Keeps before.out after.out
+Leaves asked Stored Honest (Manifest fault) before after = Keeps before.out after.out
+Leaves asked Stored Honest (Tables fault) before after = Keeps before.out after.out
+Leaves asked Stored Honest (Read fault) before after =
+    (v : Levels) × HoldsVersion Stored Honest before.told after.told v
+    × PrintsBefore asked.form asked.command Honest v before.out after.out
+Leaves asked Stored Honest NumbersSpent before after = Keeps before.out after.out
+Leaves asked Stored Honest Locked before after = Keeps before.out after.out
+Leaves asked Stored Honest (UnflushedLog number) before after = Keeps before.out after.out
+Leaves asked Stored Honest (TornManifest rest) before after = Keeps before.out after.out
+Leaves asked Stored Honest Absent before after = Keeps before.out after.out
 
 -- What a refusal is: what the fault says of the directory, and what it leaves on standard output.
-pub record IsNotLookedInto (form : Form) (command : DirectoryCommand) (strict : Bool)
-    (others : List FolderFile) (fault : DirectoryFault)
-    (Stored : ℕ → List ℕ → Type 0) (Refused : Asked → ShelfFault
-    → Type 0) (Honest : Type 0) (was is : Told) (old new : Option (List ℕ)) : Type 0 where
-  pub says : IsLookFault Stored Refused Honest strict others command fault was is
-  pub left : Leaves form command Stored Honest fault was is old new
+pub record IsNotLookedInto (asked : Asking) (Stored : ℕ → List ℕ → Type 0)
+    (Refused : Asked → ShelfFault → Type 0) (Honest : Type 0) (fault : DirectoryFault)
+    (before after : Moment) : Type 0 where
+  pub says : IsLookFault asked Stored Refused Honest fault before.told after.told
+  pub left : Leaves asked Stored Honest fault before after
 
 -- a command whose refusals name the file of a table
 abbrev pub names_files : DirectoryCommand → Bool

@@ -9,13 +9,15 @@ use Rattle.lsm_folder.specs.declared.mark.Mark as mark
 use Rattle.lsm_shelf.specs.Refusals.{MayRefuse}
 use Rattle.lsm_storage.specs.declared.file.file_shelf.FileShelf.{FileShelf}
 use Rattle.lsm_requests.specs.declared.directory_line.DirectoryLine.{DirectoryLine}
-use Rattle.lsm_cmd_read.specs.Answers.{IsLookedInto, IsNotLookedInto}
+use Rattle.lsm_cmd_read.specs.Answers.{IsLookedInto, IsNotLookedInto, asked_by, moment}
 use Rattle.lsm_cmd_read.specs.Directory.{AreGiven, OnlyReads}
 use Rattle.lsm_directory.specs.Folders.{IsShelfAt, stored_at, told_by}
 use Rattle.lsm_directory.specs.Holding.{IsFolderFault}
 use Rattle.lsm_directory.specs.Looking.{TellsBeside}
 use Rattle.lsm_directory.specs.declared.faults.directory_fault.DirectoryFault.{DirectoryFault}
-use Rattle.lsm_directory.specs.declared.faults.directory_fault.DirectoryFault.TheVariants.{OutOfMemory}
+use Rattle.lsm_directory.specs.declared.faults.directory_fault.DirectoryFault.TheVariants.{
+  OutOfMemory,
+}
 use Rattle.lsm_directory.specs.declared.folder.folder_file.FolderFile.{FolderFile}
 
 module _ {C M : Type 0} (folders : Ghosts C M) where
@@ -28,9 +30,9 @@ module _ {C M : Type 0} (folders : Ghosts C M) where
     pub on : IsShelfAt folders line.path.now (TellsBeside others) begun
     pub ended : FileShelf C M
     pub done :
-        IsLookedInto line.form line.command others line.strict line.progress
-        (AreHonest folders.calls) (told_by folders begun) (told_by folders ended)
-        old new said_old said_new
+        IsLookedInto (asked_by line others) (AreHonest folders.calls)
+        (moment (told_by folders begun) old) (moment (told_by folders ended) new)
+        said_old said_new
     pub reads : OnlyReads (told_by folders begun) (told_by folders ended)
 
 module _ {C M : Type 0} (folders : Ghosts C M) (marks : mark.Ghosts M) where
@@ -51,9 +53,10 @@ module _ {C M : Type 0} (folders : Ghosts C M) (marks : mark.Ghosts M) where
     pub on : IsShelfAt folders line.path.now (TellsBeside others) begun
     pub ended : FileShelf C M
     pub refused :
-        IsNotLookedInto line.form line.command line.strict others fault
+        IsNotLookedInto (asked_by line others)
         (stored_at folders marks (told_by folders begun).place) MayRefuse
-        (AreHonest folders.calls) (told_by folders begun) (told_by folders ended) old new
+        (AreHonest folders.calls) fault (moment (told_by folders begun) old)
+        (moment (told_by folders ended) new)
     pub reads : OnlyReads (told_by folders begun) (told_by folders ended)
 
   -- memory ran out, or the folder was not opened, locked or looked at, and nothing was written; or

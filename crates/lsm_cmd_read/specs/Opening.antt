@@ -7,7 +7,19 @@ use Rattle.lsm_shelf.specs.Told.{Told}
 use Rattle.lsm_journal.specs.Finding.{IsNoVersion, IsTakenLast, IsUnlisted, IsWithoutRoom}
 use Rattle.lsm_journal.specs.Recovering.{IsRecoverRefusal}
 use Rattle.lsm_directory.specs.declared.faults.directory_fault.DirectoryFault.{DirectoryFault}
-use Rattle.lsm_directory.specs.declared.faults.directory_fault.DirectoryFault.TheVariants.{OutOfMemory, Write, Shelf, Manifest, Tables, Read, NumbersSpent, Locked, UnflushedLog, TornManifest, Absent}
+use Rattle.lsm_directory.specs.declared.faults.directory_fault.DirectoryFault.TheVariants.{
+  OutOfMemory,
+  Write,
+  Shelf,
+  Manifest,
+  Tables,
+  Read,
+  NumbersSpent,
+  Locked,
+  UnflushedLog,
+  TornManifest,
+  Absent,
+}
 
 -- The manifest is refused; or it was read and comes to a shape whose tables are refused; or these
 -- are a version, and the shelf did not list its tables; or a number of them is the last one. Memory

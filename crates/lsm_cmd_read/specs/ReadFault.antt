@@ -3,7 +3,19 @@ use Rattle.std.specs.Prelude.{⊤}
 use Rattle.lsm_shelf.specs.Told.{Told}
 use Rattle.lsm_table.specs.ReadFault.{IsMemoryOrShelf, ReadCounted}
 use Rattle.lsm_directory.specs.declared.faults.directory_fault.DirectoryFault.{DirectoryFault}
-use Rattle.lsm_directory.specs.declared.faults.directory_fault.DirectoryFault.TheVariants.{OutOfMemory, Write, Shelf, Manifest, Tables, Read, NumbersSpent, Locked, UnflushedLog, TornManifest, Absent}
+use Rattle.lsm_directory.specs.declared.faults.directory_fault.DirectoryFault.TheVariants.{
+  OutOfMemory,
+  Write,
+  Shelf,
+  Manifest,
+  Tables,
+  Read,
+  NumbersSpent,
+  Locked,
+  UnflushedLog,
+  TornManifest,
+  Absent,
+}
 
 -- Memory ran out, or a write failed; or, over an honest shelf, the shelf refused: a refusal of it
 -- comes with a count that rose.

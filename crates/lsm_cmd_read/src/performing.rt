@@ -7,7 +7,7 @@ ghost use Rattle.lsm_table.specs.Told.{Becomes};
 ghost use Rattle.lsm_model.specs.Files.{all_entries};
 ghost use Rattle.lsm_version.specs.Versions.{files};
 ghost use Rattle.lsm_cmd_read.specs.Answers.{IsLookFault, IsLookedIntoAsGiven, IsPerformFault};
-ghost use Rattle.lsm_cmd_read.specs.Answers.{Leaves, Prints, PrintsBefore, ReliesOn};
+ghost use Rattle.lsm_cmd_read.specs.Answers.{Leaves, Prints, PrintsBefore, ReliesOn, asking, moment};
 ghost use Rattle.lsm_cmd_read.specs.Directory.{AreGiven, Holds, OnlyReads};
 ghost use Rattle.lsm_cmd_read.specs.Opening.{IsOpenRefusal};
 ghost use Rattle.lsm_cmd_read.specs.Listing.{IsChecked, shown_answer};
@@ -193,16 +193,16 @@ fn perform<N: Naming, S: Shelf, R: Threads + Wait + Sync, O: Write, E: Write + S
 ) -> Result<(), DirectoryFault>
     requires named { records ≡ N.registry }
     requires shelves { All (λ s. (S.told s).place ≡ N.place) shelves.items }
-    ensures done { OnOk result (IsLookedIntoAsGiven inquiry.now.form inquiry.now.command.now
-        inquiry.now.files.now inquiry.now.strict inquiry.now.progress (Stored S.Receipt
-        (S.is_of N.place) S.Receipt.number S.Receipt.image) S.honest shelf.old shelf.new
-        (O.contents out.old) (O.contents out.new) (E.contents err.old) (E.contents err.new)) }
-    ensures fault { IfErr result (λ e. IsLookFault (Stored S.Receipt (S.is_of N.place)
-        S.Receipt.number S.Receipt.image) (S.refuses N.place) S.honest inquiry.now.strict
-        inquiry.now.files.now inquiry.now.command.now e shelf.old shelf.new) }
-    ensures left { IfErr result (λ e. Leaves inquiry.now.form inquiry.now.command.now
+    ensures done { OnOk result (IsLookedIntoAsGiven (asking inquiry.now)
+        (Stored S.Receipt (S.is_of N.place) S.Receipt.number S.Receipt.image) S.honest
+        (moment shelf.old (O.contents out.old)) (moment shelf.new (O.contents out.new))
+        (E.contents err.old) (E.contents err.new)) }
+    ensures fault { IfErr result (λ e. IsLookFault (asking inquiry.now)
+        (Stored S.Receipt (S.is_of N.place) S.Receipt.number S.Receipt.image) (S.refuses N.place)
+        S.honest e shelf.old shelf.new) }
+    ensures left { IfErr result (λ e. Leaves (asking inquiry.now)
         (Stored S.Receipt (S.is_of N.place) S.Receipt.number S.Receipt.image) S.honest e
-        shelf.old shelf.new (O.contents out.old) (O.contents out.new)) }
+        (moment shelf.old (O.contents out.old)) (moment shelf.new (O.contents out.new))) }
     ensures reads { OnlyReads shelf.old shelf.new }
 {
     let registry = Registry::shared(alloc, records)?;
@@ -243,17 +243,17 @@ pub(crate) fn perform_as<N: Naming, S: Shelf, R: Threads + Wait + Sync, O: Write
     requires records { records ≡ N.registry }
     requires shelf { (S.told shelf).place ≡ N.place }
     requires shelves { All (λ s. (S.told s).place ≡ N.place) shelves.items }
-    ensures done { OnOk result.0 (IsLookedIntoAsGiven inquiry.now.form inquiry.now.command.now
-        inquiry.now.files.now inquiry.now.strict inquiry.now.progress (Stored S.Receipt
-        (S.is_of N.place) S.Receipt.number S.Receipt.image) S.honest (S.told shelf)
-        (S.told result.1) (O.contents out.old) (O.contents out.new) (E.contents err.old)
-        (E.contents err.new)) }
-    ensures fault { IfErr result.0 (λ e. IsLookFault (Stored S.Receipt (S.is_of N.place)
-        S.Receipt.number S.Receipt.image) (S.refuses N.place) S.honest inquiry.now.strict
-        inquiry.now.files.now inquiry.now.command.now e (S.told shelf) (S.told result.1)) }
-    ensures left { IfErr result.0 (λ e. Leaves inquiry.now.form inquiry.now.command.now
+    ensures done { OnOk result.0 (IsLookedIntoAsGiven (asking inquiry.now)
+        (Stored S.Receipt (S.is_of N.place) S.Receipt.number S.Receipt.image) S.honest
+        (moment (S.told shelf) (O.contents out.old)) (moment (S.told result.1) (O.contents out.new))
+        (E.contents err.old) (E.contents err.new)) }
+    ensures fault { IfErr result.0 (λ e. IsLookFault (asking inquiry.now)
+        (Stored S.Receipt (S.is_of N.place) S.Receipt.number S.Receipt.image) (S.refuses N.place)
+        S.honest e (S.told shelf) (S.told result.1)) }
+    ensures left { IfErr result.0 (λ e. Leaves (asking inquiry.now)
         (Stored S.Receipt (S.is_of N.place) S.Receipt.number S.Receipt.image) S.honest e
-        (S.told shelf) (S.told result.1) (O.contents out.old) (O.contents out.new)) }
+        (moment (S.told shelf) (O.contents out.old))
+        (moment (S.told result.1) (O.contents out.new))) }
     ensures reads { OnlyReads (S.told shelf) (S.told result.1) }
 {
     let mut shelf: NamedShelf<N, S> = NamedShelf::of(shelf);

@@ -3,7 +3,8 @@
 ghost use Rattle.std.specs.Prelude.{◌≡◌, ◌≢◌, ◌⊎◌, All, IfErr, IfOk, OnOk};
 ghost use Rattle.lsm_storage.specs.FileShelf.{file_told};
 ghost use Rattle.lsm_shelf.specs.Stored.{Stored};
-ghost use Rattle.lsm_cmd_read.specs.Answers.{IsLookedIntoAsGiven, IsNotLookedInto, names_files};
+ghost use Rattle.lsm_cmd_read.specs.Answers.{IsLookedIntoAsGiven, IsNotLookedInto, asking};
+ghost use Rattle.lsm_cmd_read.specs.Answers.{moment, names_files};
 ghost use Rattle.lsm_cmd_read.specs.Directory.{OnlyReads};
 ghost use Rattle.lsm_directory.specs.Folders.{IsShelfAt};
 ghost use Rattle.lsm_directory.specs.Holding.{IsFolderFault};
@@ -50,16 +51,14 @@ fn begin<S: Shelf, R: Threads + Wait + Sync, O: Write, E: Write + Send>(
     err: &mut E,
 ) -> (Result<(), DirectoryFault>, S)
     requires shelves { All (λ s. (S.told s).place ≡ (S.told shelf).place) shelves.items }
-    ensures done { OnOk result.0 (IsLookedIntoAsGiven inquiry.now.form inquiry.now.command.now
-        inquiry.now.files.now inquiry.now.strict inquiry.now.progress (Stored S.Receipt
-        (S.is_of (S.told shelf).place) S.Receipt.number S.Receipt.image) S.honest (S.told shelf)
-        (S.told result.1) (O.contents out.old) (O.contents out.new) (E.contents err.old)
-        (E.contents err.new)) }
-    ensures refused { IfErr result.0 (λ e. IsNotLookedInto inquiry.now.form
-        inquiry.now.command.now inquiry.now.strict inquiry.now.files.now e (Stored S.Receipt
-        (S.is_of (S.told shelf).place) S.Receipt.number S.Receipt.image)
-        (S.refuses (S.told shelf).place) S.honest (S.told shelf) (S.told result.1)
-        (O.contents out.old) (O.contents out.new)) }
+    ensures done { OnOk result.0 (IsLookedIntoAsGiven (asking inquiry.now)
+        (Stored S.Receipt (S.is_of (S.told shelf).place) S.Receipt.number S.Receipt.image) S.honest
+        (moment (S.told shelf) (O.contents out.old)) (moment (S.told result.1) (O.contents out.new))
+        (E.contents err.old) (E.contents err.new)) }
+    ensures refused { IfErr result.0 (λ e. IsNotLookedInto (asking inquiry.now)
+        (Stored S.Receipt (S.is_of (S.told shelf).place) S.Receipt.number S.Receipt.image)
+        (S.refuses (S.told shelf).place) S.honest e (moment (S.told shelf) (O.contents out.old))
+        (moment (S.told result.1) (O.contents out.new))) }
     ensures reads { OnlyReads (S.told shelf) (S.told result.1) }
 {
     match Records::new(alloc) {
@@ -89,17 +88,15 @@ pub fn look<S: Shelf, R: Threads + Wait + Sync, O: Write, E: Write + Send>(
     err: &mut E,
 ) -> (u8, S)
     requires shelves { All (λ s. (S.told s).place ≡ (S.told shelf).place) shelves.items }
-    ensures done { result.0 ≡ 0 → IsLookedIntoAsGiven inquiry.now.form inquiry.now.command.now
-        inquiry.now.files.now inquiry.now.strict inquiry.now.progress (Stored S.Receipt
-        (S.is_of (S.told shelf).place) S.Receipt.number S.Receipt.image) S.honest (S.told shelf)
-        (S.told result.1) (O.contents out.old) (O.contents out.new) (E.contents err.old)
-        (E.contents err.new) }
+    ensures done { result.0 ≡ 0 → IsLookedIntoAsGiven (asking inquiry.now)
+        (Stored S.Receipt (S.is_of (S.told shelf).place) S.Receipt.number S.Receipt.image) S.honest
+        (moment (S.told shelf) (O.contents out.old)) (moment (S.told result.1) (O.contents out.new))
+        (E.contents err.old) (E.contents err.new) }
     ensures refused { result.0 ≢ 0 → (result.0 ≡ 1)
-        × ((fault : DirectoryFault) × IsNotLookedInto inquiry.now.form inquiry.now.command.now
-        inquiry.now.strict inquiry.now.files.now fault
+        × ((fault : DirectoryFault) × IsNotLookedInto (asking inquiry.now)
         (Stored S.Receipt (S.is_of (S.told shelf).place) S.Receipt.number S.Receipt.image)
-        (S.refuses (S.told shelf).place) S.honest (S.told shelf) (S.told result.1)
-        (O.contents out.old) (O.contents out.new)) }
+        (S.refuses (S.told shelf).place) S.honest fault (moment (S.told shelf) (O.contents out.old))
+        (moment (S.told result.1) (O.contents out.new))) }
     ensures reads { OnlyReads (S.told shelf) (S.told result.1) }
 {
     let (done, shelf) = begin(rt, alloc, shelf, shelves, inquiry, out, err);

@@ -3,7 +3,7 @@
 //!
 //! Stands on `lsm_opening` for the folder, on `lsm_store` for what compacts beside, and on
 //! `lsm_query` for reads; it picks the name of the database, so that a program needs no proof file.
-//! Its contract: a program ran on the database that was begun or opened there (`ran` of `open_at`),
+//! Its contract: a program ran on the database that was begun or opened there (`ran` of `open`),
 //! or why none did (`refused`); what `Database::write` brings in (`came`), and what `get` and
 //! `scan` answer (`found`, `shown`).
 #![tactic(auto)]
@@ -32,11 +32,12 @@ pub use database::Database;
 pub use database_fault::DatabaseFault;
 pub use lsm_batch::Batch;
 pub use lsm_codec::Bytes;
+pub use lsm_directory::{Paths, SystemPaths};
 pub use lsm_folder::{Images, Mute};
 pub use lsm_opening::WriterFault;
 pub use lsm_query::Pair;
 pub use lsm_state::{Ingested, StateFault};
 pub use lsm_store::WorkerEnd;
 pub use lsm_table::ReadFault;
-pub use opening::{open, open_at};
+pub use opening::open;
 pub use program::Program;

@@ -9,8 +9,8 @@ ghost use Rattle.lsm_database.specs.Running.{IsUnopened, IsUnpreparedAt, RunsAt}
 use crate::database_fault::DatabaseFault;
 use crate::program::Program;
 use crate::running::run_on;
-use lsm_directory::{Paths, SystemPaths, open_at as folder_at};
-use lsm_folder::{FolderCalls, Mark, Reasons, SystemFolder, SystemMark, Witness};
+use lsm_directory::{Paths, open_at as folder_at};
+use lsm_folder::{FolderCalls, Reasons};
 use lsm_opening::{Prepared, WriterFault, plainly, prepare};
 use lsm_storage::FileShelf;
 use lsm_store::WorkerEnd;
@@ -75,13 +75,14 @@ where
 /// Opens the database in the folder at a path, or begins one where no file of one is there, and
 /// runs a program on it while two workers compact. Answers what the program answers, and what each
 /// worker has done: a worker that met a fault has ended early. Once it answers, the lock of the
-/// folder is free, and all that was written is on the device.
+/// folder is free, and all that was written is on the device. `folders` says where folders are
+/// found: `SystemPaths` finds those of the system.
 ///
 /// The folder has to be there. `Directory` where it can't be locked, read or written, or the
 /// database in it can't be read; `LostCurrent` where it has files of a database and no `CURRENT`;
 /// `UnflushedLog` beside a log that LevelDB would read; `OutOfMemory`, also where there is no
 /// thread.
-pub fn open_at<C, F, R, P>(
+pub fn open<C, F, R, P>(
     rt: &R,
     folders: &F,
     path: &str,
@@ -102,27 +103,4 @@ where
         Ok(run) => Ok(run),
         Err(fault) => Err(DatabaseFault { fault }),
     }
-}
-
-/// The same in a folder of the system, which is asked by `files`.
-pub fn open<W, R, P>(
-    rt: &R,
-    files: HostRuntime,
-    path: &str,
-    program: P,
-) -> Result<(P::Answer, Vec<WorkerEnd>), DatabaseFault>
-where
-    W: Witness + Send + Sync,
-    W::Kept: Send + Sync,
-    R: Threads + Wait + Sync,
-    P: Program,
-    ensures ran { IfOk result (λ r. RunsAt ⟦<SystemFolder<HostRuntime, W> as FolderCalls>⟧ path.now
-        (λ es. P.says program (AreHonest ⟦<SystemFolder<HostRuntime, W> as FolderCalls>⟧.calls) es
-        r.0) r.1.items) }
-    ensures count { IfOk result (λ r. vec_len r.1 ≡ 2) }
-    ensures refused { IfErr result (λ e. IsUnopened
-        ⟦<SystemFolder<HostRuntime, W> as FolderCalls>⟧ ⟦<SystemMark<W> as Mark>⟧ path.now
-        e.fault) }
-{
-    open_at(rt, &SystemPaths::<W>::new(files), path, program)
 }

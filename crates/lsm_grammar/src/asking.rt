@@ -527,6 +527,7 @@ fn shell_in<'a>(found: &ArgMatches<'a>) -> Option<Request<'a>>
         path,
         options,
         workers,
+        bails: is_set(found, "bail"),
     }))
 }
 

@@ -1,9 +1,9 @@
 //! The texts of the commands' help.
 
 use crate::arguments::{
-    ACCEPT_REST, ALL, Argument, BATCH, BEGIN, BENCHMARKS, BESIDE_LOG, COMPACTORS, COUNT, EXISTS,
-    FILES, FIRST, FOLDER, FROM, FROM_LINE, JSON, KEY, KEYS, LAST, LIMIT, NUM, PREFIX, PROGRESS,
-    RAW, SOME_WORKERS, STRICT, SVG, TEXT, TO, VALUE, VALUE_SIZE, VERIFIERS, WORKERS,
+    ACCEPT_REST, ALL, Argument, BAIL, BATCH, BEGIN, BENCHMARKS, BESIDE_LOG, COMPACTORS, COUNT,
+    EXISTS, FILES, FIRST, FOLDER, FROM, FROM_LINE, JSON, KEY, KEYS, LAST, LIMIT, NUM, PREFIX,
+    PROGRESS, RAW, SOME_WORKERS, STRICT, SVG, TEXT, TO, VALUE, VALUE_SIZE, VERIFIERS, WORKERS,
 };
 use crate::command_name::{CommandName, named};
 
@@ -64,10 +64,11 @@ why a command is refused or is none, names logs that are not read, and with
 Exit status:
   0  done
   1  refused; standard error says why: `refused N Name ..`, `write fault`,
-     `read fault` or `bad line I`. A second line may say more: the call that the
-     system refused, with its path and the system's reason, the file of a fault,
-     the place in a line, or what is to be done. `get` with --raw or --exists:
-     the key is absent, and standard error says `absent`
+     `read fault` or `bad line I`, and of a shell also `failed line` or
+     `open batch`. A second line may say more: the call that the system refused,
+     with its path and the system's reason, the file of a fault, the place in a
+     line, or what is to be done. `get` with --raw or --exists: the key is absent,
+     and standard error says `absent`
   2  bad command line
 
 Example: lsm check db";
@@ -359,9 +360,9 @@ DIR once with the program that wrote it, which flushes its log. With
 win over it in LevelDB, and be newer or older than it.
 
 Another program that has DIR open is `refused 52 Locked`. Each run that opens or
-begins a database begins a new manifest, also where the batch is then refused;
-old manifests stay until `lsm clean DIR`. At 12 tables in level 0 the batch is
-`refused 40 LevelZeroFull`: run `lsm compact DIR`, and then ingest again.
+begins a database begins a new manifest, also where the batch is then refused,
+and first removes those that CURRENT does not name. At 12 tables in level 0 the
+batch is `refused 40 LevelZeroFull`: run `lsm compact DIR`, and then ingest again.
 
 Exit status: 0 the batch came in, 1 refused, 2 bad command line. After a `write
 fault` the batch is in; after `refused 9 Device` it may be.",
@@ -495,8 +496,9 @@ bytes.
 What stands in a write-ahead log (`N.log`) is not read, and stays there. Another
 program that has DIR open is `refused 52 Locked`, and a manifest whose last B
 bytes are no whole record `refused 61 TornManifest B`, as `clean` says, unless
---accept-rest is said. Each run begins a new manifest; old manifests stay until `lsm clean DIR`. Run this after an `ingest`
-that is `refused 40 LevelZeroFull`.
+--accept-rest is said. Each run begins a new manifest, and first removes those
+that CURRENT does not name. Run this after an `ingest` that is `refused 40
+LevelZeroFull`.
 
 Exit status: 0 done, 1 refused, 2 bad command line. After a refusal what was
 installed before it stands, and no table was removed, but by a removal that then
@@ -532,7 +534,7 @@ command line.",
 
 const SHELL: Page = Page {
     name: "shell",
-    arguments: &[FOLDER, TEXT, BEGIN, BESIDE_LOG, COMPACTORS],
+    arguments: &[FOLDER, TEXT, BEGIN, BESIDE_LOG, COMPACTORS, BAIL],
     about: "Runs commands from standard input on a folder",
     text: "Opens the LevelDB folder DIR once, or begins a database there, as `ingest` does,
 and holds its lock; then it reads commands on standard input, one a line, and
@@ -568,12 +570,14 @@ prints a reply for each, which is written out before the next line is read.
 KEY, VALUE, FROM and TO are hex, or text with --text, `.` for no bytes; a space
 parts two words. A refusal is a reply too, `refused N Name ..`, in a list in
 place of `end`. A line of another form is answered `bad line: REASON`. The shell
-goes on behind both. A line has at most 8388608 bytes.
+goes on behind both, and ends with status 1 and `failed line`; with --bail it
+ends behind the first one. A line has at most 8388608 bytes.
 
 Between `begin` and `commit` all other lines go on without what is queued; of one
 key the last write comes in. A write that a batch cannot have as well is `refused
-39 TooLarge`, and the others stay. Where standard input, output and error are
-terminals, `lsm> ` on standard error asks for each line.
+39 TooLarge`, and the others stay. A batch that is open at the end is let go, and
+is an `open batch`. Where standard input, output and error are terminals, `lsm> `
+on standard error asks for each line.
 
 --workers is how many threads compact beside the lines as long as the shell runs,
 1 to 16; if it is not said none does. Replies are as without them: `none` and
@@ -584,9 +588,10 @@ Of --begin and --beside-log, and of all that is refused before the first line,
 the page of `ingest` says more. A second program that wants to write in DIR is
 `refused 52 Locked` as long as the shell runs.
 
-Exit status: 0 behind `quit` or the end of the input, 1 where the folder is
-refused, a reply cannot be written, the input cannot be read, or such a thread
-has ended early, 2 bad command line.",
+Exit status: 0 behind `quit` or the end of the input, 1 where a line was bad or
+refused, a batch is open at the end, the folder is refused, a reply cannot be
+written, the input cannot be read, or such a thread has ended early, 2 bad
+command line.",
     example: "Example: printf 'put apple red\\nget apple\\n' | lsm shell db --text",
 };
 
@@ -657,7 +662,8 @@ fn usage(name: CommandName) -> &'static str {
         CommandName::Compact =>
             "lsm compact <DIR> [--all] [--from <KEY>] [--to <KEY>] [--text] [--workers <N>] [--accept-rest] [--progress]",
         CommandName::Clean => "lsm clean <DIR> [--accept-rest]",
-        CommandName::Shell => "lsm shell <DIR> [--text] [--begin] [--beside-log] [--workers <N>]",
+        CommandName::Shell =>
+            "lsm shell <DIR> [--text] [--begin] [--beside-log] [--workers <N>] [--bail]",
         CommandName::Bench =>
             "lsm bench <DIR> [--benchmarks <LIST>] [--num <N>] [--value-size <N>] [--workers <N>]",
         CommandName::Help => "lsm help [COMMAND]",

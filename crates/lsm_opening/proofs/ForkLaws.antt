@@ -1,5 +1,5 @@
 -- Forks, one after another.
-use Rattle.std.proofs.Common.{◌≡◌, ℕ, zero, suc, ◌+◌, List, [], ◌∷◌, ◌++◌, replicate, refl, sym, ap, ◌∙◌, arith}
+use Rattle.std.proofs.Common.{◌≡◌, ℕ, zero, suc, ◌+◌, List, [], ◌∷◌, ◌++◌, replicate, refl, ap, ◌∙◌, arith}
 use Rattle.lsm_shelf.specs.Told.{Told}
 
 replicate_end : (t : Told) (n : ℕ) → replicate n t ++ t ∷ [] ≡ t ∷ replicate n t

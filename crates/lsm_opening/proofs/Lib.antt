@@ -1,6 +1,7 @@
 mod NameKindLaws
 mod NameLaws
 mod Looked
+mod TidyLaws
 mod PartsLaws
 mod StartLaws
 mod ForkLaws

@@ -10,6 +10,7 @@ use Rattle.lsm_directory.specs.Looking.{IsLook, LooksStopped, OnlyLooks}
 use Rattle.lsm_directory.specs.declared.faults.directory_fault.DirectoryFault.{DirectoryFault}
 use Rattle.lsm_directory.specs.declared.faults.directory_fault.DirectoryFault.TheVariants.{OutOfMemory, Write, Shelf, Manifest, Tables, Read, NumbersSpent, Locked, UnflushedLog, TornManifest, Absent}
 use Rattle.lsm_opening.specs.Preparing.{OnlyLocks}
+use Rattle.lsm_opening.specs.Tidying.{OnlyReads}
 
 pub looks_none : (a : List Call) → OnlyLooks a a
 looks_none a = ([], refl, λ call has. absurd has)
@@ -42,5 +43,5 @@ locks_alone (UnflushedLog number) old new is = absurd is
 locks_alone (TornManifest rest) old new is = absurd is
 locks_alone Absent old new is = absurd is
 
-pub locks_then : (old held new : List Call) → IsHeld Exclusive old held → OnlyLooks held new → OnlyLocks old new
-locks_then old held new (answer, is, goes) looked = (answer, subst (λ (calls : List Call). OnlyLooks calls new) is looked)
+pub locks_then : (old held new : List Call) → IsHeld Exclusive old held → OnlyReads held new → OnlyLocks old new
+locks_then old held new (answer, is, goes) reads = (answer, subst (λ (calls : List Call). OnlyReads calls new) is reads)

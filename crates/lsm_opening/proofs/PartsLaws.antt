@@ -1,5 +1,5 @@
 -- Parts that were just made.
-use Rattle.std.proofs.Common.{◌≡◌, ℕ, ◌≤◌, List, subst, sym, arith}
+use Rattle.std.proofs.Common.{◌≡◌, ℕ, ◌≤◌, List, subst}
 use Rattle.atomic_table.specs.Seated.{TableId}
 use Rattle.lsm_pins.specs.Known.{Known}
 use Rattle.lsm_state.specs.Making.{IsNewBoard}

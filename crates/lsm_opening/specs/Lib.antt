@@ -3,6 +3,7 @@ pub mod WriterFault
 pub mod CompactFault
 pub mod Parts
 pub mod Names
+pub mod Tidying
 pub mod Preparing
 pub mod Starting
 pub mod Compactions

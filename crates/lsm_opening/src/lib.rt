@@ -10,11 +10,14 @@
 // What a state is made with, as one value.
 mod parts;
 
-// A folder is held and looked at: to which database its names lead, and which logs are beside it.
+// A folder is held and looked at: to which database its names lead, and which logs are beside it;
+// and what the last openings left behind is removed.
 mod holding;
 mod names;
+mod obsolete;
 mod prepared;
 mod preparing;
+mod tidying;
 
 // A database is begun or opened.
 mod starting;
@@ -33,6 +36,7 @@ pub use faults::writer_fault::WriterFault;
 pub use forking::forks;
 pub use holding::held_shelf;
 pub use names::{is_temporary, manifest_in, table_in};
+pub use obsolete::is_obsolete;
 pub use parts::NewParts;
 pub use prepared::{Prepared, Start};
 pub use preparing::{plainly, prepare};

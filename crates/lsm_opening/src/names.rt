@@ -98,6 +98,30 @@ fn least_unused(names: &[String]) -> Option<u64>
     Some(next)
 }
 
+/// Whether the file of this name has the last number that there is.
+fn has_last_number(name: &str) -> bool
+    ensures { MatchBool result (IsNumbered (2 ^ 64 - 1) name.now)
+        (IsNumbered (2 ^ 64 - 1) name.now → ⊥) }
+{
+    match number_in(name) {
+        Some(number) => number == u64::MAX,
+        None => false,
+    }
+}
+
+/// Whether one of these files has.
+pub(crate) fn are_numbers_spent(names: &[String]) -> bool
+    ensures { MatchBool result (Among (map string_bytes names.now) (IsNumbered (2 ^ 64 - 1)))
+        (Among (map string_bytes names.now) (IsNumbered (2 ^ 64 - 1)) → ⊥) }
+{
+    for name in names {
+        if has_last_number(name.as_str()) {
+            return true;
+        }
+    }
+    false
+}
+
 /// The number of the manifest of this name.
 pub fn manifest_in(name: &str) -> Option<u64>
     ensures only { IfSome result (λ n. IsManifestName n name.now) }

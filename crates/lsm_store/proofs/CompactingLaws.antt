@@ -1,6 +1,7 @@
 -- What workers leave of a state.
 use Rattle.std.proofs.Common.{◌≡◌, ℕ, suc, ◌+◌, ◌==◌, if◌then◌else◌, Bool, true, false, Option, Some, None, List, [], ◌∷◌, refl, sym, ap, ◌∙◌, inl, inr, arith, subst}
-use Rattle.std.specs.Prelude.{slice_get, sum_by}
+use Rattle.std.specs.Prelude.{◌⊎◌, slice_get, slice_set, sum_by}
+use Rattle.std.proofs.lemmas.Bool.{cases_eq}
 use Rattle.std.specs.Option.{option_map}
 use Rattle.std.proofs.Math.Logic.{∥∥₁_map}
 use Rattle.std.proofs.lemmas.List.Sums.{sum_by-cons, sum_by-set}
@@ -15,7 +16,8 @@ use Rattle.lsm_version.specs.Changes.{changed}
 use Rattle.lsm_journal.specs.Difference.{Difference, changed_by}
 use Rattle.lsm_model.specs.Files.{all_entries}
 use Rattle.lsm_codec.specs.Entries.{answer}
-use Rattle.lsm_slots.specs.Slots.{Epoch, Slotted, Looked, Published, current_id}
+use Rattle.lsm_slots.specs.Slots.{Epoch, HasEpoch, Slotted, Looked, Published, current_id}
+use Rattle.lsm_slots.proofs.CallerLemmas.{set_else, set_found}
 use Rattle.lsm_shelf.specs.Told.{Told}
 use Rattle.lsm_live.specs.Booked.{booked, without}
 use Rattle.lsm_merge.specs.Work.{Done, Work}
@@ -24,7 +26,7 @@ use Rattle.lsm_state.specs.Installing.{Installed, IsInstallRefusal, IsInstalling
 use Rattle.lsm_state.specs.Reserving.{reserved}
 use Rattle.lsm_state.specs.declared.state_fault.StateFault.{StateFault}
 use Rattle.lsm_state.specs.declared.state_fault.StateFault.TheVariants.{OutOfMemory, Shelf, Read, BadLevel, EmptyBatch, KeyOrder, TooLarge, LevelZeroFull, SequencesSpent, Halted, UnknownSnapshot, Conflict, UnknownTicket, NumbersSpent, Stale, SlotsHeld, VersionsSpent, PinsSpent}
-use Rattle.lsm_store.specs.Compacting.{IsAsFound, IsCompactingStep, IsKeptByCompaction, IsOfWorkers, installs_in, pins_in, pins_of}
+use Rattle.lsm_store.specs.Compacting.{AddsCurrentAlone, IsAsFound, IsCompactingStep, IsKeptByCompaction, IsOfWorkers, installs_in, pins_in, pins_of}
 
 -- ---- pins
 
@@ -60,6 +62,37 @@ pins_published old new v p id =
     let was = ap (pins_in id) (get_or_from_slice_get old.epochs p.slot None None p.was_free) in
     let is = no_pins e id refl in
     ap (sum_by (pins_in id)) p.epochs ∙ omega (arith, put, was, is)
+
+-- ---- versions in slots
+
+-- what a slot has after looks it had before
+looked_had : (old new : Slotted) → Looked old new → (slot : ℕ) (e : Epoch) → HasEpoch new slot e → HasEpoch old slot e
+looked_had old new l slot e had = elim (l.each slot) [
+  | inl same ↦ sym same ∙ had
+  | inr freed ↦ (let both : Some None ≡ Some (Some e) = sym freed.free ∙ had in cc)
+]
+
+pub adds_none : (old new : Slotted) → new ≡ old → AddsCurrentAlone old new
+adds_none old new e slot f had = inl (slot, f, subst (λ (s : Slotted). HasEpoch s slot f) e had, refl)
+
+-- looks only free slots
+pub adds_looked : (old new : Slotted) → Looked old new → AddsCurrentAlone old new
+adds_looked old new l slot e had = inl (slot, e, looked_had old new l slot e had, refl)
+
+in_place : {X : Type 0} (xs : List (Option X)) (at slot : ℕ) (x y : X) → slice_get (slice_set xs at (Some x)) slot ≡ Some (Some y) → (slice_get xs slot ≡ Some (Some y)) ⊎ (x ≡ y)
+in_place xs at slot x y e = elim (cases_eq slot at) [
+  | inl here ↦ (let is : Some (Some y) ≡ Some (Some x) = sym (subst (λ i. slice_get (slice_set xs at (Some x)) i ≡ Some (Some y)) here e) ∙ set_found xs at (Some x) (Some y) (subst (λ i. slice_get (slice_set xs at (Some x)) i ≡ Some (Some y)) here e) in inr (cc))
+  | inr other ↦ inl (sym (set_else xs at slot (Some x) other) ∙ e)
+]
+
+-- behind looks a version came into a slot, and is current
+pub adds_published : (old mid new : Slotted) (v : Levels) → Looked old mid → Published mid new v → AddsCurrentAlone old new
+adds_published old mid new v l p slot e had =
+    let here : Epoch = record { id = suc (current_id mid); version = v; pins = 0 } in
+    elim (in_place mid.epochs p.slot slot here e (subst (λ (es : List (Option Epoch)). slice_get es slot ≡ Some (Some e)) p.epochs had)) [
+      | inl before ↦ inl (slot, e, looked_had old mid l slot e before, refl)
+      | inr is ↦ inr (sym (ap (λ (x : Epoch). x.version) is) ∙ sym p.version_is)
+    ]
 
 -- ---- what was found stays
 
@@ -107,6 +140,7 @@ step_beside Honest was is mid events e b only run none = record {
   pinners = ap (λ (h : Held). h.pinners) e ∙ b.4;
   found = found_by_parts Honest was is (ap (λ (h : Held). h.slots.version) e ∙ ap (λ (s : Slotted). s.version) b.0) (ap (λ (h : Held). h.slots.epochs) e ∙ ap (λ (s : Slotted). s.epochs) b.0)
       (ap (λ (h : Held). h.history) e ∙ b.1) (ap (λ (h : Held). h.snapshots) e ∙ b.2);
+  slots = adds_none was.slots is.slots (ap (λ (h : Held). h.slots) e ∙ b.0);
 }
 
 pub step_none : (Honest : Type 0) (was is : Held) → is ≡ was → IsCompactingStep Honest was is
@@ -152,6 +186,7 @@ step_installed Honest was is d t u i answers event =
         pins = λ id. pins_published i.slots is.slots _ i.changes.published id ∙ pins_looked was.slots i.slots i.sought.looked id;
         answers = answers;
       };
+      slots = adds_published was.slots i.slots is.slots _ i.sought.looked i.changes.published;
     }
 
 -- what a refused install may change: the slots, by looks, the next number, and whether the state is halted
@@ -193,6 +228,7 @@ step_refused Honest was is d e t u refused event = elim refused [
           pins = λ id. pins_looked was.slots is.slots looked id;
           answers = λ h. same_answers was is looked.version;
         };
+        slots = adds_looked was.slots is.slots looked;
       }
 ]
 

@@ -2,6 +2,8 @@ pub mod BackgroundLaws
 pub mod CallerLemmas
 pub mod CompactingLaws
 pub mod FoundLaws
+pub mod KeptLaws
+pub mod NamedLaws
 pub mod PromiseLaws
 pub mod ReaderLaws
 pub mod ScanLaws

@@ -1,11 +1,12 @@
 -- What workers leave of a state, and which facts of it they keep (this project's rule).
-use Rattle.std.specs.Prelude.{◌≡◌, ℕ, suc, ◌+◌, ◌==◌, if◌then◌else◌, List, [], ◌∷◌, Option, None}
-use Rattle.std.specs.Prelude.{Some, sum_by}
+use Rattle.std.specs.Prelude.{◌≡◌, ℕ, suc, ◌+◌, ◌==◌, ◌<◌, ◌≤◌, ◌⊎◌, if◌then◌else◌, List, [], ◌∷◌}
+use Rattle.std.specs.Prelude.{Option, None, Some, sum_by}
 use Rattle.lsm_codec.specs.Lists.{Has}
 use Rattle.lsm_model.specs.Runs.{Event, Ingest, Snapshot, Release, Reserve, Cancel, Draw, Install}
 use Rattle.lsm_model.specs.Runs.{Spend, Nothing, Run}
 use Rattle.lsm_pins.specs.Known.{Known}
-use Rattle.lsm_slots.specs.Slots.{Epoch, Slotted, current_id}
+use Rattle.lsm_slots.specs.Slots.{Epoch, HasEpoch, Slotted, current_id}
+use Rattle.lsm_state.specs.Collecting.{IsKeptNumber}
 use Rattle.lsm_state.specs.Held.{Held, plain}
 use Rattle.lsm_state.specs.Installing.{SameAnswers}
 
@@ -66,13 +67,25 @@ pub record IsLeftByWorkers (Honest : Type 0) (found h : Held) : Type 0 where
   pub reached : ∥ IsWorkersRun Honest found h ∥₁
   pub as_found : IsAsFound Honest found h
 
+-- each version that has a slot had one, or is the current one
+abbrev pub AddsCurrentAlone : Slotted → Slotted → Type 0
+AddsCurrentAlone old new = (slot : ℕ) (e : Epoch) → HasEpoch new slot e
+    → ((at : ℕ) × (f : Epoch) × HasEpoch old at f × (f.version ≡ e.version))
+    ⊎ (e.version ≡ new.version)
+
 -- What one taking of the lock by a worker leaves. On the plain machine it is a run of what workers
--- do; and what was found stays.
+-- do; what was found stays; and no version gets a slot but the current one.
 pub record IsCompactingStep (Honest : Type 0) (was is : Held) : Type 0 where
   pub run : IsWorkersRun Honest was is
   pub options : is.options ≡ was.options
   pub pinners : is.pinners ≡ was.pinners
   pub found : IsAsFound Honest was is
+  pub slots : AddsCurrentAlone was.slots is.slots
+
+-- The next file number does not fall; and of the numbers below it none is kept that was not.
+pub record KeepsNoMore (was is : Held) : Type 0 where
+  pub next : was.next ≤ is.next
+  pub kept : (n : ℕ) → n < was.next → IsKeptNumber is n → IsKeptNumber was n
 
 -- each such step keeps the fact
 abbrev pub IsKeptByCompaction : Type 0 → (Held → Type 0) → Type 0

@@ -1,46 +1,102 @@
 -- What is removed beside workers (this project's rule).
-use Rattle.std.specs.Prelude.{◌≡◌, ℕ, zero, suc, ◌⊎◌, List, [], ◌∷◌, ◌++◌}
-use Rattle.lsm_shelf.specs.Told.{Told, Becomes, Forked, listing, removing}
-use Rattle.lsm_state.specs.Collecting.{IsKeptNumber}
+use Rattle.std.specs.Prelude.{◌≡◌, ℕ, zero, suc, ◌≤◌, ◌⊎◌, ◌↔◌, Bool, List, [], ◌∷◌, ◌++◌}
+use Rattle.lsm_codec.specs.Lists.{Has}
+use Rattle.lsm_shelf.specs.Asked.{Asked, ListTables, Remove}
+use Rattle.lsm_shelf.specs.Told.{Told, Becomes, forking, listing}
+use Rattle.lsm_shelf.specs.declared.shelf_fault.ShelfFault.{ShelfFault}
+use Rattle.lsm_state.specs.Collecting.{IsKeptNumber, IsRemoveRefusal, IsRemovedOrKept, outside}
 use Rattle.lsm_state.specs.Held.{Held}
+use Rattle.lsm_state.specs.declared.state_fault.StateFault.{StateFault}
 
--- the shelf was asked to remove a table that is not kept, or nothing
-abbrev pub RemovesUnkept : Held → Told → Told → Type 0
-RemovesUnkept h was is = Becomes was is
-    ⊎ ((n : ℕ) × (IsKeptNumber h n → ⊥) × Becomes (removing n was) is)
+-- ---- one table
+
+-- It was removed, and is not kept; or it is kept, and stays; or the state refused.
+abbrev pub TriesToRemove : Held → ℕ → Told → Told → Type 0
+TriesToRemove h n was is = ((did : Bool) × IsRemovedOrKept h n did was is)
+    ⊎ ((e : StateFault) × IsRemoveRefusal h n e was is)
 
 -- So it was at one taking of the lock, where the fact held.
-pub record Removes (keeps : Held → Type 0) (was is : Told) : Type 0 where
+pub record Removes (keeps : Held → Type 0) (n : ℕ) (was is : Told) : Type 0 where
   pub found : Held
   pub kept : ∥ keeps found ∥₁
-  pub asked : RemovesUnkept found was is
+  pub tried : TriesToRemove found n was is
 
--- so often, one after another
-abbrev pub RemovesOften : (Held → Type 0) → ℕ → Told → Told → Type 0
-RemovesOften keeps zero was is = is ≡ was
-RemovesOften keeps (suc count) was is =
-    (mid : Told) × RemovesOften keeps count was mid × Removes keeps mid is
+-- ---- one sweep
 
--- Tables were listed, and some of them removed.
+-- each of these, one after another
+abbrev pub RemovesEach : (Held → Type 0) → List ℕ → Told → Told → Type 0
+RemovesEach keeps [] was is = is ≡ was
+RemovesEach keeps (n ∷ ns) was is =
+    (mid : Told) × Removes keeps n was mid × RemovesEach keeps ns mid is
+
+-- those of the listed numbers that are not kept; or none, where the state did not say
+abbrev pub AreLeft : Held → (listed left : List ℕ) → Type 0
+AreLeft h listed left = ((kept : List ℕ) × ((n : ℕ) → Has kept n ↔ IsKeptNumber h n)
+    × (left ≡ outside kept listed)) ⊎ (left ≡ [])
+
+-- So it was at one taking of the lock, where the fact held.
+pub record Leaves (keeps : Held → Type 0) (listed left : List ℕ) : Type 0 where
+  pub found : Held
+  pub kept : ∥ keeps found ∥₁
+  pub are : AreLeft found listed left
+
+-- Tables were listed, and then those of them removed that were not kept.
 pub record Sweeps (keeps : Held → Type 0) (was is : Told) : Type 0 where
   pub listed : List ℕ
   pub mid : Told
   pub told : Becomes (listing listed was) mid
-  pub takings : ℕ
-  pub removes : RemovesOften keeps takings mid is
+  pub left : List ℕ
+  pub leaves : Leaves keeps listed left
+  pub removes : RemovesEach keeps left mid is
 
--- or the shelf did not list them
-abbrev pub IsSwept : (Held → Type 0) → Told → Told → Type 0
-IsSwept keeps was is = Becomes was is ⊎ Sweeps keeps was is
+-- or the shelf refused to list them
+abbrev pub IsSwept : (Asked → ShelfFault → Type 0) → (Held → Type 0) → Told → Told → Type 0
+IsSwept Refused keeps was is =
+    ((fault : ShelfFault) × Refused ListTables fault × Becomes was is) ⊎ Sweeps keeps was is
 
--- so often, one after another
-abbrev pub IsSweptOften : (Held → Type 0) → ℕ → Told → Told → Type 0
-IsSweptOften keeps zero was is = is ≡ was
-IsSweptOften keeps (suc count) was is =
-    (mid : Told) × IsSweptOften keeps count was mid × IsSwept keeps mid is
+-- ---- the thread that sweeps
 
--- the last shelf gave forks, and the others are as they were
+-- so many sweeps, one after another
+abbrev pub IsSweptOften : (Asked → ShelfFault → Type 0) → (Held → Type 0) → ℕ → Told → Told → Type 0
+IsSweptOften Refused keeps zero was is = is ≡ was
+IsSweptOften Refused keeps (suc count) was is =
+    (mid : Told) × IsSweptOften Refused keeps count was mid × IsSwept Refused keeps mid is
+
+-- It swept, so often as it did; and its shelf was told no more.
+abbrev pub HasSwept : (Asked → ShelfFault → Type 0) → (Held → Type 0) → Told → Told → Type 0
+HasSwept Refused keeps was is = (count : ℕ) × IsSweptOften Refused keeps count was is
+
+-- it gave one fork at most, and nothing else was told but counts
+abbrev pub ForkedOnce : Told → Told → Type 0
+ForkedOnce old new = (count : ℕ) × (count ≤ 1) × Becomes (forking count old) new
+
+-- the last shelf may have given one fork, and the others are as they were
 abbrev pub LastForked : (given lent : List Told) → Type 0
 LastForked given lent = ((given ≡ []) × (lent ≡ []))
     ⊎ ((front : List Told) × (t : Told) × (u : Told) × (given ≡ front ++ t ∷ [])
-    × (lent ≡ front ++ u ∷ []) × Forked t u)
+    × (lent ≡ front ++ u ∷ []) × ForkedOnce t u)
+
+-- ---- what follows
+
+-- the removal of a table that was not kept, at one taking of the lock, where the fact held
+abbrev pub IsUnkeptRemoval : (Held → Type 0) → Asked → Type 0
+IsUnkeptRemoval keeps (Remove n) =
+    (found : Held) × ∥ keeps found ∥₁ × (IsKeptNumber found n → ⊥)
+IsUnkeptRemoval keeps asked = ⊥
+
+-- Tables were listed and such tables removed, and that is all: no table was put, no manifest read
+-- or written, and no fork given. Counts do not fall.
+pub record OnlyRemoves (keeps : Held → Type 0) (was is : Told) : Type 0 where
+  pub place : is.place ≡ was.place
+  pub puts : is.puts ≡ was.puts
+  pub manifest : is.manifest ≡ was.manifest
+  pub sent : is.sent ≡ was.sent
+  pub found : is.found ≡ was.found
+  pub starts : is.starts ≡ was.starts
+  pub written : is.written ≡ was.written
+  pub forks : is.forks ≡ was.forks
+  pub faults : was.faults ≤ is.faults
+  pub misses : was.misses ≤ is.misses
+  pub calls : List Asked
+  pub made : is.made ≡ calls ++ was.made
+  pub each : (a : Asked) → Has calls a → IsUnkeptRemoval keeps a

@@ -169,6 +169,12 @@ AreReturned Honest Refused keeps (t ∷ ts) [] = ⊥
 AreReturned Honest Refused keeps (t ∷ ts) (r ∷ rs) =
     IsReturned Honest Refused keeps t r.0 r.1 × AreReturned Honest Refused keeps ts rs
 
+-- the same, where the shelves that came back were let go, and the ends alone are left
+abbrev pub HaveEnded : Type 0 → (Asked → ShelfFault → Type 0) → (Held → Type 0) → List Given
+    → List WorkerEnd → Type 0
+HaveEnded Honest Refused keeps given ends = (returned : List (WorkerEnd × Option Told))
+    × (ends ≡ map (λ r. r.0) returned) × AreReturned Honest Refused keeps given returned
+
 -- ---- what follows
 
 -- where the fault is the shelf's, a count rose

@@ -1,12 +1,12 @@
 //! Workers that compact in the background of a program.
 
-ghost use Rattle.std.specs.Prelude.{◌≡◌, ◌≤◌, List, [], All, IfErr, IfOk, false};
+ghost use Rattle.std.specs.Prelude.{◌≡◌, ◌≤◌, List, [], All, IfErr, IfOk, IfSome, false};
 ghost use Rattle.std.specs.Prelude.{vec_capacity, vec_len};
 ghost use Rattle.lsm_store.specs.Compacting.{IsKeptByCompaction};
-ghost use Rattle.lsm_shelf.specs.Told.{Told};
-ghost use Rattle.lsm_store.specs.Sweeping.{LastForked};
+ghost use Rattle.lsm_shelf.specs.Told.{Told, fresh};
+ghost use Rattle.lsm_store.specs.Sweeping.{HasSwept, LastForked};
 ghost use Rattle.lsm_store.specs.Workers.{IsWorkersEnd};
-ghost use Rattle.lsm_store.specs.Working.{AreReturned, given_each};
+ghost use Rattle.lsm_store.specs.Working.{AreReturned, HaveEnded, given_each};
 ghost use Rattle.lsm_store.specs.declared.picks.Picks.TheVariants.{Joining};
 
 use crate::background::Background;
@@ -16,7 +16,8 @@ use crate::invariant::Invariant;
 use crate::number_service::NumberService;
 use crate::picks::Picks;
 use crate::store::Store;
-use crate::sweeping::{fork_last, start_sweeping};
+use crate::sweeper::Sweeper;
+use crate::sweeping::fork_last;
 use crate::worker_end::WorkerEnd;
 use crate::worker_thread::{Returned, Thread};
 use crate::workers::{ends_of, join_all, start_all};
@@ -26,6 +27,10 @@ use std::alloc::{AllocFailed, Global};
 use std::sync::Wait;
 use std::thread;
 use std::thread::{Scope, Threads};
+
+/// What comes back of a body and of those that worked beside it: what it answered; what comes back
+/// of each worker; and the shelf of the thread that swept, none where there was no such thread.
+pub type ReturnedBeside<N, S, T> = (T, Vec<Returned<N, S>>, Option<NamedShelf<N, S>>);
 
 /// Starts the thread that draws numbers for workers. Whether it could be made.
 fn start_drawing<'s, 'e, N: Boarded, S: Shelf, K: Invariant, R: Threads + Wait + Sync>(
@@ -65,7 +70,7 @@ fn run_beside<
     body: F,
     threads: Vec<Thread<N, S, K>>,
     returned: Vec<Returned<N, S>>,
-) -> Result<(T, Vec<Returned<N, S>>), AllocFailed<(Vec<NamedShelf<N, S>>, F)>>
+) -> Result<ReturnedBeside<N, S, T>, AllocFailed<(Vec<NamedShelf<N, S>>, F)>>
     requires kept { IsKeptByCompaction S.honest K.keeps }
     requires body { F.IsAlwaysCallable body }
     requires none { (vec_len threads ≡ 0) × (returned.items ≡ []) × (vec_len returned ≡ 0) }
@@ -77,6 +82,8 @@ fn run_beside<
     ensures returned { IfOk result (λ r. (lent : List Told) × LastForked shelves.items lent
         × AreReturned S.honest (S.refuses N.place) K.keeps (given_each Joining false lent)
         r.1.items) }
+    ensures swept { IfOk result (λ r.
+        IfSome r.2 (HasSwept (S.refuses N.place) K.keeps (fresh N.place))) }
     ensures back { IfErr result (λ e. e.value ≡ (shelves, body)) }
 {
     let service = NumberService::new(shelves.len());
@@ -88,7 +95,7 @@ fn run_beside<
     thread::scope(
         thread::scope_env(),
         rt,
-        move |scope| -> Result<(T, Vec<Returned<N, S>>), AllocFailed<(Vec<NamedShelf<N, S>>, F)>>
+        move |scope| -> Result<ReturnedBeside<N, S, T>, AllocFailed<(Vec<NamedShelf<N, S>>, F)>>
             requires kept { IsKeptByCompaction S.honest K.keeps }
             requires body { F.IsAlwaysCallable body }
             requires none { (vec_len threads ≡ 0) × (returned.items ≡ []) × (vec_len returned ≡ 0) }
@@ -102,6 +109,8 @@ fn run_beside<
             ensures returned { IfOk result (λ r. (lent : List Told) × LastForked shelves.items lent
                 × AreReturned S.honest (S.refuses N.place) K.keeps (given_each Joining false lent)
                 r.1.items) }
+            ensures swept { IfOk result (λ r.
+                IfSome r.2 (HasSwept (S.refuses N.place) K.keeps (fresh N.place))) }
             ensures back { IfErr result (λ e. e.value ≡ (shelves, body)) }
         {
             if !start_drawing(scope, rt, store, service) {
@@ -112,28 +121,30 @@ fn run_beside<
             let bell = &background.bell;
             let mut shelves = shelves;
             let broom = fork_last(alloc, &mut shelves);
-            start_sweeping(scope, rt, alloc, store, bell, broom);
+            let sweeper = Sweeper::start(scope, rt, alloc, store, bell, broom);
             let threads = start_all(
                 scope, rt, alloc, store, service, bell, shelves, gate, picks, threads,
             );
             let answer = body(background);
             bell.close(rt);
-            Ok((answer, join_all(rt, threads, returned)))
+            let returned = join_all(rt, threads, returned);
+            Ok((answer, returned, sweeper.join(rt)))
         },
     )
 }
 
 /// Compacts in the background while the body runs, with one worker for each shelf. Answers what the
-/// body answered, and what each worker has done, with its shelf, in the order of the shelves. These
-/// are forks of the store's, of any number; 1 to 8 are meant.
+/// body answered; what each worker has done, with its shelf, in the order of the shelves; and the
+/// shelf of the thread that removed tables, none where there is no such thread. The shelves are
+/// forks of the store's, of any number; 1 to 8 are meant.
 ///
 /// Each worker has a thread of its own, in which it reserves under the lock what comes next, so that
 /// small files are joined (`State::reserve_next`), merges outside it, and installs under it; before
 /// each merge the gate is told. Where nothing is left to reserve it sleeps, until it is woken
 /// (`Background::wake`) or another worker has installed a result. One more thread draws the numbers
 /// of the outputs under the lock. And one, over a fork of the last shelf, removes after installs
-/// the tables that nothing needs any more, outside the lock; what it cannot remove it leaves to the
-/// next time.
+/// the tables that nothing needs any more, one at a taking of the lock; what it cannot remove it
+/// leaves to the next time. Its shelf was told no more (`laws::what_sweeping_did_is_told`).
 ///
 /// The body runs in the thread of the caller, and is lent the workers. Once it has answered, each
 /// worker ends after the merge at hand, and all threads are joined. A body after which nothing
@@ -159,7 +170,7 @@ pub fn with_workers_returning<
     shelves: Vec<NamedShelf<N, S>>,
     gate: &G,
     body: F,
-) -> Result<(T, Vec<Returned<N, S>>), AllocFailed<(Vec<NamedShelf<N, S>>, F)>>
+) -> Result<ReturnedBeside<N, S, T>, AllocFailed<(Vec<NamedShelf<N, S>>, F)>>
     requires kept { IsKeptByCompaction S.honest K.keeps }
     requires body { F.IsAlwaysCallable body }
     ensures answer { IfOk result (λ r. (b : _) × F.post body b r.0) }
@@ -168,6 +179,8 @@ pub fn with_workers_returning<
     ensures returned { IfOk result (λ r. (lent : List Told) × LastForked shelves.items lent
         × AreReturned S.honest (S.refuses N.place) K.keeps (given_each Joining false lent)
         r.1.items) }
+    ensures swept { IfOk result (λ r.
+        IfSome r.2 (HasSwept (S.refuses N.place) K.keeps (fresh N.place))) }
     ensures back { IfErr result (λ e. e.value ≡ (shelves, body)) }
 {
     let Ok(returned) = Vec::with_capacity(alloc, shelves.len()) else {
@@ -205,6 +218,9 @@ pub fn with_workers<
     ensures answer { IfOk result (λ r. (b : _) × F.post body b r.0) }
     ensures len { IfOk result (λ r. vec_len r.1 ≡ vec_len shelves) }
     ensures ends { IfOk result (λ r. All (IsWorkersEnd S.honest) r.1.items) }
+    ensures ended { IfOk result (λ r. (lent : List Told) × LastForked shelves.items lent
+        × HaveEnded S.honest (S.refuses N.place) K.keeps (given_each Joining false lent)
+        r.1.items) }
     ensures back { IfErr result (λ e. e.value ≡ (shelves, body)) }
 {
     let Ok(ends) = Vec::with_capacity(alloc, shelves.len()) else {
@@ -214,7 +230,7 @@ pub fn with_workers<
     };
     match with_workers_returning(rt, alloc, store, shelves, gate, body) {
         Ok(done) => {
-            let (answer, returned) = done;
+            let (answer, returned, _shelf) = done;
             Ok((answer, ends_of(returned, ends)))
         }
         Err(refused) => Err(refused),

@@ -4,13 +4,17 @@ ghost use Rattle.std.specs.Prelude.{◌≡◌, ℕ, Bool, List, length};
 ghost use Rattle.lsm_shelf.specs.Told.{Told};
 ghost use Rattle.lsm_journal.specs.HeldManifest.{HeldManifest};
 ghost use Rattle.lsm_pins.specs.Known.{Known};
-ghost use Rattle.lsm_slots.specs.Slots.{Looked};
-ghost use Rattle.lsm_state.specs.Held.{Held};
+ghost use Rattle.lsm_batch.specs.declared.write.Write.{Write};
+ghost use Rattle.lsm_slots.specs.Slots.{AreSlots, Looked};
+ghost use Rattle.lsm_state.specs.Held.{Held, IsLawfulState};
 ghost use Rattle.lsm_state.specs.Making.{created_state, created_state_under};
 ghost use Rattle.lsm_state.specs.Opening.{opened_state};
 ghost use Rattle.lsm_state.specs.declared.options.Options.{Options};
-ghost use Rattle.lsm_store.specs.Compacting.{IsKeptByCompaction, IsLeftByWorkers, IsSeated};
+ghost use Rattle.lsm_store.specs.Background.{IsIngestStep};
+ghost use Rattle.lsm_store.specs.Compacting.{IsCompactingStep, IsKeptByCompaction, IsLeftByWorkers};
+ghost use Rattle.lsm_store.specs.Compacting.{IsSeated, KeepsNoMore};
 ghost use Rattle.lsm_store.specs.Readers.{SeatsPinners};
+ghost use Rattle.lsm_store.specs.Sweeping.{HasSwept, OnlyRemoves};
 ghost use Rattle.lsm_store.specs.Working.{Given, IsCountedIf, IsWorked, OnlyPutsAndSends};
 ghost use Rattle.lsm_store.specs.declared.worker_end.WorkerEnd.{WorkerEnd};
 ghost use Rattle.lsm_version.specs.Versions.{Levels};
@@ -61,4 +65,26 @@ pub fn what_workers_did_is_told<N: Boarded, S: Shelf, K: Invariant>()
     ensures only { (given : Given) (back : Told) (e : WorkerEnd)
         → IsWorked S.honest (S.refuses N.place) K.keeps given e back
         → OnlyPutsAndSends given.shelf back }
+{}
+
+/// What follows for the shelf of the thread that sweeps of what it did (`HasSwept`). It was told to
+/// list tables, and to remove such as were not kept, each at a taking of the lock where the fact of
+/// the store held; and that is all: it put nothing, wrote no manifest, and gave no fork.
+pub fn what_sweeping_did_is_told<N: Boarded, S: Shelf, K: Invariant>()
+    ensures only { (was is : Told) → HasSwept (S.refuses N.place) K.keeps was is
+        → OnlyRemoves K.keeps was is }
+{}
+
+/// A file number below the next one that a state does not keep is kept by no later state: neither
+/// by what workers leave nor by an ingest, and other calls of a state keep no further number
+/// (`kept` and `rest` there). So a table that is not kept may also be removed later, outside the
+/// lock, unless its number is still to be drawn. The premises hold of every state
+/// (`State::options`).
+pub fn what_is_not_kept_stays_so<N: Boarded, S: Shelf>()
+    ensures compacting { (was is : Held) → IsLawfulState S.honest N.board was → AreSlots was.slots
+        → IsCompactingStep S.honest was is → KeepsNoMore was is }
+    ensures ingest { (writes : List Write) (was is : Held) → IsLawfulState S.honest N.board was
+        → AreSlots was.slots → IsIngestStep (S.refuses N.place) writes was is
+        → KeepsNoMore was is }
+    ensures later { (a b c : Held) → KeepsNoMore a b → KeepsNoMore b c → KeepsNoMore a c }
 {}

@@ -24,6 +24,7 @@ mod bell;
 mod gate;
 mod manual_compaction;
 mod picks;
+mod sweeper;
 mod sweeping;
 mod worker;
 mod worker_end;
@@ -40,7 +41,7 @@ mod ticket_numbers;
 pub mod laws;
 
 pub use background::Background;
-pub use background_workers::{with_workers, with_workers_returning};
+pub use background_workers::{ReturnedBeside, with_workers, with_workers_returning};
 pub use begin_fault::BeginFault;
 pub use gate::{Gate, NoGate};
 pub use guarded::Guarded;

@@ -1,9 +1,10 @@
 //! What nothing needs any more is removed beside workers.
 
-ghost use Rattle.std.specs.Prelude.{◌≡◌, ℕ, vec_len};
+ghost use Rattle.std.specs.Prelude.{◌≡◌, IfSome, vec_len};
+ghost use Rattle.lsm_shelf.specs.Told.{fresh};
 ghost use Rattle.lsm_store.specs.Compacting.{IsCompactingStep, IsKeptByCompaction};
-ghost use Rattle.lsm_store.specs.Sweeping.{IsSwept, IsSweptOften, LastForked, Removes};
-ghost use Rattle.lsm_store.specs.Sweeping.{RemovesOften, RemovesUnkept};
+ghost use Rattle.lsm_store.specs.Sweeping.{AreLeft, HasSwept, IsSwept, LastForked, Leaves, Removes};
+ghost use Rattle.lsm_store.specs.Sweeping.{RemovesEach, TriesToRemove};
 
 use crate::bell::Bell;
 use crate::invariant::Invariant;
@@ -13,7 +14,6 @@ use lsm_state::State;
 use lsm_table::{NamedShelf, Shelf};
 use std::alloc::Global;
 use std::sync::Wait;
-use std::thread::{Scope, Threads};
 
 /// Leaves of listed numbers those that are not kept; none where the state refuses to say.
 fn leave_unkept<N: Boarded, S: Shelf>(
@@ -22,6 +22,7 @@ fn leave_unkept<N: Boarded, S: Shelf>(
     numbers: &mut Vec<u64>,
 )
     ensures step { IsCompactingStep S.honest state.old state.new }
+    ensures left { AreLeft state.new numbers.old.items numbers.new.items }
 {
     match state.leave_unkept(alloc, numbers) {
         Ok(()) => {}
@@ -37,12 +38,13 @@ fn leave_unkept_under_lock<N: Boarded, S: Shelf, K: Invariant, R: Wait>(
     numbers: &mut Vec<u64>,
 )
     requires kept { IsKeptByCompaction S.honest K.keeps }
+    ensures left { Leaves K.keeps numbers.old.items numbers.new.items }
 {
     leave_unkept(&mut store.lock(rt).state, alloc, numbers);
 }
 
 /// Removes a table, unless it is kept. Where it is refused, the next sweep tries again.
-#[tactic(auto, using(crate::proofs::SweepLaws::asked_ok, crate::proofs::SweepLaws::asked_err))]
+#[tactic(auto, using(crate::proofs::SweepLaws::tried_ok, crate::proofs::SweepLaws::tried_err))]
 fn remove_unkept<N: Boarded, S: Shelf, R: Wait>(
     state: &State<N, S>,
     rt: &R,
@@ -50,7 +52,7 @@ fn remove_unkept<N: Boarded, S: Shelf, R: Wait>(
     shelf: &mut NamedShelf<N, S>,
     number: u64,
 )
-    ensures { RemovesUnkept state.now shelf.old shelf.new }
+    ensures { TriesToRemove state.now number shelf.old shelf.new }
 {
     match state.remove_unkept(rt, alloc, shelf, number) {
         Ok(_) => {}
@@ -66,7 +68,7 @@ fn remove_under_lock<N: Boarded, S: Shelf, K: Invariant, R: Wait>(
     shelf: &mut NamedShelf<N, S>,
     number: u64,
 )
-    ensures { Removes K.keeps shelf.old shelf.new }
+    ensures { Removes K.keeps number shelf.old shelf.new }
 {
     remove_unkept(&store.lock(rt).state, rt, alloc, shelf, number);
 }
@@ -79,7 +81,7 @@ fn remove_each<N: Boarded, S: Shelf, K: Invariant, R: Wait>(
     shelf: &mut NamedShelf<N, S>,
     numbers: &[u64],
 )
-    ensures { (takings : ℕ) × RemovesOften K.keeps takings shelf.old shelf.new }
+    ensures { RemovesEach K.keeps numbers.now shelf.old shelf.new }
 {
     for number in numbers {
         remove_under_lock(rt, alloc, store, shelf, *number);
@@ -88,6 +90,7 @@ fn remove_each<N: Boarded, S: Shelf, K: Invariant, R: Wait>(
 
 /// Lists the tables, and removes those that are not kept. What is refused is left to the next
 /// sweep.
+#[tactic(auto, using(crate::proofs::SweepLaws::swept_unlisted, crate::proofs::SweepLaws::swept_listed))]
 fn sweep<N: Boarded, S: Shelf, K: Invariant, R: Wait>(
     rt: &R,
     alloc: Global,
@@ -95,7 +98,7 @@ fn sweep<N: Boarded, S: Shelf, K: Invariant, R: Wait>(
     shelf: &mut NamedShelf<N, S>,
 )
     requires kept { IsKeptByCompaction S.honest K.keeps }
-    ensures { IsSwept K.keeps shelf.old shelf.new }
+    ensures { IsSwept (S.refuses N.place) K.keeps shelf.old shelf.new }
 {
     let mut numbers = match shelf.list(rt, alloc) {
         Ok(numbers) => numbers,
@@ -107,7 +110,7 @@ fn sweep<N: Boarded, S: Shelf, K: Invariant, R: Wait>(
 
 /// Sweeps once results were installed, again and again, until the bell is closed, each worker has
 /// ended, and what they did is swept.
-fn sweep_on<N: Boarded, S: Shelf, K: Invariant, R: Wait>(
+pub(crate) fn sweep_on<N: Boarded, S: Shelf, K: Invariant, R: Wait>(
     rt: &R,
     alloc: Global,
     store: &Store<N, S, K>,
@@ -115,7 +118,7 @@ fn sweep_on<N: Boarded, S: Shelf, K: Invariant, R: Wait>(
     shelf: &mut NamedShelf<N, S>,
 )
     requires kept { IsKeptByCompaction S.honest K.keeps }
-    ensures { (count : ℕ) × IsSweptOften K.keeps count shelf.old shelf.new }
+    ensures { HasSwept (S.refuses N.place) K.keeps shelf.old shelf.new }
 {
     let mut seen = 0;
     for _ in rt.forever() {
@@ -128,10 +131,12 @@ fn sweep_on<N: Boarded, S: Shelf, K: Invariant, R: Wait>(
 }
 
 /// A fork of the last shelf; none where there is no shelf, or the fork is refused.
+#[tactic(auto, using(crate::proofs::SweepLaws::forked_once, crate::proofs::SweepLaws::none_lent, crate::proofs::SweepLaws::last_lent))]
 pub(crate) fn fork_last<N: Boarded, S: Shelf>(
     alloc: Global,
     shelves: &mut Vec<NamedShelf<N, S>>,
 ) -> Option<NamedShelf<N, S>>
+    ensures fork { IfSome result (λ s. s ≡ fresh N.place) }
     ensures lent { LastForked shelves.old.items shelves.new.items }
     ensures len { vec_len shelves.new ≡ vec_len shelves.old }
 {
@@ -143,29 +148,4 @@ pub(crate) fn fork_last<N: Boarded, S: Shelf>(
         unreachable!()
     };
     fork
-}
-
-/// Starts the thread that sweeps, over this shelf. Without it, as where it cannot be made, nothing
-/// is removed.
-pub(crate) fn start_sweeping<'s, 'e, N: Boarded, S: Shelf, K: Invariant, R: Threads + Wait + Sync>(
-    scope: &'s Scope<'s, &'e ()>,
-    rt: &'e R,
-    alloc: Global,
-    store: &'e Store<N, S, K>,
-    bell: &'e Bell,
-    shelf: Option<NamedShelf<N, S>>,
-)
-    requires kept { IsKeptByCompaction S.honest K.keeps }
-{
-    let Some(shelf) = shelf else {
-        return;
-    };
-    let _thread = scope.spawn(
-        move ||
-            requires kept { IsKeptByCompaction S.honest K.keeps }
-        {
-            let mut shelf = shelf;
-            sweep_on(rt, alloc, store, bell, &mut shelf);
-        },
-    );
 }

@@ -4,7 +4,7 @@ ghost use Rattle.std.specs.Prelude.{◌≡◌, ◌≤◌, [], All, IfErr, IfOk, 
 ghost use Rattle.std.specs.Prelude.{vec_capacity, vec_len};
 ghost use Rattle.lsm_store.specs.Compacting.{IsKeptByCompaction};
 ghost use Rattle.lsm_store.specs.Workers.{IsWorkersEnd};
-ghost use Rattle.lsm_store.specs.Working.{AreReturned, IsWorked, given_each, given_one};
+ghost use Rattle.lsm_store.specs.Working.{AreReturned, HaveEnded, IsWorked, given_each, given_one};
 ghost use Rattle.lsm_store.specs.declared.picks.Picks.TheVariants.{Choice};
 
 use crate::bell::Bell;
@@ -289,6 +289,8 @@ pub fn run_workers<N: Boarded, S: Shelf, K: Invariant, G: Gate + Sync, R: Thread
     requires kept { IsKeptByCompaction S.honest K.keeps }
     ensures len { IfOk result (λ v. vec_len v ≡ vec_len shelves) }
     ensures ends { IfOk result (λ v. All (IsWorkersEnd S.honest) v.items) }
+    ensures ended { IfOk result (λ v. HaveEnded S.honest (S.refuses N.place) K.keeps
+        (given_each Choice true shelves.items) v.items) }
     ensures back { IfErr result (λ e. e.value ≡ shelves) }
 {
     let Ok(ends) = Vec::with_capacity(alloc, shelves.len()) else {

@@ -1,5 +1,5 @@
-use Rattle.std.proofs.Common.{◌+◌, ◌++◌, ◌∷◌, [], List, ap, ◌∙◌}
-use Rattle.lsm_shelf.specs.Told.{Told, fresh}
+use Rattle.std.proofs.Common.{◌+◌, ap, ◌∙◌}
+use Rattle.lsm_shelf.specs.Told.{fresh}
 use Rattle.lsm_shelf.proofs.CallerLemmas.{forked_once, forked_then}
 use Rattle.lsm_opening.proofs.ForkLaws.{one_more}
 use Rattle.lsm_opening.proofs.forking.forks.Goals as goal

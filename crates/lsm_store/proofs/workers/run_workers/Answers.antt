@@ -11,3 +11,7 @@ returns-in-Ok-run_workers_returning-clause-ends g c =
     let IsEnd = (λ (e : WorkerEnd). IsWorkersEnd g.S.Shelf.honest e) in
     let returned = c.in-Ok-run_workers_returning.returned.items in
     All-same IsEnd _ _ c.ends_of.ensures.ends (all_mapped (λ (r : WorkerEnd × Option Told). r.0) IsEnd returned c.in-Ok-run_workers_returning.ensures.ends)
+
+pub returns-in-Ok-run_workers_returning-clause-ended : goal.returns-in-Ok-run_workers_returning-clause-ended
+returns-in-Ok-run_workers_returning-clause-ended g c =
+    (c.in-Ok-run_workers_returning.returned.items, c.ends_of.ensures.ends, c.in-Ok-run_workers_returning.ensures.returned)

@@ -1,0 +1,5 @@
+-- What public clauses cite, and so what a caller reads
+pub mod ImportFault
+pub mod Copies
+pub mod Copied
+pub mod Answers

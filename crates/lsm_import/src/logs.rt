@@ -1,0 +1,208 @@
+//! The last writes of logs, as one table more.
+
+ghost use Rattle.std.specs.Prelude.{◌≡◌, ◌⊎◌, ◌+◌, ◌^◌, ◌<◌, ◌≤◌, ◌-◌, length, IfErr, IfOk};
+ghost use Rattle.std.specs.Prelude.{MatchBool, OnOk};
+ghost use Rattle.lsm_shelf.specs.Stored.{Stored};
+ghost use Rattle.lsm_table.specs.Options.{AreInRange};
+ghost use Rattle.lsm_manifest.specs.EditFit.{FitsAdded};
+ghost use Rattle.lsm_batch.specs.Batches.{KeysRise, entries_from};
+ghost use Rattle.lsm_batch.specs.Images.{IsImage, PassesTable};
+ghost use Rattle.lsm_import.specs.Copied.{AreSpent, HasLogs, IsFitting, IsLogFile, IsLogsRefusal};
+ghost use Rattle.lsm_import.specs.Copied.{IsTableRefusal, with_file};
+ghost use Rattle.lsm_import.specs.Copies.{OnlyPuts};
+ghost use Rattle.lsm_import.specs.declared.import_fault.ImportFault.TheVariants.{OutOfMemory};
+ghost use Rattle.lsm_import.specs.declared.import_fault.ImportFault.TheVariants.{SequencesSpent};
+ghost use Rattle.lsm_import.specs.declared.import_fault.ImportFault.TheVariants.{TooLarge};
+
+use crate::copied::Copied;
+use crate::import_fault::ImportFault;
+use lsm_batch::Batch;
+use lsm_codec::List;
+use lsm_manifest::{AddedFile, Edit, FileMeta};
+use lsm_table::{NamedShelf, Naming, Shelf, TableImage, TableOptions, TableReceipt, TableRecord};
+use lsm_wal::{WriteLogs, last_writes};
+use std::alloc::{AllocError, Global};
+use std::sync::Wait;
+
+/// How many sequences there are: 2^56.
+const SEQUENCES: u64 = 72_057_594_037_927_936;
+
+/// The sequence of the first of so many writes: above the last one, and not below the end of the
+/// logs.
+fn first_sequence(last: u64, end: u64, count: usize) -> Result<u64, ImportFault>
+    ensures above { IfOk result (λ n. last < n) }
+    ensures behind { IfOk result (λ n. end ≤ n) }
+    ensures fits { IfOk result (λ n. n + count ≤ 2 ^ 56) }
+    ensures spent { IfErr result (λ e. (e ≡ SequencesSpent) × AreSpent last end count) }
+{
+    if last >= SEQUENCES || end > SEQUENCES {
+        return Err(ImportFault::SequencesSpent);
+    }
+    let first = end.max(last + 1);
+    if count as u64 > SEQUENCES - first {
+        return Err(ImportFault::SequencesSpent);
+    }
+    Ok(first)
+}
+
+/// Whether the length of a key fits 32 bits.
+fn is_short(key: &[u8]) -> bool
+    ensures { MatchBool result (length key.now < 2 ^ 32) (2 ^ 32 ≤ length key.now) }
+{
+    key.len() <= 4_294_967_295
+}
+
+/// The image of the table of a batch.
+fn image_of(
+    alloc: Global,
+    options: TableOptions,
+    batch: &Batch,
+    first: u64,
+) -> Result<TableImage, ImportFault>
+    requires some { 0 < length batch.now }
+    requires rises { KeysRise (length batch.now) batch.now }
+    requires sequences { first + length batch.now ≤ 2 ^ 56 }
+    requires options { AreInRange options }
+    ensures image { IfOk result (IsImage (entries_from first batch.now)) }
+    ensures refused { IfErr result (λ e. (e ≡ OutOfMemory)
+        ⊎ ((e ≡ TooLarge) × PassesTable options (entries_from first batch.now))) }
+{
+    match batch.build_run(alloc, options, first) {
+        Ok(image) => Ok(image),
+        Err(fault) => Err(ImportFault::of_build(fault)),
+    }
+}
+
+/// The file of a table that was put under this number, at level 0, where its keys are short.
+fn file_of<C: TableReceipt>(
+    alloc: Global,
+    number: u64,
+    table: &TableRecord<C>,
+) -> Result<AddedFile, ImportFault>
+    ensures level { IfOk result (λ file. file.level ≡ 0) }
+    ensures number { IfOk result (λ file. file.file.number ≡ number) }
+    ensures size { IfOk result (λ file. file.file.size ≡ length (C.image table.now.receipt)) }
+    ensures smallest { IfOk result (λ file. file.file.smallest ≡ table.now.smallest) }
+    ensures largest { IfOk result (λ file. file.file.largest ≡ table.now.largest) }
+    ensures short { OnOk result
+        ((length table.now.smallest < 2 ^ 32) × (length table.now.largest < 2 ^ 32)) }
+    ensures long { IfErr result (λ e. (e ≡ OutOfMemory) ⊎ ((e ≡ TooLarge)
+        × ((2 ^ 32 ≤ length table.now.smallest) ⊎ (2 ^ 32 ≤ length table.now.largest)))) }
+{
+    if !is_short(table.smallest.as_slice()) {
+        return Err(ImportFault::TooLarge);
+    }
+    if !is_short(table.largest.as_slice()) {
+        return Err(ImportFault::TooLarge);
+    }
+    Ok(AddedFile {
+        level: 0,
+        file: FileMeta {
+            number,
+            size: table.size(),
+            smallest: table.smallest.try_copy(alloc)?,
+            largest: table.largest.try_copy(alloc)?,
+        },
+    })
+}
+
+/// Puts the table of a batch into the target, and names it as the manifest does.
+fn put_logs<M: Naming, T: Shelf, R: Wait>(
+    rt: &R,
+    alloc: Global,
+    target: &mut NamedShelf<M, T>,
+    options: TableOptions,
+    batch: &Batch,
+    first: u64,
+    number: u64,
+) -> Result<AddedFile, ImportFault>
+    requires some { 0 < length batch.now }
+    requires rises { KeysRise (length batch.now) batch.now }
+    requires sequences { first + length batch.now ≤ 2 ^ 56 }
+    requires options { AreInRange options }
+    ensures file { IfOk result (IsLogFile
+        (Stored T.Receipt (T.is_of M.place) T.Receipt.number T.Receipt.image)
+        (entries_from first batch.now) number) }
+    ensures fits { IfOk result FitsAdded }
+    ensures puts { OnlyPuts target.old target.new }
+    ensures refused { IfErr result (IsTableRefusal (T.refuses M.place) options
+        (entries_from first batch.now) number) }
+{
+    let image = image_of(alloc, options, batch, first)?;
+    let table = match image.put_alone(rt, alloc, target, number) {
+        Ok(table) => table,
+        Err(fault) => return Err(ImportFault::Unwritten(fault)),
+    };
+    file_of(alloc, number, &table)
+}
+
+impl Copied {
+    /// The same with one table more, of so many writes that begin at this sequence.
+    fn with_file(self, file: AddedFile, first: u64, count: usize) -> Result<Copied, AllocError>
+        requires numbers { self.next < 2 ^ 64 - 1 }
+        requires some { 0 < count }
+        requires sequences { first + count ≤ 2 ^ 56 }
+        ensures { IfOk result (λ copied. copied ≡ with_file self file first count) }
+    {
+        let Copied { edit, next, .. } = self;
+        let last = first + (count as u64 - 1);
+        let mut added = edit.added.into_vec();
+        added.push(file)?;
+        Ok(Copied {
+            edit: Edit {
+                comparator: edit.comparator,
+                log: edit.log,
+                prev_log: edit.prev_log,
+                next: Some(next + 1),
+                last: Some(last),
+                pointers: edit.pointers,
+                deleted: edit.deleted,
+                added: List::of(added),
+            },
+            next: next + 1,
+            last,
+        })
+    }
+
+    /// Adds the writes of the source's logs as one table: of each key the last one, at level 0,
+    /// under the next file number, and under new sequences, above the copy's last one and those of
+    /// the logs. Where the logs write nothing it adds nothing.
+    ///
+    /// # Errors
+    /// `SequencesSpent` where a sequence would pass 2^56 - 1; `NumbersSpent` where no file number
+    /// is left; `TooLarge` where a key or a block of the table would pass 2^32 - 1 bytes;
+    /// `Unwritten`; `OutOfMemory` on the way.
+    pub fn add_logs<M: Naming, T: Shelf, R: Wait>(
+        self,
+        rt: &R,
+        alloc: Global,
+        target: &mut NamedShelf<M, T>,
+        options: TableOptions,
+        logs: WriteLogs,
+    ) -> Result<Copied, ImportFault>
+        requires options { AreInRange options }
+        requires fits { IsFitting self }
+
+        // Of each key just the last write of the logs comes in.
+        ensures logs { IfOk result (HasLogs
+            (Stored T.Receipt (T.is_of M.place) T.Receipt.number T.Receipt.image) logs self) }
+        ensures fits { IfOk result IsFitting }
+        ensures puts { OnlyPuts target.old target.new }
+        ensures refused { IfErr result
+            (IsLogsRefusal (T.refuses M.place) options logs self) }
+    {
+        let end = logs.end();
+        let batch = last_writes(alloc, logs.into_log())?;
+        let count = batch.len();
+        if count == 0 {
+            return Ok(self);
+        }
+        let first = first_sequence(self.last, end, count)?;
+        if self.next == u64::MAX {
+            return Err(ImportFault::NumbersSpent);
+        }
+        let file = put_logs(rt, alloc, target, options, &batch, first, self.next)?;
+        let copied = self.with_file(file, first, count)?;
+        Ok(copied)
+    }
+}
