@@ -1,6 +1,6 @@
 -- What the lock keeps while lines come in.
-use Rattle.std.proofs.Common.{◌≡◌, ℕ, zero, suc, List, [], ◌∷◌, ◌++◌, Option, All, refl, ap, ◌∙◌, subst, sym, inl, inr}
-use Rattle.std.specs.Prelude.{◌⊎◌}
+use Rattle.std.proofs.Common.{◌≡◌, ℕ, suc, List, [], ◌∷◌, ◌++◌, Option, All, refl, ap, ◌∙◌, subst, sym, inl, inr}
+use Rattle.std.specs.Prelude.{◌⊎◌, zero}
 use Rattle.std.proofs.lemmas.List.Elements.{All-nil, All-push}
 use Rattle.lsm_model.specs.Plain.{Plain}
 use Rattle.lsm_shelf.specs.Asked.{Asked}

@@ -35,7 +35,6 @@ fn judge(ends: &[WorkerEnd]) -> Result<(), WorkerFault>
 }
 
 /// Gives a job up again.
-#[tactic(auto, using(crate::proofs::EndingLaws::given_up, crate::proofs::EndingLaws::not_given_up))]
 fn give_up<N: Boarded, S: Shelf>(state: &mut State<N, S>, ticket: u64)
     ensures { state.new ≡ record state.old { live = state.new.live } }
 {

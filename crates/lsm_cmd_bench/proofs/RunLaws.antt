@@ -51,12 +51,15 @@ module _ {C M : Type 0} (folders : Ghosts C M) where
       → start ≡ Begin number → NoneUnread 0 0 logs → IsShelfAt folders path (IsPrepared plainly start logs) begun
       → IfErr r (λ e. IsUnbenched MayRefuse (AreHonest folders.calls) number options e (told_by folders begun) (told_by folders ended)) → OnErr r (FailsToBench folders path options old new)
   fails_to_bench (Ok x) path options number start logs begun ended old new is flushed on fault = tt
-  fails_to_bench (Err e) path options number start logs begun ended old new is flushed on fault = inr (e, record {
-    number = number;
-    logs = logs;
-    flushed = flushed;
-    begun = begun;
-    on = subst (λ (s : Start). IsShelfAt folders path (IsPrepared plainly s logs) begun) is on;
-    ended = ended;
-    refused = fault;
-  })
+  fails_to_bench (Err e) path options number start logs begun ended old new is flushed on fault = inr (
+    e,
+    record {
+      number = number;
+      logs = logs;
+      flushed = flushed;
+      begun = begun;
+      on = subst (λ (s : Start). IsShelfAt folders path (IsPrepared plainly s logs) begun) is on;
+      ended = ended;
+      refused = fault;
+    },
+  )

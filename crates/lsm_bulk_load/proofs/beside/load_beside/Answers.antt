@@ -1,7 +1,9 @@
-use Rattle.std.proofs.Common.{rules, ◌≡◌, [], List, All, IfErr, OnOk, subst, sym}
+use Rattle.std.proofs.Common.{rules, ◌≡◌, ◌∙◌, [], List, All, IfErr, OnOk, ap, inl, inr, refl, subst, sym}
+use Rattle.lsm_state.specs.Held.{Held}
 use Rattle.lsm_store.specs.Workers.{IsWorkersEnd}
 use Rattle.lsm_store.specs.declared.worker_end.WorkerEnd.{WorkerEnd}
 use Rattle.lsm_bulk_load.specs.Ending.{IsLate}
+use Rattle.lsm_bulk_load.specs.Keeping.{IsTaken}
 use Rattle.lsm_bulk_load.specs.Loading.{IsLoaded, IsStopped}
 use Rattle.lsm_bulk_load.specs.Marks.{marked_in}
 use Rattle.lsm_bulk_load.proofs.EndingLaws.{unbegun, unfinished}
@@ -30,3 +32,13 @@ returns-in-Some-clause-kept g c = (c.load_all.result.1, c.load_all.ensures.kept,
 
 pub returns-in-None-clause-kept : goal.returns-in-None-clause-kept
 returns-in-None-clause-kept g c = (c.load_all.result.1, c.load_all.ensures.kept, c.finish-done-in-None.ensures.looked)
+
+pub new-requires-clause-first : goal.new-requires-clause-first
+new-requires-clause-first g c κs within = λ h taken. c.requires.first h (subst (λ (s : Held). IsTaken s h) (c.of-mark.ensures.same ∙ c.of-before.ensures.same) taken)
+
+pub returns-in-Err-clause-kept : goal.returns-in-Err-clause-kept
+returns-in-Err-clause-kept g c =
+    let back : c.in-Err.state ≡ record c.args.state { pinners = [] } =
+    c.in-Err.ensures.back ∙ ap (λ (s : Held). record s { pinners = [] }) (c.of-mark.ensures.same ∙ c.of-before.ensures.same)
+    in
+    (c.in-Err.state, ∣ c.requires.first c.in-Err.state (inr (inl back)) ∣₁, refl)

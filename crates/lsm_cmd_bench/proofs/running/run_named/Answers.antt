@@ -6,7 +6,7 @@ use Rattle.lsm_cmd_bench.proofs.running.run_named.Goals as goal
 pub run_state-requires-clause-first : goal.run_state-requires-clause-first
 run_state-requires-clause-first g c κs within = λ h taken. (
     come_taken (g.S.Shelf.refuses g.N.Naming.place) g.S.Shelf.honest (IsOfPairs c.args.options.now.num c.args.options.now.value_size) _ h taken
-)
+    )
 
 pub run_state-requires-clause-kept : goal.run_state-requires-clause-kept
 run_state-requires-clause-kept g c κs within =

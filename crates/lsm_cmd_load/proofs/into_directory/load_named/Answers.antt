@@ -41,8 +41,8 @@ returns-in_err-sweep-in-Ok-clause-fault g c =
     c.in_err-sweep-in-Ok.field-0.0 g.N.Boarded.board c.in_ok-state.state c.load_beside-done.result.state c.sweep.new.state c.args.shelf.now c.start.new.shelf c.load_beside-done.new.shelf
     c.sweep.new.shelf c.in_ok-state.ensures.started loaded (record {
       behind = c.load_beside-done.ensures.kept.0;
-            come = c.load_beside-done.ensures.kept.1;
-            judged = c.load_beside-done.ensures.kept.2;
+      come = c.load_beside-done.ensures.kept.1;
+      judged = c.load_beside-done.ensures.kept.2;
       looked = c.sweep.ensures.looked;
       rest = c.sweep.ensures.rest;
       idle = λ h. c.sweep.ensures.idle (idle h);
