@@ -171,9 +171,9 @@ impl<I: Read + Drop> LineReader<I> {
             let ready = self.ahead.ready();
             match parts(b'\n', ready) {
                 Some((piece, _)) => {
-                    let count = piece.len();
+                    let length = piece.len();
                     let next = add_piece(&mut self.line, so_far, piece);
-                    self.ahead.pass(count + 1);
+                    self.ahead.pass(length + 1);
                     return Ok(whole(next));
                 }
                 None => {
