@@ -6,7 +6,8 @@ use Rattle.lsm_text.specs.BatchText.{AreWriteLines, IsWriteLine}
 use Rattle.lsm_text.specs.declared.form.Form.{Form}
 use Rattle.lsm_batch.specs.Batches.{IsLarge, IsTooLarge}
 use Rattle.lsm_batch.specs.declared.write.Write.{Write}
-use Rattle.lsm_lines.specs.Reading.{BeginsWith, IsWhole, TakesLine, TakesWhole}
+use Rattle.lsm_lines.specs.Reading.{BeginsWith, IsNextHeld, IsWhole, Lined, TakesLine, TakesWhole}
+use Rattle.lsm_lines.specs.declared.line_reader.HeldLine.TheVariants as held
 use Rattle.lsm_lines.specs.Gathering.{AreEnded, Gathers, Pending, Reads, Stops, StopsBy, TakesLines}
 use Rattle.lsm_lines.specs.Filling.{Fills, IsFilled, IsNoWrite}
 use Rattle.lsm_lines.specs.declared.write_line_fault.WriteLineFault.{WriteLineFault}
@@ -26,6 +27,12 @@ stops_at form line old new LongLine t none = absurd none
 stops_at form line old new LargeWrite t none = absurd none
 stops_at form line old new NoNewline t none = absurd none
 stops_at form line old new Read t none = absurd none
+
+pub stops_unended : (form : Form) (old new : Lined) → IsNextHeld old new held.Last → Stops form old.left NoNewline
+stops_unended form old new i = (new.line, takes_begins new.line old.left new.left i.1, i.2)
+
+pub stops_long : (form : Form) (old new : Lined) → IsNextHeld old new held.TooLong → Stops form old.left LongLine
+stops_long form old new i = (i.0, i.2, i.1)
 
 -- ---- lines, one after another
 

@@ -1,8 +1,9 @@
 //! A write buffer is filled with the writes of lines.
 
-ghost use Rattle.std.specs.Prelude.{◌≡◌, List, ℕ, IfErr, IfNone, IfOk, IfSome};
+ghost use Rattle.std.specs.Prelude.{◌≡◌, List, ℕ, IfErr, IfNone, IfOk, IfSome, false, true};
 ghost use Rattle.std.specs.Io.KnownBytes.{IsAtEnd};
 ghost use Rattle.lsm_text.specs.BatchText.{IsWriteLine};
+ghost use Rattle.lsm_text.specs.declared.form.Form.{Form};
 ghost use Rattle.lsm_lines.specs.Reading.{TakesLine};
 ghost use Rattle.lsm_lines.specs.Gathering.{AreEnded, Stops};
 ghost use Rattle.lsm_lines.specs.Filling.{IsFilled, IsNoWrite};
@@ -48,6 +49,30 @@ fn write_of(alloc: Global, form: Form, line: &[u8]) -> Result<Write, WriteLineFa
     }
 }
 
+/// Whether there is a next line, which is held then. The last one may lack its newline, or not.
+#[tactic(auto, using(crate::proofs::GatherLaws::stops_long, crate::proofs::GatherLaws::stops_unended))]
+fn next_line<I: Read + Drop>(last: bool, lines: &mut LineReader<I>) -> Result<bool, WriteLineFault>
+    ensures line { IfOk result (λ more. more ≡ true
+        → TakesLine lines.new.line lines.old.left lines.new.left
+        × AreEnded last lines.old.left lines.new.left) }
+    ensures none { IfOk result (λ more. more ≡ false → IsAtEnd lines.old.left) }
+    ensures stops { IfErr result (λ e. (form : Form) → Stops form lines.old.left e) }
+{
+    match lines.next_held() {
+        Ok(HeldLine::Line) => Ok(true),
+        Ok(HeldLine::Last) => {
+            if last {
+                return Ok(true);
+            }
+            Err(WriteLineFault::NoNewline)
+        }
+        Ok(HeldLine::TooLong) => Err(WriteLineFault::LongLine),
+        Ok(HeldLine::NoMemory) => Err(WriteLineFault::OutOfMemory),
+        Ok(HeldLine::End) => Ok(false),
+        Err(_) => Err(WriteLineFault::Read),
+    }
+}
+
 /// What the next line writes; none at the end. The last one may lack its newline, or not.
 fn next_write<I: Read + Drop>(
     alloc: Global,
@@ -61,17 +86,12 @@ fn next_write<I: Read + Drop>(
     ensures none { IfOk result (λ o. IfNone o (IsAtEnd lines.old.left)) }
     ensures stops { IfErr result (Stops form lines.old.left) }
 {
-    match lines.next_held() {
-        Ok(HeldLine::Line) => {}
-        Ok(HeldLine::Last) if last => {}
-        Ok(HeldLine::Last) => return Err(WriteLineFault::NoNewline),
-        Ok(HeldLine::TooLong) => return Err(WriteLineFault::LongLine),
-        Ok(HeldLine::NoMemory) => return Err(WriteLineFault::OutOfMemory),
-        Ok(HeldLine::End) => return Ok(None),
-        Err(_) => return Err(WriteLineFault::Read),
-    }
-    match write_of(alloc, form, lines.line()) {
-        Ok(write) => Ok(Some(write)),
+    match next_line(last, lines) {
+        Ok(true) => match write_of(alloc, form, lines.line()) {
+            Ok(write) => Ok(Some(write)),
+            Err(fault) => Err(fault),
+        },
+        Ok(false) => Ok(None),
         Err(fault) => Err(fault),
     }
 }
