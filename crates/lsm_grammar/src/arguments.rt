@@ -196,6 +196,12 @@ pub(crate) const FROM_LINE: Argument = Argument::Valued(Valued {
     help: "The first line that is loaded, from 1",
 });
 
+/// A last line that may have been cut is loaded.
+pub(crate) const LAST_LINE: Argument = Argument::Flag(
+    "last-line",
+    "Load the last line also without its newline",
+);
+
 /// The benchmarks that run.
 pub(crate) const BENCHMARKS: Argument = Argument::Valued(Valued {
     name: "benchmarks",

@@ -2,8 +2,8 @@
 
 use crate::arguments::{
     ACCEPT_REST, ALL, Argument, BATCH, BEGIN, BENCHMARKS, BESIDE_LOG, COMPACTORS, COUNT, EXISTS,
-    FILES, FIRST, FOLDER, FROM, FROM_LINE, JSON, KEY, KEYS, LAST, LIMIT, NUM, PREFIX, PROGRESS,
-    RAW, SOME_WORKERS, STRICT, SVG, TEXT, TO, VALUE, VALUE_SIZE, VERIFIERS, WORKERS,
+    FILES, FIRST, FOLDER, FROM, FROM_LINE, JSON, KEY, KEYS, LAST, LAST_LINE, LIMIT, NUM, PREFIX,
+    PROGRESS, RAW, SOME_WORKERS, STRICT, SVG, TEXT, TO, VALUE, VALUE_SIZE, VERIFIERS, WORKERS,
 };
 use crate::command_name::{CommandName, named};
 
@@ -428,6 +428,7 @@ const LOAD: Page = Page {
         BESIDE_LOG,
         WORKERS,
         FROM_LINE,
+        LAST_LINE,
         PROGRESS,
     ],
     about: "Brings lines of keys into a folder, any number in any order",
@@ -444,11 +445,13 @@ many, 1 to 8; 2 if it is not said. Behind the last line all that is due is
 compacted, and the tables that are not needed any more are removed.
 
 A line of another form, or of more than 8388608 bytes, or with a key or value
-over its limit, is `bad line I`; the lines before it are in. Wherever it ends
-before the last line, whole batches are in, and the last line on standard error
-says of which lines: `lines 1 to L are in`. Mend it, and go on with --from-line
-L+1, which passes over the lines before that one; lines that come in twice leave
-what they left once, as long as those behind them come in again too.
+over its limit, is `bad line I`; so is a last line without a newline behind it,
+which may have been cut, unless --last-line is said. The lines before it are in.
+Wherever it ends before the last line, whole batches are in, and the last line on
+standard error says of which lines: `lines 1 to L are in`. Mend it, and go on
+with --from-line L+1, which passes over the lines before that one; lines that
+come in twice leave what they left once, as long as those behind them come in
+again too.
 
 Limits: 8388608 bytes of a line, 4096 bytes of a key, 1048576 bytes of a value.
 
@@ -495,8 +498,8 @@ bytes.
 What stands in a write-ahead log (`N.log`) is not read, and stays there. Another
 program that has DIR open is `refused 52 Locked`, and a manifest whose last B
 bytes are no whole record `refused 61 TornManifest B`, as `clean` says, unless
---accept-rest is said. Each run begins a new manifest; old manifests stay until `lsm clean DIR`. Run this after an `ingest`
-that is `refused 40 LevelZeroFull`.
+--accept-rest is said. Each run begins a new manifest; old manifests stay until
+`lsm clean DIR`. Run this after an `ingest` that is `refused 40 LevelZeroFull`.
 
 Exit status: 0 done, 1 refused, 2 bad command line. After a refusal what was
 installed before it stands, and no table was removed, but by a removal that then
@@ -653,7 +656,7 @@ fn usage(name: CommandName) -> &'static str {
         CommandName::Put => "lsm put <DIR> <KEY> <VALUE> [--text] [--begin] [--beside-log]",
         CommandName::Delete => "lsm delete <DIR> <KEY> [--text] [--begin] [--beside-log]",
         CommandName::Load =>
-            "lsm load <DIR> [FILE] [--text] [--begin] [--beside-log] [--workers <N>] [--from-line <I>] [--progress]",
+            "lsm load <DIR> [FILE] [--text] [--begin] [--beside-log] [--workers <N>] [--from-line <I>] [--last-line] [--progress]",
         CommandName::Compact =>
             "lsm compact <DIR> [--all] [--from <KEY>] [--to <KEY>] [--text] [--workers <N>] [--accept-rest] [--progress]",
         CommandName::Clean => "lsm clean <DIR> [--accept-rest]",
