@@ -265,7 +265,9 @@ class Row:
             file.close()
         self.status = status
         if self.is_reply():
-            status, out, err = status + 1, "", out
+            if self.words[0] == "shell" and not err.startswith("failed line\n"):
+                yield f"the shell ends with {err!r}"
+            status, out, err = status + (self.words[0] == "script"), "", out
         yield from self.compared(status, out, err.splitlines(), before)
 
     def compared(self, status, out, lines, before):

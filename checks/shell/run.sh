@@ -1,8 +1,9 @@
 #!/usr/bin/env bash
 # Drives `lsm shell` as another program does, through pipes, and as a person does, in a terminal:
-# each line has its reply before the next line is sent, also beside workers, a list ends by `end`, bad and too long lines
-# and refusals are replies, what was said to be in is in after a kill, a second shell is refused, and
-# a reply that can't be written ends it. Needs python3, and tmux for the last part, which is left
+# each line has its reply before the next line is sent, also beside workers, a list ends by `end`, bad
+# and too long lines and refusals are replies, which the status tells in the end, and with --bail end
+# it, what was said to be in is in after a kill, a second shell is refused, and a reply that can't be
+# written ends it. Needs python3, and tmux for the last part, which is left
 # out where there is none. LSM=/path/to/lsm names a built program.
 set -euo pipefail
 here=$(cd "$(dirname "$0")" && pwd)
@@ -34,7 +35,7 @@ for line in "put pear green" begin "put fig blue" "get fig" commit frob scan com
   tmux -L "$name" send-keys -l "$line"
   tmux -L "$name" send-keys Enter
 done
-wait_for "status 0"
+wait_for "status 1"
 cat > wanted << END
 lsm> put pear green
 file 2 first 1 last 1
@@ -55,7 +56,9 @@ end
 lsm> compact
 installed 0
 lsm> quit
-status 0
+failed line
+a line was bad or was refused: its reply says why
+status 1
 END
 cmp seen wanted || { cat seen >&2; exit 1; }
 echo "a terminal: as wanted"

@@ -7,6 +7,9 @@ import time
 
 program = sys.argv[1]
 BAD = "bad line: help tells what lines there are"
+WELL = (0, "")
+FAILED = (1, "failed line\na line was bad or was refused: its reply says why\n")
+OPEN = (1, "open batch\na batch was begun, and neither committed nor aborted: nothing of it came in\n")
 
 
 class Shell:
@@ -72,7 +75,7 @@ def lines_and_lists():
     status, said = second.end()
     assert status == 1 and said.startswith("refused 52 Locked"), (status, said)
     shell.send("quit")
-    want(shell.end(), (0, ""))
+    want(shell.end(), FAILED)
 
 
 def batches():
@@ -97,7 +100,7 @@ def batches():
     want(shell.ask("commit"), "file 3 first 4 last 65539")
     want(shell.ask("begin"), "begun")
     want(shell.ask("put late 1"), "queued")
-    want(shell.end(), (0, ""))
+    want(shell.end(), FAILED)
     said = subprocess.run([program, "scan", "batches", "--text", "--count"], capture_output=True, check=True).stdout
     want(said, b"65538\n")
 
@@ -115,7 +118,7 @@ def all_that_is_due():
     tables = {f"{int(line.split()[1]):06}.ldb" for line in shell.list("list")[:-1]}
     want({name for name in os.listdir("due") if name.endswith(".ldb")}, tables)
     want(shell.list("scan"), [f"key{n % 7}={n}" for n in sorted(range(33, 40), key=lambda n: n % 7)] + ["end"])
-    want(shell.end(), (0, ""))
+    want(shell.end(), WELL)
 
 
 def one_opening_and_the_folder():
@@ -128,7 +131,7 @@ def one_opening_and_the_folder():
     assert shell.ask(f"install {job[1]}").startswith("installed"), job
     assert shell.ask("put late 1").startswith("file "), "after a compaction"
     assert shell.ask("collect").startswith("removed"), "collect"
-    want(shell.end(), (0, ""))
+    want(shell.end(), FAILED)
     said = subprocess.run([program, "get", "twelve", "late", "--text"], capture_output=True, check=True).stdout
     want(said, b"value 1\n")
     assert subprocess.run([program, "check", "twelve"], capture_output=True).returncode == 0
@@ -161,11 +164,45 @@ def workers_beside():
     want(shell.ask("frob"), BAD)
     assert shell.ask("compact").startswith("installed "), "compact"
     assert shell.ask("collect").startswith("removed"), "collect"
-    want(shell.end(), (0, ""))
+    want(shell.end(), FAILED)
     assert subprocess.run([program, "check", "beside"], capture_output=True).returncode == 0
     for count in ("0", "17", "x"):
         status, _said = Shell("beside", "--workers", count).end()
         want(status, 2)
+
+
+def what_the_status_tells():
+    for words in ((), ("--workers", "1")):
+        shell = Shell("told", "--text", *words)
+        for line in ("get none", "begin", "put a 1", "abort", "put a 2"):
+            shell.ask(line)
+        want(shell.end(), WELL)
+        shell = Shell("told", "--text", *words)
+        want(shell.ask("begin"), "begun")
+        want(shell.ask("put a 3"), "queued")
+        shell.send("quit")
+        want(shell.end(), OPEN)
+        want(run_of("get", "told", "a", "--text"), b"value 2\n")
+
+
+def bail_ends_it():
+    for words in ((), ("--workers", "1")):
+        for line, reply in (("frob", BAD), ("release 7", "refused 43 UnknownSnapshot 7"), ("commit", "bad line: no batch is begun")):
+            shell = Shell("bailed", "--text", "--bail", *words)
+            want(shell.ask("put a 1")[:5], "file ")
+            want(shell.ask(line), reply)
+            want(shell.end(), FAILED)
+        lines = b"put a 2\nfrob\nput a 3\n"
+        child = subprocess.run([program, "shell", "bailed", "--text", "--bail", *words], input=lines, capture_output=True)
+        want((child.returncode, child.stdout.splitlines()[1:], child.stderr.decode()), (1, [BAD.encode()], FAILED[1]))
+        want(run_of("get", "bailed", "a", "--text"), b"value 2\n")
+        shell = Shell("bailed", "--text", "--bail", *words)
+        want(shell.ask("get a"), "value 2")
+        want(shell.end(), WELL)
+
+
+def run_of(*words):
+    return subprocess.run([program, *words], capture_output=True, check=True).stdout
 
 
 def a_kill_loses_nothing_that_was_said():
@@ -192,6 +229,6 @@ def a_reply_that_is_not_written():
     assert child.returncode == 1 and err.startswith(b"write fault"), (child.returncode, err)
 
 
-for part in (lines_and_lists, batches, all_that_is_due, one_opening_and_the_folder, workers_beside, a_kill_loses_nothing_that_was_said, a_folder_that_is_refused, a_reply_that_is_not_written):
+for part in (lines_and_lists, batches, all_that_is_due, one_opening_and_the_folder, workers_beside, what_the_status_tells, bail_ends_it, a_kill_loses_nothing_that_was_said, a_folder_that_is_refused, a_reply_that_is_not_written):
     part()
     print(part.__name__.replace("_", " ") + ": as wanted")

@@ -78,6 +78,7 @@ class Shell:
         os.makedirs(folder)
         self.folder = folder
         self.replied = 0
+        self.was_refused = False
         self.child = subprocess.Popen(
             [lsm, "shell", folder, "--text", "--begin", "--workers", "1"],
             stdin=subprocess.PIPE,
@@ -111,6 +112,7 @@ class Shell:
                 return
             if not said.startswith("refused 40 "):
                 sys.exit(f"a batch was answered {said}")
+            self.was_refused = True
             time.sleep(0.001)
 
     def levels(self):
@@ -138,7 +140,7 @@ class Shell:
 
     def end(self):
         self.child.stdin.close()
-        if self.child.wait() != 0:
+        if self.child.wait() != self.was_refused:
             sys.exit(f"the shell of {self.folder} ended with status {self.child.returncode}")
 
 

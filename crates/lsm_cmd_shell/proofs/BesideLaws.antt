@@ -1,5 +1,5 @@
 -- A conversation beside workers.
-use Rattle.std.proofs.Common.{◌≡◌, ℕ, List, All, length, Option, None, IfErr, OnOk, refl, sym, subst, inl, inr}
+use Rattle.std.proofs.Common.{◌≡◌, ℕ, Bool, List, All, length, Option, None, IfErr, OnOk, refl, sym, subst, inl, inr}
 use Rattle.std.specs.Prelude.{Result, Ok, Err}
 use Rattle.lsm_codec.specs.Entries.{Entry}
 use Rattle.lsm_shelf.specs.Asked.{Asked}
@@ -16,29 +16,29 @@ use Rattle.lsm_store.specs.Workers.{IsWorkersEnd}
 use Rattle.lsm_store.specs.declared.worker_end.WorkerEnd.{WorkerEnd}
 use Rattle.lsm_bulk_load.specs.Ending.{IsFaultless}
 use Rattle.lsm_opening.specs.Starting.{IsStarted}
-use Rattle.lsm_opening.specs.declared.faults.compact_fault.CompactFault.{CompactFault}
 use Rattle.lsm_opening.specs.declared.prepared.Start.{Start}
 use Rattle.lsm_cmd_shell.specs.Beside.{IsLent, IsTalkedBeside, waiting}
 use Rattle.lsm_cmd_shell.specs.Conversing.{ConversesBeside, IsBesideFault, IsConversedBeside, IsForking, IsOfEnds, IsUnmanned}
 use Rattle.lsm_cmd_shell.specs.Keeping.{HasComeTo}
+use Rattle.lsm_cmd_shell.specs.declared.shell_fault.ShellFault.{ShellFault}
 use Rattle.lsm_cmd_shell.specs.declared.talk_fault.TalkFault.{TalkFault}
 
 -- a state that was only looked at since
 pub lent : (honest : Type 0) (known : List Entry) (h k : Held) → k ≡ h → IsLater h.history known → (honest → ReadsAs (plain k) k.history) → IsLent honest known h
 lent honest known h k same later reads = record { later = later; reads = subst (λ (x : Held). honest → ReadsAs (plain x) x.history) same reads }
 
-pub conversed : (honest : Type 0) (start : Start) (logs : List FolderFile) (form : Form) (workers : ℕ) (input : Option (List ℕ)) (r : Result (Unit {0}) TalkFault) (ends items : List WorkerEnd)
+pub conversed : (honest : Type 0) (start : Start) (logs : List FolderFile) (form : Form) (bails : Bool) (workers : ℕ) (input : Option (List ℕ)) (r : Result (Unit {0}) TalkFault) (ends items : List WorkerEnd)
     (was mid is : Told) (old : Option (List ℕ)) (state left : Held) (desk : OnDesk) (place : Place) → IsStarted honest start logs state was mid → Forked mid is → desk ≡ clear
-    → IsTalkedBeside honest (HasComeTo honest form input state) form input r (waiting state.history (fresh place) desk None) old → ∥ HasComeTo honest form input state left ∥₁ → ends ≡ items → length ends ≡ workers
-    → All (IsWorkersEnd honest) items → ConversesBeside honest start logs form workers input r ends was is old
-conversed honest start logs form workers input r ends items was mid is old state left desk place started forked desk_is talk come same count each = record {
+    → IsTalkedBeside honest (HasComeTo honest form input state) form bails input r (waiting state.history (fresh place) desk None) old → ∥ HasComeTo honest form input state left ∥₁ → ends ≡ items → length ends ≡ workers
+    → All (IsWorkersEnd honest) items → ConversesBeside honest start logs form bails workers input r ends was is old
+conversed honest start logs form bails workers input r ends items was mid is old state left desk place started forked desk_is talk come same count each = record {
   state = state;
   mid = mid;
   started = started;
   forked = forked;
   own = fresh place;
   unasked = refl;
-  talk = subst (λ (d : OnDesk). IsTalkedBeside honest (HasComeTo honest form input state) form input r (waiting state.history (fresh place) d None) old) desk_is talk;
+  talk = subst (λ (d : OnDesk). IsTalkedBeside honest (HasComeTo honest form input state) form bails input r (waiting state.history (fresh place) d None) old) desk_is talk;
   left = left;
   come = come;
   count = count;
@@ -46,30 +46,30 @@ conversed honest start logs form workers input r ends items was mid is old state
 }
 
 -- how that is judged
-pub judged_done : (honest : Type 0) (start : Start) (logs : List FolderFile) (form : Form) (workers : ℕ) (input : Option (List ℕ)) (r : Result (Unit {0}) TalkFault) (ends : List WorkerEnd) (was is : Told)
-    (old : Option (List ℕ)) (done : Result (Unit {0}) CompactFault) → ConversesBeside honest start logs form workers input r ends was is old → OnOk done ((r ≡ Ok tt) × All IsFaultless ends)
-    → OnOk done (IsConversedBeside honest start logs form workers input was is old)
-judged_done honest start logs form workers input r ends was is old (Ok x) c judged =
-    (ends, judged.1, subst (λ (q : Result (Unit {0}) TalkFault). ConversesBeside honest start logs form workers input q ends was is old) judged.0 c)
-judged_done honest start logs form workers input r ends was is old (Err e) c judged = tt
+pub judged_done : (honest : Type 0) (start : Start) (logs : List FolderFile) (form : Form) (bails : Bool) (workers : ℕ) (input : Option (List ℕ)) (r : Result (Unit {0}) TalkFault) (ends : List WorkerEnd) (was is : Told)
+    (old : Option (List ℕ)) (done : Result (Unit {0}) ShellFault) → ConversesBeside honest start logs form bails workers input r ends was is old → OnOk done ((r ≡ Ok tt) × All IsFaultless ends)
+    → OnOk done (IsConversedBeside honest start logs form bails workers input was is old)
+judged_done honest start logs form bails workers input r ends was is old (Ok x) c judged =
+    (ends, judged.1, subst (λ (q : Result (Unit {0}) TalkFault). ConversesBeside honest start logs form bails workers input q ends was is old) judged.0 c)
+judged_done honest start logs form bails workers input r ends was is old (Err e) c judged = tt
 
-pub judged_fault : (Stored : ℕ → List ℕ → Type 0) (Refused : Asked → ShelfFault → Type 0) (honest : Type 0) (start : Start) (logs : List FolderFile) (form : Form) (workers : ℕ) (input : Option (List ℕ))
-    (r : Result (Unit {0}) TalkFault) (ends : List WorkerEnd) (was is : Told) (old new : Option (List ℕ)) (done : Result (Unit {0}) CompactFault) → ConversesBeside honest start logs form workers input r ends was is old
-    → IfErr done (IsOfEnds r ends) → IfErr done (λ e. IsBesideFault Stored Refused honest start logs form workers input e was is old new)
-judged_fault Stored Refused honest start logs form workers input r ends was is old new (Ok x) c judged = tt
-judged_fault Stored Refused honest start logs form workers input r ends was is old new (Err e) c judged = inr (inr (inr (r, ends, judged, c)))
+pub judged_fault : (Stored : ℕ → List ℕ → Type 0) (Refused : Asked → ShelfFault → Type 0) (honest : Type 0) (start : Start) (logs : List FolderFile) (form : Form) (bails : Bool) (workers : ℕ) (input : Option (List ℕ))
+    (r : Result (Unit {0}) TalkFault) (ends : List WorkerEnd) (was is : Told) (old new : Option (List ℕ)) (done : Result (Unit {0}) ShellFault) → ConversesBeside honest start logs form bails workers input r ends was is old
+    → IfErr done (IsOfEnds r ends) → IfErr done (λ e. IsBesideFault Stored Refused honest start logs form bails workers input e was is old new)
+judged_fault Stored Refused honest start logs form bails workers input r ends was is old new (Ok x) c judged = tt
+judged_fault Stored Refused honest start logs form bails workers input r ends was is old new (Err e) c judged = inr (inr (inr (r, ends, judged, c)))
 
 -- no worker began
-pub unmanned : (Stored : ℕ → List ℕ → Type 0) (Refused : Asked → ShelfFault → Type 0) (honest : Type 0) (start : Start) (logs : List FolderFile) (form : Form) (workers : ℕ) (input : Option (List ℕ))
-    (e : CompactFault) (was is : Told) (old new : Option (List ℕ)) → IsForking honest start logs was is → IsUnmanned e old new → IsBesideFault Stored Refused honest start logs form workers input e was is old new
-unmanned Stored Refused honest start logs form workers input e was is old new forking (inl (fault, cause, named, kept)) = inl (inr (fault, cause, named, forking), kept)
-unmanned Stored Refused honest start logs form workers input e was is old new forking (inr spent) = inr (inr (inl (spent, forking)))
+pub unmanned : (Stored : ℕ → List ℕ → Type 0) (Refused : Asked → ShelfFault → Type 0) (honest : Type 0) (start : Start) (logs : List FolderFile) (form : Form) (bails : Bool) (workers : ℕ) (input : Option (List ℕ))
+    (e : ShellFault) (was is : Told) (old new : Option (List ℕ)) → IsForking honest start logs was is → IsUnmanned e old new → IsBesideFault Stored Refused honest start logs form bails workers input e was is old new
+unmanned Stored Refused honest start logs form bails workers input e was is old new forking (inl (fault, cause, named, kept)) = inl (inr (fault, cause, named, forking), kept)
+unmanned Stored Refused honest start logs form bails workers input e was is old new forking (inr spent) = inr (inr (inl (spent, forking)))
 
 -- the same said of equal things
-pub fault_same : (Stored : ℕ → List ℕ → Type 0) (Refused : Asked → ShelfFault → Type 0) (honest : Type 0) (start : Start) (logs : List FolderFile) (form : Form) (workers : ℕ) (i j : Option (List ℕ))
-    (was now is end : Told) (old new : Option (List ℕ)) (done : Result (Unit {0}) CompactFault) → i ≡ j → was ≡ now → is ≡ end
-    → IfErr done (λ e. IsBesideFault Stored Refused honest start logs form workers i e was is old new) → IfErr done (λ e. IsBesideFault Stored Refused honest start logs form workers j e now end old new)
-fault_same Stored Refused honest start logs form workers i j was now is end old new done input before after h =
-    subst (λ (t : Told). IfErr done (λ e. IsBesideFault Stored Refused honest start logs form workers j e now t old new)) after
-    (subst (λ (t : Told). IfErr done (λ e. IsBesideFault Stored Refused honest start logs form workers j e t is old new)) before
-    (subst (λ (k : Option (List ℕ)). IfErr done (λ e. IsBesideFault Stored Refused honest start logs form workers k e was is old new)) input h))
+pub fault_same : (Stored : ℕ → List ℕ → Type 0) (Refused : Asked → ShelfFault → Type 0) (honest : Type 0) (start : Start) (logs : List FolderFile) (form : Form) (bails : Bool) (workers : ℕ) (i j : Option (List ℕ))
+    (was now is end : Told) (old new : Option (List ℕ)) (done : Result (Unit {0}) ShellFault) → i ≡ j → was ≡ now → is ≡ end
+    → IfErr done (λ e. IsBesideFault Stored Refused honest start logs form bails workers i e was is old new) → IfErr done (λ e. IsBesideFault Stored Refused honest start logs form bails workers j e now end old new)
+fault_same Stored Refused honest start logs form bails workers i j was now is end old new done input before after h =
+    subst (λ (t : Told). IfErr done (λ e. IsBesideFault Stored Refused honest start logs form bails workers j e now t old new)) after
+    (subst (λ (t : Told). IfErr done (λ e. IsBesideFault Stored Refused honest start logs form bails workers j e t is old new)) before
+    (subst (λ (k : Option (List ℕ)). IfErr done (λ e. IsBesideFault Stored Refused honest start logs form bails workers k e was is old new)) input h))

@@ -16,6 +16,7 @@ use Rattle.lsm_cmd_shell.specs.Asked.{AreDone, IsDone, IsUpkeep, Makes}
 use Rattle.lsm_cmd_shell.specs.Asks.{IsAsk}
 use Rattle.lsm_cmd_shell.specs.Batching.{IsAbort, IsBegin, IsCommitReply, IsPutReply, Standing}
 use Rattle.lsm_cmd_shell.specs.Rounds.{AreRounds, Ends, IsCompacted, IsFinished, IsRefusedRound, IsRound, IsUncompacted, IsUnfinished, NoneIsDue}
+use Rattle.lsm_cmd_shell.specs.Said.{Said}
 use Rattle.lsm_cmd_shell.specs.Talk.{AreReplied, IsCompactReply, IsReplied, Obeys, Obeyed, Bad, Long, Spent}
 use Rattle.lsm_cmd_shell.specs.declared.ask.Ask.{Ask}
 use Rattle.lsm_cmd_shell.specs.declared.ask.Ask.TheVariants.{Do, Put, Scan, Begin, Commit, Abort, Compact, Stats, Help}
@@ -104,7 +105,7 @@ ends honest n e s t (inr (inr (many, spent, same))) = keeps_none honest s t same
 uncompacted : (honest : Type 0) (e : CommandFault) (s t : Stage) → IsUncompacted honest e s t → Keeps honest s t
 uncompacted honest e s t h = keeps_then honest s h.last t (rounds honest h.count s h.last h.rounds) (ends honest h.count e h.last t h.ends)
 
-compact_reply : (honest : Type 0) (form : Form) (said : List ℕ) (s t : Stage) → IsCompactReply honest form said s t → Keeps honest s t
+compact_reply : (honest : Type 0) (form : Form) (said : Said) (s t : Stage) → IsCompactReply honest form said s t → Keeps honest s t
 compact_reply honest form said s t (inl (n, done, says)) = compacted honest n s t done
 compact_reply honest form said s t (inr (e, not, says)) = uncompacted honest e s t not
 
@@ -117,22 +118,22 @@ MakesOrNot a old new cs = ((cs ≡ []) × (new ≡ old)) ⊎ Makes a old new cs
 abbrev pub Did : Type 0 → Ask → Option (List Write) → Option (List Write) → Stage → Stage → Type 0
 Did honest a old new s t = (cs : List Command) × (rs : List Reply) × MakesOrNot a old new cs × Leads honest cs rs s t
 
-put_did : (honest : Type 0) (form : Form) (w : Write) (old : Option (List Write)) (said : List ℕ) (s t : Standing) → IsPutReply honest form w old said s t → Did honest (Put w) old t.begun s.stage t.stage
+put_did : (honest : Type 0) (form : Form) (w : Write) (old : Option (List Write)) (said : Said) (s t : Standing) → IsPutReply honest form w old said s t → Did honest (Put w) old t.begun s.stage t.stage
 put_did honest form w None said s t (none, inl (batch, r, is, step, says)) =
     (Ingest batch ∷ [], r ∷ [], inr (ap (λ (ws : List Write). Ingest ws ∷ []) is, none), one_step honest (Ingest batch) r s.stage t.stage step)
 put_did honest form w None said s t (none, inr (spent, same)) = ([], [], inl (refl, none), no_step honest s.stage t.stage same)
 put_did honest form w (Some ws) said s t (same, (new, is, inl (put, says))) = ([], [], inr (refl, is ∙ ap Some put), no_step honest s.stage t.stage same)
 put_did honest form w (Some ws) said s t (same, (new, is, inr (kept, says))) = ([], [], inl (refl, is ∙ ap Some kept), no_step honest s.stage t.stage same)
 
-begin_did : (honest : Type 0) (old new : Option (List Write)) (said : List ℕ) (s t : Stage) → t ≡ s → IsBegin old new said → Did honest Begin old new s t
+begin_did : (honest : Type 0) (old new : Option (List Write)) (said : Said) (s t : Stage) → t ≡ s → IsBegin old new said → Did honest Begin old new s t
 begin_did honest None new said s t same (is, says) = ([], [], inr (refl, refl, is), no_step honest s t same)
 begin_did honest (Some ws) new said s t same (is, says) = ([], [], inl (refl, is), no_step honest s t same)
 
-abort_did : (honest : Type 0) (old new : Option (List Write)) (said : List ℕ) (s t : Stage) → t ≡ s → IsAbort old new said → Did honest Abort old new s t
+abort_did : (honest : Type 0) (old new : Option (List Write)) (said : Said) (s t : Stage) → t ≡ s → IsAbort old new said → Did honest Abort old new s t
 abort_did honest None new said s t same (is, says) = ([], [], inl (refl, is), no_step honest s t same)
 abort_did honest (Some ws) new said s t same (is, says) = ([], [], inr (refl, is), no_step honest s t same)
 
-commit_did : (honest : Type 0) (form : Form) (old : Option (List Write)) (said : List ℕ) (s t : Standing) → IsCommitReply honest form old said s t → Did honest Commit old t.begun s.stage t.stage
+commit_did : (honest : Type 0) (form : Form) (old : Option (List Write)) (said : Said) (s t : Standing) → IsCommitReply honest form old said s t → Did honest Commit old t.begun s.stage t.stage
 commit_did honest form None said s t (none, says, same) = ([], [], inl (refl, none), no_step honest s.stage t.stage same)
 commit_did honest form (Some ws) said s t (none, inl (batch, r, is, step, says)) =
     (Ingest batch ∷ [], r ∷ [], inr (none, inr (batch, is, refl)), one_step honest (Ingest batch) r s.stage t.stage step)
@@ -141,7 +142,7 @@ commit_did honest form (Some ws) said s t (none, inr (spent, same)) = ([], [], i
 stood : (honest : Type 0) (a : Ask) (s t : Standing) → t ≡ s → Did honest a s.begun t.begun s.stage t.stage
 stood honest a s t same = ([], [], inl (refl, ap (λ (x : Standing). x.begun) same), no_step honest s.stage t.stage (ap (λ (x : Standing). x.stage) same))
 
-did : (honest : Type 0) (form : Form) (a : Ask) (said : List ℕ) (s t : Standing) → Obeys honest form a said s t → Did honest a s.begun t.begun s.stage t.stage
+did : (honest : Type 0) (form : Form) (a : Ask) (said : Said) (s t : Standing) → Obeys honest form a said s t → Did honest a s.begun t.begun s.stage t.stage
 did honest form (Do c) said s t (same, (r, step, says)) = (c ∷ [], r ∷ [], inr (refl, same), one_step honest c r s.stage t.stage step)
 did honest form (Put w) said s t h = put_did honest form w s.begun said s t h
 did honest form (Scan b n) said s t (same, scan) = ([], [], inl (refl, same), (s.stage, refl, scan.same))
@@ -164,7 +165,7 @@ as_asked honest form line a s t ask (cs, rs, inr makes, leads) = (cs, rs, inr (a
 nothing_done : (honest : Type 0) (form : Form) (line : List ℕ) (s t : Standing) → t ≡ s → LineDid honest form line s t
 nothing_done honest form line s t same = ([], [], inl (refl, ap (λ (x : Standing). x.begun) same), no_step honest s.stage t.stage (ap (λ (x : Standing). x.stage) same))
 
-pub one_line : (honest : Type 0) (form : Form) (line said : List ℕ) (s t : Standing) → IsReplied honest form line said s t → LineDid honest form line s t
+pub one_line : (honest : Type 0) (form : Form) (line : List ℕ) (said : Said) (s t : Standing) → IsReplied honest form line said s t → LineDid honest form line s t
 one_line honest form line said s t (Obeyed a ask h) = as_asked honest form line a s t ask (did honest form a said s t h)
 one_line honest form line said s t (Bad none other e same) = nothing_done honest form line s t same
 one_line honest form line said s t (Long over e same) = nothing_done honest form line s t same
@@ -175,9 +176,11 @@ one_line honest form line said s t (Spent e same) = nothing_done honest form lin
 abbrev pub Found : Type 0 → Form → List (List ℕ) → Standing → Standing → Type 0
 Found honest form lines s t = (cs : List Command) × (rs : List Reply) × AreDone form s.begun lines cs × Leads honest cs rs s.stage t.stage
 
-pub replied_steps : (honest : Type 0) (form : Form) (lines : List (List ℕ)) (said : List ℕ) (s t : Standing) → AreReplied honest form lines said s t → Found honest form lines s t
-replied_steps honest form [] said s t h = ([], [], refl, no_step honest s.stage t.stage (ap (λ (x : Standing). x.stage) h.1))
-replied_steps honest form (line ∷ lines) said s t h =
-    let one = one_line honest form line h.1 s h.0 h.4 in
-    let later = replied_steps honest form lines h.2 h.0 t h.5 in
+pub replied_steps : (honest : Type 0) (form : Form) (lines : List (List ℕ)) (said : List Said) (s t : Standing) → AreReplied honest form lines said s t → Found honest form lines s t
+replied_steps honest form [] [] s t h = ([], [], refl, no_step honest s.stage t.stage (ap (λ (x : Standing). x.stage) h))
+replied_steps honest form [] (x ∷ said) s t h = absurd h
+replied_steps honest form (line ∷ lines) [] s t h = absurd h
+replied_steps honest form (line ∷ lines) (x ∷ said) s t h =
+    let one = one_line honest form line x s h.0 h.1 in
+    let later = replied_steps honest form lines said h.0 t h.2 in
     (one.0 ++ later.0, one.1 ++ later.1, (h.0.begun, one.0, later.0, refl, one.2, later.2), leads_then honest one.0 one.1 later.0 later.1 s.stage h.0.stage t.stage one.3 later.3)

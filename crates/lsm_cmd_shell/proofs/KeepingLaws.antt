@@ -1,10 +1,10 @@
 -- What the lock of a conversation keeps.
-use Rattle.std.proofs.Common.{◌≡◌, ◌∙◌, ℕ, suc, List, [], ◌∷◌, ◌++◌, Option, Some, None, refl, sym, ap, subst, inl, inr}
-use Rattle.std.specs.Prelude.{◌⊎◌}
+use Rattle.std.proofs.Common.{◌≡◌, ◌∙◌, ℕ, suc, Bool, List, [], ◌∷◌, ◌++◌, Option, Some, None, refl, sym, ap, subst, inl, inr}
+use Rattle.std.specs.Prelude.{◌⊎◌, Result, Ok, Err}
 use Rattle.lsm_codec.specs.Lists.{Has}
 use Rattle.lsm_codec.proofs.CallerLemmas.{has_cases, has_right}
 use Rattle.lsm_batch.specs.declared.write.Write.{Write}
-use Rattle.lsm_lines.specs.Reading.{TakesLine}
+use Rattle.lsm_lines.specs.Reading.{Lined, TakesLine}
 use Rattle.lsm_text.specs.EntryList.{lines_of}
 use Rattle.lsm_text.specs.declared.form.Form.{Form}
 use Rattle.lsm_state.specs.Held.{Held}
@@ -13,12 +13,16 @@ use Rattle.lsm_script.specs.declared.command.Command.{Command}
 use Rattle.lsm_cmd_shell.specs.Asked.{IsDone, Makes}
 use Rattle.lsm_cmd_shell.specs.Asks.{IsAsk}
 use Rattle.lsm_cmd_shell.specs.Batching.{Standing}
+use Rattle.lsm_cmd_shell.specs.Beside.{IsRepliedBeside, Waiting, on}
 use Rattle.lsm_cmd_shell.specs.Keeping.{AreWrittenIn, HasComeTo, IsKeptByNext, IsKeptByReplies, IsLineIn, IsReplyIn}
-use Rattle.lsm_cmd_shell.specs.Talk.{IsReplied}
+use Rattle.lsm_cmd_shell.specs.Said.{Said}
+use Rattle.lsm_cmd_shell.specs.Talk.{IsJudged, IsReplied, IsTurnOf}
+use Rattle.lsm_cmd_shell.specs.declared.outcome.Outcome.{Outcome}
+use Rattle.lsm_cmd_shell.specs.declared.talk_fault.TalkFault.{TalkFault}
 use Rattle.lsm_cmd_shell.specs.declared.ask.Ask.{Ask}
 use Rattle.lsm_cmd_shell.specs.declared.ask.Ask.TheVariants.{Do, Put, Scan, Begin, Commit, Abort, Compact, Stats, Help}
 use Rattle.lsm_cmd_shell.proofs.HistoryLaws.{one_line}
-use Rattle.lsm_cmd_shell.proofs.TalkLaws.{HasRead}
+use Rattle.lsm_cmd_shell.proofs.TalkLaws.{HasRead, no_end}
 
 -- ---- lines of the input
 
@@ -73,11 +77,21 @@ written_done form input line old new cs asked (inl none) written = written_same 
 written_done form input line old new cs asked (inr (a, ask, made)) written = written_made form input line a old new cs asked ask made written
 
 -- the reply to a line of the input leaves writes of the input queued
-pub written_after : (honest : Type 0) (form : Form) (input : Option (List ℕ)) (line said : List ℕ) (s t : Standing) → IsLineIn input line → IsReplied honest form line said s t → AreWrittenIn form input s.begun
+pub written_after : (honest : Type 0) (form : Form) (input : Option (List ℕ)) (line : List ℕ) (said : Said) (s t : Standing) → IsLineIn input line → IsReplied honest form line said s t → AreWrittenIn form input s.begun
     → AreWrittenIn form input t.begun
 written_after honest form input line said s t asked replied written =
     let one = one_line honest form line said s t replied in
     written_done form input line s.begun t.begun one.0 asked one.2 written
+
+-- so does a turn behind which a conversation goes on
+pub written_turn : (honest : Type 0) (keeps : Held → Type 0) (form : Form) (input : Option (List ℕ)) (bails : Bool) (was is : Outcome) (done : List (List ℕ)) (now new : Lined) (s t : Waiting)
+    (turn : Result (Option Outcome) TalkFault) (judged : Option (Result (Unit {0}) TalkFault)) (a b : Option (List ℕ)) → HasRead done input now.left
+    → IsTurnOf (IsRepliedBeside honest keeps form) turn now new s t a b → IsJudged bails t.begun turn was is judged → judged ≡ None → AreWrittenIn form input s.begun → AreWrittenIn form input t.begun
+written_turn honest keeps form input bails was is done now new s t (Ok (Some outcome)) judged a b read turn j none written =
+    let said = turn.3 in
+    written_after honest form input turn.0 turn.1 (on said.lent s) (on said.back t) (next_is_in done turn.0 input now.left new.left read turn.2) said.replied written
+written_turn honest keeps form input bails was is done now new s t (Ok None) judged a b read turn j none written = absurd (no_end _ (sym none ∙ j.1))
+written_turn honest keeps form input bails was is done now new s t (Err fault) judged a b read turn j none written = absurd (no_end _ (sym none ∙ j))
 
 -- ---- facts that are kept
 

@@ -1,6 +1,6 @@
 -- A conversation beside workers (this project's rule): a store lends its state for each turn, and
 -- workers compact between two of them.
-use Rattle.std.specs.Prelude.{◌≡◌, ℕ, List, Option, Result}
+use Rattle.std.specs.Prelude.{◌≡◌, ℕ, Bool, List, Option, Result}
 use Rattle.lsm_codec.specs.Entries.{Entry}
 use Rattle.lsm_history.specs.History.{IsLater}
 use Rattle.lsm_model.specs.Runs.{ReadsAs}
@@ -10,6 +10,7 @@ use Rattle.lsm_batch.specs.declared.write.Write.{Write}
 use Rattle.lsm_text.specs.declared.form.Form.{Form}
 use Rattle.lsm_script.specs.Steps.{OnDesk, stage}
 use Rattle.lsm_cmd_shell.specs.Batching.{Standing, standing}
+use Rattle.lsm_cmd_shell.specs.Said.{Said}
 use Rattle.lsm_cmd_shell.specs.Talk.{IsReplied, IsTalkOf}
 use Rattle.lsm_cmd_shell.specs.declared.talk_fault.TalkFault.{TalkFault}
 
@@ -37,7 +38,7 @@ pub record IsLent (honest : Type 0) (known : List Entry) (h : Held) : Type 0 whe
 -- A line was replied to on a state that was lent, of which the lock's fact held, as without
 -- workers; and all that had come in then is known.
 pub record IsRepliedBeside (honest : Type 0) (keeps : Held → Type 0) (form : Form)
-    (line said : List ℕ) (s t : Waiting) : Type 0 where
+    (line : List ℕ) (said : Said) (s t : Waiting) : Type 0 where
   pub lent : Held
   pub back : Held
   pub kept : ∥ keeps lent ∥₁
@@ -46,14 +47,16 @@ pub record IsRepliedBeside (honest : Type 0) (keeps : Held → Type 0) (form : F
   pub known : t.known ≡ back.history
 
 -- Such a conversation. No batch was begun before it, and one that is begun at its end is let go.
-abbrev pub IsTalkBeside : Type 0 → (Held → Type 0) → Form → Option (List ℕ)
+abbrev pub IsTalkBeside : Type 0 → (Held → Type 0) → Form → (bails : Bool) → Option (List ℕ)
     → Result (Unit {0}) TalkFault → Waiting → Waiting → Option (List ℕ) → Option (List ℕ) → Type 0
-IsTalkBeside honest keeps form input r s t old new =
+IsTalkBeside honest keeps form bails input r s t old new =
     (begun : Option (List Write))
-    × IsTalkOf (IsRepliedBeside honest keeps form) input r s (record t { begun = begun }) old new
+    × IsTalkOf (IsRepliedBeside honest keeps form) bails input r begun s
+    (record t { begun = begun }) old new
 
 -- So it was, and it was said of an output that had this much.
-abbrev pub IsTalkedBeside : Type 0 → (Held → Type 0) → Form → Option (List ℕ)
+abbrev pub IsTalkedBeside : Type 0 → (Held → Type 0) → Form → (bails : Bool) → Option (List ℕ)
     → Result (Unit {0}) TalkFault → Waiting → Option (List ℕ) → Type 0
-IsTalkedBeside honest keeps form input r s old =
-    (t : Waiting) × (new : Option (List ℕ)) × IsTalkBeside honest keeps form input r s t old new
+IsTalkedBeside honest keeps form bails input r s old =
+    (t : Waiting) × (new : Option (List ℕ))
+    × IsTalkBeside honest keeps form bails input r s t old new

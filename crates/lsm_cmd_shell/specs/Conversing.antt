@@ -1,5 +1,6 @@
 -- A conversation with the database of a folder (this project's rule).
-use Rattle.std.specs.Prelude.{◌≡◌, ◌⊎◌, ℕ, List, All, length, Option, None, Some, Result, Ok, Err}
+use Rattle.std.specs.Prelude.{◌≡◌, ◌⊎◌, ℕ, Bool, List, All, length, Option, None, Some, Result, Ok}
+use Rattle.std.specs.Prelude.{Err}
 use Rattle.std.specs.Io.KnownBytes.{Keeps}
 use Rattle.lsm_shelf.specs.Asked.{Asked}
 use Rattle.lsm_shelf.specs.Told.{Forked, NotNamed, Told, fresh}
@@ -10,10 +11,10 @@ use Rattle.lsm_directory.specs.declared.folder.folder_file.FolderFile.{FolderFil
 use Rattle.lsm_script.specs.Steps.{Stage, clear, stage_of}
 use Rattle.lsm_store.specs.Workers.{IsWorkersEnd}
 use Rattle.lsm_store.specs.declared.worker_end.WorkerEnd.{WorkerEnd}
+use Rattle.lsm_store.specs.declared.worker_fault.WorkerFault.{WorkerFault}
 use Rattle.lsm_bulk_load.specs.Ending.{IsFaultless, IsFirstFault}
 use Rattle.lsm_opening.specs.Starting.{IsStartRefusal, IsStarted}
 use Rattle.lsm_opening.specs.WriterFault.{of_shelf}
-use Rattle.lsm_opening.specs.declared.faults.compact_fault.CompactFault.{CompactFault}
 use Rattle.lsm_opening.specs.declared.faults.compact_fault.CompactFault.TheVariants.{Writer, Worker}
 use Rattle.lsm_opening.specs.declared.faults.writer_fault.WriterFault.{WriterFault}
 use Rattle.lsm_opening.specs.declared.faults.writer_fault.WriterFault.TheVariants.{OutOfMemory}
@@ -24,31 +25,49 @@ use Rattle.lsm_cmd_shell.specs.Beside.{IsTalkedBeside, waiting}
 use Rattle.lsm_cmd_shell.specs.Keeping.{HasComeTo}
 use Rattle.lsm_cmd_shell.specs.Talk.{IsTalk}
 use Rattle.lsm_cmd_shell.specs.declared.talk_fault.TalkFault.{TalkFault}
-use Rattle.lsm_cmd_shell.specs.declared.talk_fault.TalkFault.TheVariants.{Read, Write}
+use Rattle.lsm_cmd_shell.specs.declared.talk_fault.TalkFault.TheVariants as talk
+use Rattle.lsm_cmd_shell.specs.declared.shell_fault.ShellFault.{ShellFault}
+use Rattle.lsm_cmd_shell.specs.declared.shell_fault.ShellFault.TheVariants.{Run, LineFailed}
+use Rattle.lsm_cmd_shell.specs.declared.shell_fault.ShellFault.TheVariants.{BatchOpen}
+
+-- ---- faults
+
+-- a conversation's
+abbrev pub of_talk : TalkFault → ShellFault
+of_talk talk.Read = Run (Writer ReadFault)
+of_talk talk.Write = Run (Writer WriteFault)
+of_talk talk.LineFailed = LineFailed
+of_talk talk.BatchOpen = BatchOpen
+
+-- memory ran out
+abbrev pub spent : ShellFault
+spent = Run (Writer OutOfMemory)
+
+-- ---- without workers
 
 -- The directory was begun or opened, and then a conversation went on with its state, and ended so.
 pub record Converses (honest : Type 0) (start : Start) (logs : List FolderFile) (form : Form)
-    (input : Option (List ℕ)) (r : Result (Unit {0}) TalkFault) (was is : Told)
+    (bails : Bool) (input : Option (List ℕ)) (r : Result (Unit {0}) TalkFault) (was is : Told)
     (old new : Option (List ℕ)) : Type 0 where
   pub state : Held
   pub mid : Told
   pub started : IsStarted honest start logs state was mid
   pub last : Stage
-  pub talk : IsTalk honest form input r (stage_of state mid) last old new
+  pub talk : IsTalk honest form bails input r (stage_of state mid) last old new
   pub told : last.told ≡ is
 
--- Why a conversation did not end by itself. Memory ran out before the first line was read; the
--- directory was not begun or opened; the input could not be read any more; or a reply could not be
--- written.
+-- Why a conversation did not end well. Memory ran out before the first line was read; the directory
+-- was not begun or opened; or it ended so.
 abbrev pub IsConverseFault : (ℕ → List ℕ → Type 0) → (Asked → ShelfFault → Type 0) → Type 0 → Start
-    → List FolderFile → Form → Option (List ℕ) → WriterFault → Told → Told → Option (List ℕ)
-    → Option (List ℕ) → Type 0
-IsConverseFault Stored Refused honest start logs form input e was is old new =
-    ((e ≡ OutOfMemory) × Keeps old new
+    → List FolderFile → Form → (bails : Bool) → Option (List ℕ) → ShellFault → Told → Told
+    → Option (List ℕ) → Option (List ℕ) → Type 0
+IsConverseFault Stored Refused honest start logs form bails input e was is old new =
+    ((e ≡ spent) × Keeps old new
     × ((is ≡ was) ⊎ ((h : Held) × IsStarted honest start logs h was is)))
-    ⊎ ((IsStartRefusal Stored Refused honest start logs e was is × Keeps old new)
-    ⊎ (((e ≡ ReadFault) × Converses honest start logs form input (Err Read) was is old new)
-    ⊎ ((e ≡ WriteFault) × Converses honest start logs form input (Err Write) was is old new)))
+    ⊎ (((fault : WriterFault) × (e ≡ Run (Writer fault))
+    × IsStartRefusal Stored Refused honest start logs fault was is × Keeps old new)
+    ⊎ ((fault : TalkFault) × (e ≡ of_talk fault)
+    × Converses honest start logs form bails input (Err fault) was is old new))
 
 -- ---- beside workers
 
@@ -58,7 +77,7 @@ IsConverseFault Stored Refused honest start logs form input e was is old new =
 -- of workers and by replies to lines of the input alone. It was said of an output that had this
 -- much; that it is the caller's is to be read.
 pub record ConversesBeside (honest : Type 0) (start : Start) (logs : List FolderFile) (form : Form)
-    (workers : ℕ) (input : Option (List ℕ)) (r : Result (Unit {0}) TalkFault)
+    (bails : Bool) (workers : ℕ) (input : Option (List ℕ)) (r : Result (Unit {0}) TalkFault)
     (ends : List WorkerEnd) (was is : Told) (old : Option (List ℕ)) : Type 0 where
   pub state : Held
   pub mid : Told
@@ -66,26 +85,36 @@ pub record ConversesBeside (honest : Type 0) (start : Start) (logs : List Folder
   pub forked : Forked mid is
   pub own : Told
   pub unasked : own ≡ fresh own.place
-  pub talk : IsTalkedBeside honest (HasComeTo honest form input state) form input r
+  pub talk : IsTalkedBeside honest (HasComeTo honest form input state) form bails input r
       (waiting state.history own clear None) old
   pub left : Held
   pub come : ∥ HasComeTo honest form input state left ∥₁
   pub count : length ends ≡ workers
   pub each : All (IsWorkersEnd honest) ends
 
--- It came to its end, and no worker ended early.
-abbrev pub IsConversedBeside : Type 0 → Start → List FolderFile → Form → (workers : ℕ)
-    → Option (List ℕ) → Told → Told → Option (List ℕ) → Type 0
-IsConversedBeside honest start logs form workers input was is old =
+-- It ended well, and no worker ended early.
+abbrev pub IsConversedBeside : Type 0 → Start → List FolderFile → Form → (bails : Bool)
+    → (workers : ℕ) → Option (List ℕ) → Told → Told → Option (List ℕ) → Type 0
+IsConversedBeside honest start logs form bails workers input was is old =
     (ends : List WorkerEnd) × All IsFaultless ends
-    × ConversesBeside honest start logs form workers input (Ok tt) ends was is old
+    × ConversesBeside honest start logs form bails workers input (Ok tt) ends was is old
 
--- Why one that ended so, beside workers that ended so, is a fault.
-abbrev pub IsOfEnds : Result (Unit {0}) TalkFault → List WorkerEnd → CompactFault → Type 0
-IsOfEnds (Ok done) ends (Worker fault) = IsFirstFault fault ends
-IsOfEnds (Ok done) ends e = ⊥
-IsOfEnds (Err Read) ends e = e ≡ Writer ReadFault
-IsOfEnds (Err Write) ends e = e ≡ Writer WriteFault
+-- the fault of the first worker that has one
+abbrev pub IsWorkers : List WorkerEnd → ShellFault → Type 0
+IsWorkers ends e = (fault : WorkerFault) × IsFirstFault fault ends × (e ≡ Run (Worker fault))
+
+-- or else this one
+abbrev pub IsWorkerOr : ShellFault → List WorkerEnd → ShellFault → Type 0
+IsWorkerOr other ends e = IsWorkers ends e ⊎ (All IsFaultless ends × (e ≡ other))
+
+-- Why one that ended so, beside workers that ended so, is a fault: that of a stream first, and that
+-- of a worker before that of a line.
+abbrev pub IsOfEnds : Result (Unit {0}) TalkFault → List WorkerEnd → ShellFault → Type 0
+IsOfEnds (Ok well) ends e = IsWorkers ends e
+IsOfEnds (Err talk.Read) ends e = e ≡ of_talk talk.Read
+IsOfEnds (Err talk.Write) ends e = e ≡ of_talk talk.Write
+IsOfEnds (Err talk.LineFailed) ends e = IsWorkerOr LineFailed ends e
+IsOfEnds (Err talk.BatchOpen) ends e = IsWorkerOr BatchOpen ends e
 
 -- the directory was begun or opened, and then its shelf was asked for forks alone
 abbrev pub IsForking : Type 0 → Start → List FolderFile → Told → Told → Type 0
@@ -94,49 +123,48 @@ IsForking honest start logs was is =
 
 -- Memory ran out before that or behind it; or behind it the shelf gave no fork, or a store could
 -- not be made.
-abbrev pub IsUnforked : Type 0 → Start → List FolderFile → CompactFault → Told → Told → Type 0
+abbrev pub IsUnforked : Type 0 → Start → List FolderFile → ShellFault → Told → Told → Type 0
 IsUnforked honest start logs e was is =
-    ((e ≡ Writer OutOfMemory) × ((is ≡ was) ⊎ IsForking honest start logs was is))
-    ⊎ ((fault : ShelfFault) × NotNamed fault × (e ≡ Writer (of_shelf fault))
+    ((e ≡ spent) × ((is ≡ was) ⊎ IsForking honest start logs was is))
+    ⊎ ((fault : ShelfFault) × NotNamed fault × (e ≡ Run (Writer (of_shelf fault)))
     × IsForking honest start logs was is)
 
 -- No worker began: the shelf gave no fork, or a store could not be made, and nothing was said; or
 -- there was no memory for workers.
-abbrev pub IsUnmanned : CompactFault → Option (List ℕ) → Option (List ℕ) → Type 0
+abbrev pub IsUnmanned : ShellFault → Option (List ℕ) → Option (List ℕ) → Type 0
 IsUnmanned e old new =
-    ((fault : ShelfFault) × NotNamed fault × (e ≡ Writer (of_shelf fault)) × Keeps old new)
-    ⊎ (e ≡ Writer OutOfMemory)
+    ((fault : ShelfFault) × NotNamed fault × (e ≡ Run (Writer (of_shelf fault))) × Keeps old new)
+    ⊎ (e ≡ spent)
 
 -- Why a conversation beside workers did not come to such an end. Nothing was said: memory ran out,
 -- or the shelf gave no fork; or the directory was not begun or opened. Or there was no memory for
 -- workers. Or it ended so.
 abbrev pub IsBesideFault : (ℕ → List ℕ → Type 0) → (Asked → ShelfFault → Type 0) → Type 0 → Start
-    → List FolderFile → Form → (workers : ℕ) → Option (List ℕ) → CompactFault → Told → Told
-    → Option (List ℕ) → Option (List ℕ) → Type 0
-IsBesideFault Stored Refused honest start logs form workers input e was is old new =
+    → List FolderFile → Form → (bails : Bool) → (workers : ℕ) → Option (List ℕ) → ShellFault → Told
+    → Told → Option (List ℕ) → Option (List ℕ) → Type 0
+IsBesideFault Stored Refused honest start logs form bails workers input e was is old new =
     (IsUnforked honest start logs e was is × Keeps old new)
-    ⊎ (((fault : WriterFault) × (e ≡ Writer fault)
+    ⊎ (((fault : WriterFault) × (e ≡ Run (Writer fault))
     × IsStartRefusal Stored Refused honest start logs fault was is × Keeps old new)
-    ⊎ (((e ≡ Writer OutOfMemory) × IsForking honest start logs was is)
+    ⊎ (((e ≡ spent) × IsForking honest start logs was is)
     ⊎ ((r : Result (Unit {0}) TalkFault) × (ends : List WorkerEnd) × IsOfEnds r ends e
-    × ConversesBeside honest start logs form workers input r ends was is old)))
+    × ConversesBeside honest start logs form bails workers input r ends was is old)))
 
 -- ---- with workers, or without
 
--- a conversation came to its end
-abbrev pub IsConversed : Option ℕ → Type 0 → Start → List FolderFile → Form → Option (List ℕ) → Told
-    → Told → Option (List ℕ) → Option (List ℕ) → Type 0
-IsConversed None honest start logs form input was is old new =
-    Converses honest start logs form input (Ok tt) was is old new
-IsConversed (Some workers) honest start logs form input was is old new =
-    IsConversedBeside honest start logs form workers input was is old
+-- a conversation ended well
+abbrev pub IsConversed : Option ℕ → Type 0 → Start → List FolderFile → Form → (bails : Bool)
+    → Option (List ℕ) → Told → Told → Option (List ℕ) → Option (List ℕ) → Type 0
+IsConversed None honest start logs form bails input was is old new =
+    Converses honest start logs form bails input (Ok tt) was is old new
+IsConversed (Some workers) honest start logs form bails input was is old new =
+    IsConversedBeside honest start logs form bails workers input was is old
 
--- this kept it from its end
+-- this kept it from such an end
 abbrev pub IsUnconversed : Option ℕ → (ℕ → List ℕ → Type 0) → (Asked → ShelfFault → Type 0) → Type 0
-    → Start → List FolderFile → Form → Option (List ℕ) → CompactFault → Told → Told
+    → Start → List FolderFile → Form → (bails : Bool) → Option (List ℕ) → ShellFault → Told → Told
     → Option (List ℕ) → Option (List ℕ) → Type 0
-IsUnconversed None Stored Refused honest start logs form input e was is old new =
-    (fault : WriterFault) × (e ≡ Writer fault)
-    × IsConverseFault Stored Refused honest start logs form input fault was is old new
-IsUnconversed (Some workers) Stored Refused honest start logs form input e was is old new =
-    IsBesideFault Stored Refused honest start logs form workers input e was is old new
+IsUnconversed None Stored Refused honest start logs form bails input e was is old new =
+    IsConverseFault Stored Refused honest start logs form bails input e was is old new
+IsUnconversed (Some workers) Stored Refused honest start logs form bails input e was is old new =
+    IsBesideFault Stored Refused honest start logs form bails workers input e was is old new

@@ -10,6 +10,7 @@ use Rattle.lsm_state.specs.Held.{Held}
 use Rattle.lsm_store.specs.Compacting.{IsCompactingStep, IsSeated}
 use Rattle.lsm_cmd_shell.specs.Asks.{IsAsk}
 use Rattle.lsm_cmd_shell.specs.Batching.{Standing}
+use Rattle.lsm_cmd_shell.specs.Said.{Said}
 use Rattle.lsm_cmd_shell.specs.Talk.{IsReplied}
 use Rattle.lsm_cmd_shell.specs.declared.ask.Ask.TheVariants.{Put}
 
@@ -33,7 +34,7 @@ AreWrittenIn form input (Some ws) = (w : Write) → Has ws w → IsWrittenIn for
 pub record IsReplyIn (honest : Type 0) (form : Form) (input : Option (List ℕ)) (s t : Standing)
     : Type 0 where
   pub line : List ℕ
-  pub said : List ℕ
+  pub said : Said
   pub asked : IsLineIn input line
   pub queued : AreWrittenIn form input s.begun
   pub replied : IsReplied honest form line said s t
@@ -47,7 +48,7 @@ IsKeptByReplies honest form input keeps = (s t : Standing) → IsReplyIn honest 
 
 -- The reply to this line keeps it, where this batch is begun.
 abbrev pub IsKeptByReply : Type 0 → Form → List ℕ → Option (List Write) → (Held → Type 0) → Type 0
-IsKeptByReply honest form line begun keeps = (said : List ℕ) (s t : Standing) → s.begun ≡ begun
+IsKeptByReply honest form line begun keeps = (said : Said) (s t : Standing) → s.begun ≡ begun
     → IsReplied honest form line said s t → keeps s.stage.state → keeps t.stage.state
 
 -- So does the reply to the next line of what is left of an input.

@@ -1,6 +1,7 @@
 -- What clauses cite
 pub mod Asks
 pub mod Pairs
+pub mod Said
 pub mod Batching
 pub mod Rounds
 pub mod Statistics
@@ -9,4 +10,5 @@ pub mod Keeping
 pub mod Beside
 pub mod Asked
 pub mod Conversing
+pub mod ShellFault
 pub mod Talked

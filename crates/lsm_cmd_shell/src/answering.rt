@@ -1,12 +1,12 @@
 //! The reply to a command of a script.
 
-ghost use Rattle.std.specs.Prelude.{List, ℕ, OnOk};
-ghost use Rattle.std.specs.Io.KnownBytes.{Appends};
-ghost use Rattle.lsm_script.specs.ReplyText.{reply_text};
+ghost use Rattle.std.specs.Prelude.{IfOk};
 ghost use Rattle.lsm_script.specs.Steps.{IsStep, stage};
 ghost use Rattle.lsm_script.specs.declared.reply.Reply.{Reply};
-ghost use Rattle.lsm_cmd_shell.specs.Batching.{Says};
+ghost use Rattle.lsm_cmd_shell.specs.Batching.{Says, reply_said};
+ghost use Rattle.lsm_cmd_shell.specs.Said.{IsTold, Said};
 
+use crate::outcome::Outcome;
 use crate::saying::{Unsaid, say_reply};
 use lsm_script::{Command, Desk};
 use lsm_slots::Boarded;
@@ -28,11 +28,11 @@ pub(crate) fn answer<N: Boarded, S: Shelf, R: Wait, O: Write>(
     command: &Command,
     text: &mut Vec<u8>,
     out: &mut O,
-) -> Result<(), Unsaid>
-    ensures { (said : List ℕ) × (r : Reply) × IsStep S.honest command.now r
+) -> Result<Outcome, Unsaid>
+    ensures { (said : Said) × (r : Reply) × IsStep S.honest command.now r
         (stage state.old desk.old shelf.old) (stage state.new desk.new shelf.new)
-        × Says (reply_text form r) said
-        × OnOk result (Appends (O.contents out.old) (O.contents out.new) said) }
+        × Says (reply_said form r) said
+        × IfOk result (IsTold said (O.contents out.old) (O.contents out.new)) }
 {
     let reply = desk.answer(rt, alloc, state, shelf, command);
     say_reply(text, form, &reply, out)

@@ -1,13 +1,14 @@
 //! A batch of several lines.
 
-ghost use Rattle.std.specs.Prelude.{◌≡◌, ◌∷◌, [], List, ℕ, IfOk, OnOk};
-ghost use Rattle.std.specs.Io.KnownBytes.{Appends};
+ghost use Rattle.std.specs.Prelude.{◌≡◌, ◌∷◌, [], IfOk};
 ghost use Rattle.lsm_script.specs.Steps.{stage};
 ghost use Rattle.lsm_cmd_shell.specs.Batching.{IsAbort, IsBegin, IsCommitReply, IsPutReply};
 ghost use Rattle.lsm_cmd_shell.specs.Batching.{IsQueued, standing};
+ghost use Rattle.lsm_cmd_shell.specs.Said.{IsTold, Said};
 
 use crate::answering::answer;
-use crate::saying::{Unsaid, say};
+use crate::outcome::Outcome;
+use crate::saying::{Unsaid, say, say_failed};
 use lsm_batch::{Batch, Write as KeyWrite};
 use lsm_lines::{PutFault, WriteBuffer};
 use lsm_script::{Command, Desk};
@@ -24,12 +25,12 @@ pub(crate) fn begin<O: Write>(
     alloc: Global,
     begun: &mut Option<WriteBuffer>,
     out: &mut O,
-) -> Result<(), Unsaid>
-    ensures { (said : List ℕ) × IsBegin begun.old begun.new said
-        × OnOk result (Appends (O.contents out.old) (O.contents out.new) said) }
+) -> Result<Outcome, Unsaid>
+    ensures { (said : Said) × IsBegin begun.old begun.new said
+        × IfOk result (IsTold said (O.contents out.old) (O.contents out.new)) }
 {
     match begun {
-        Some(_) => say(out, b"bad line: a batch is begun already\n"),
+        Some(_) => say_failed(out, b"bad line: a batch is begun already\n"),
         None => {
             *begun = Some(WriteBuffer::new(alloc));
             say(out, b"begun\n")
@@ -38,29 +39,36 @@ pub(crate) fn begin<O: Write>(
 }
 
 /// `abort`: lets the batch go that is begun.
-pub(crate) fn abort<O: Write>(begun: &mut Option<WriteBuffer>, out: &mut O) -> Result<(), Unsaid>
-    ensures { (said : List ℕ) × IsAbort begun.old begun.new said
-        × OnOk result (Appends (O.contents out.old) (O.contents out.new) said) }
+pub(crate) fn abort<O: Write>(
+    begun: &mut Option<WriteBuffer>,
+    out: &mut O,
+) -> Result<Outcome, Unsaid>
+    ensures { (said : Said) × IsAbort begun.old begun.new said
+        × IfOk result (IsTold said (O.contents out.old) (O.contents out.new)) }
 {
     match begun {
         Some(_) => {
             *begun = None;
             say(out, b"aborted\n")
         }
-        None => say(out, b"bad line: no batch is begun\n"),
+        None => say_failed(out, b"bad line: no batch is begun\n"),
     }
 }
 
 /// Puts a write behind those of the batch that is begun.
-fn queue<O: Write>(buffer: &mut WriteBuffer, write: KeyWrite, out: &mut O) -> Result<(), Unsaid>
-    ensures { (said : List ℕ) × IsQueued write buffer.old buffer.new said
-        × OnOk result (Appends (O.contents out.old) (O.contents out.new) said) }
+fn queue<O: Write>(
+    buffer: &mut WriteBuffer,
+    write: KeyWrite,
+    out: &mut O,
+) -> Result<Outcome, Unsaid>
+    ensures { (said : Said) × IsQueued write buffer.old buffer.new said
+        × IfOk result (IsTold said (O.contents out.old) (O.contents out.new)) }
 {
     match buffer.put(write) {
         Ok(()) => say(out, b"queued\n"),
-        Err(PutFault::Full(_)) => say(out, b"refused 39 TooLarge\n"),
-        Err(PutFault::Large) => say(out, b"refused 39 TooLarge\n"),
-        Err(PutFault::OutOfMemory) => say(out, b"refused 1 OutOfMemory\n"),
+        Err(PutFault::Full(_)) => say_failed(out, b"refused 39 TooLarge\n"),
+        Err(PutFault::Large) => say_failed(out, b"refused 39 TooLarge\n"),
+        Err(PutFault::OutOfMemory) => say_failed(out, b"refused 1 OutOfMemory\n"),
     }
 }
 
@@ -85,17 +93,17 @@ pub(crate) fn put<N: Boarded, S: Shelf, R: Wait, O: Write>(
     write: KeyWrite,
     text: &mut Vec<u8>,
     out: &mut O,
-) -> Result<(), Unsaid>
-    ensures { (said : List ℕ) × IsPutReply S.honest form write begun.old said
+) -> Result<Outcome, Unsaid>
+    ensures { (said : Said) × IsPutReply S.honest form write begun.old said
         (standing (stage state.old desk.old shelf.old) begun.old)
         (standing (stage state.new desk.new shelf.new) begun.new)
-        × OnOk result (Appends (O.contents out.old) (O.contents out.new) said) }
+        × IfOk result (IsTold said (O.contents out.old) (O.contents out.new)) }
 {
     if let Some(buffer) = begun {
         return queue(buffer, write, out);
     }
     let Ok(batch) = batch_of(alloc, write) else {
-        return say(out, b"refused 1 OutOfMemory\n");
+        return say_failed(out, b"refused 1 OutOfMemory\n");
     };
     let command = Command::Ingest(batch);
     answer(rt, alloc, state, desk, shelf, form, &command, text, out)
@@ -113,17 +121,17 @@ pub(crate) fn commit<N: Boarded, S: Shelf, R: Wait, O: Write>(
     form: Form,
     text: &mut Vec<u8>,
     out: &mut O,
-) -> Result<(), Unsaid>
-    ensures { (said : List ℕ) × IsCommitReply S.honest form begun.old said
+) -> Result<Outcome, Unsaid>
+    ensures { (said : Said) × IsCommitReply S.honest form begun.old said
         (standing (stage state.old desk.old shelf.old) begun.old)
         (standing (stage state.new desk.new shelf.new) begun.new)
-        × OnOk result (Appends (O.contents out.old) (O.contents out.new) said) }
+        × IfOk result (IsTold said (O.contents out.old) (O.contents out.new)) }
 {
     let Some(buffer) = begun.take() else {
-        return say(out, b"bad line: no batch is begun\n");
+        return say_failed(out, b"bad line: no batch is begun\n");
     };
     let Ok(batch) = buffer.into_batch(alloc) else {
-        return say(out, b"refused 1 OutOfMemory\n");
+        return say_failed(out, b"refused 1 OutOfMemory\n");
     };
     let command = Command::Ingest(batch);
     answer(rt, alloc, state, desk, shelf, form, &command, text, out)

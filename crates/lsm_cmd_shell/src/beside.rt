@@ -1,16 +1,17 @@
 //! A conversation beside workers.
 
-ghost use Rattle.std.specs.Prelude.{◌≡◌, List, None, ℕ, OnOk};
-ghost use Rattle.std.specs.Io.KnownBytes.{Appends};
+ghost use Rattle.std.specs.Prelude.{◌≡◌, List, None, ℕ, IfOk};
 ghost use Rattle.lsm_script.specs.Steps.{stage};
 ghost use Rattle.lsm_cmd_shell.specs.Batching.{standing};
 ghost use Rattle.lsm_cmd_shell.specs.Beside.{IsLent, IsRepliedBeside, IsTalkBeside, waiting};
 ghost use Rattle.lsm_cmd_shell.specs.Keeping.{IsKeptByNext, IsKeptByReplies, IsKeptByReply};
+ghost use Rattle.lsm_cmd_shell.specs.Said.{IsTold, Said};
 ghost use Rattle.lsm_cmd_shell.specs.Talk.{IsHeld, IsLineOf, IsReplied, IsTurnOf};
 
+use crate::outcome::Outcome;
 use crate::saying::Unsaid;
 use crate::talk_fault::TalkFault;
-use crate::talking::{next_line, reply_next, went_on};
+use crate::talking::{answered, judge, next_line, reply_next};
 use lsm_history::Memory;
 use lsm_lines::{LineReader, NextLine, WriteBuffer};
 use lsm_script::Desk;
@@ -52,14 +53,14 @@ fn reply_lent<N: Boarded, S: Shelf, R: Wait, I: Read + Drop, O: Write>(
     lines: &LineReader<I>,
     text: &mut Vec<u8>,
     out: &mut O,
-) -> Result<(), Unsaid>
+) -> Result<Outcome, Unsaid>
     requires { IsHeld next lines.now.line }
     ensures lent { IsLent S.honest memory.old state.old }
-    ensures replied { (line : List ℕ) → IsLineOf next lines.now.line line → (said : List ℕ)
+    ensures replied { (line : List ℕ) → IsLineOf next lines.now.line line → (said : Said)
         × IsReplied S.honest form line said
         (standing (stage state.old desk.old shelf.old) begun.old)
         (standing (stage state.new desk.new shelf.new) begun.new)
-        × OnOk result (Appends (O.contents out.old) (O.contents out.new) said) }
+        × IfOk result (IsTold said (O.contents out.old) (O.contents out.new)) }
     ensures known { memory.new ≡ state.new.history }
 {
     catch_up(state, memory);
@@ -84,15 +85,15 @@ fn reply_under_lock<N: Boarded, S: Shelf, K: Invariant, R: Wait, I: Read + Drop,
     lines: &LineReader<I>,
     text: &mut Vec<u8>,
     out: &mut O,
-) -> Result<(), Unsaid>
+) -> Result<Outcome, Unsaid>
     requires held { IsHeld next lines.now.line }
     requires kept { (line : List ℕ) × IsLineOf next lines.now.line line
         × IsKeptByReply S.honest form line begun.old K.keeps }
-    ensures replied { (line : List ℕ) → IsLineOf next lines.now.line line → (said : List ℕ)
+    ensures replied { (line : List ℕ) → IsLineOf next lines.now.line line → (said : Said)
         × IsRepliedBeside S.honest K.keeps form line said
         (waiting memory.old shelf.old desk.old begun.old)
         (waiting memory.new shelf.new desk.new begun.new)
-        × OnOk result (Appends (O.contents out.old) (O.contents out.new) said) }
+        × IfOk result (IsTold said (O.contents out.old) (O.contents out.new)) }
 {
     reply_lent(
         &mut store.lock(rt).state,
@@ -110,8 +111,8 @@ fn reply_under_lock<N: Boarded, S: Shelf, K: Invariant, R: Wait, I: Read + Drop,
     )
 }
 
-/// Reads the next line, and replies to it. `false` at the end of the input, and at `quit`. The
-/// store lends its state once the line is there.
+/// Reads the next line, and replies to it: how it was answered; none at the end of the input, and
+/// at `quit`. The store lends its state once the line is there.
 fn take_turn<N: Boarded, S: Shelf, K: Invariant, R: Wait, I: Read + Drop, O: Write>(
     rt: &R,
     alloc: Global,
@@ -124,7 +125,7 @@ fn take_turn<N: Boarded, S: Shelf, K: Invariant, R: Wait, I: Read + Drop, O: Wri
     lines: &mut LineReader<I>,
     text: &mut Vec<u8>,
     out: &mut O,
-) -> Result<bool, TalkFault>
+) -> Result<Option<Outcome>, TalkFault>
     requires kept { IsKeptByNext S.honest form lines.old.left begun.old K.keeps }
     ensures turn { IsTurnOf (IsRepliedBeside S.honest K.keeps form) result lines.old lines.new
         (waiting memory.old shelf.old desk.old begun.old)
@@ -136,9 +137,9 @@ fn take_turn<N: Boarded, S: Shelf, K: Invariant, R: Wait, I: Read + Drop, O: Wri
             let said = reply_under_lock(
                 rt, alloc, store, memory, desk, begun, shelf, form, next, lines, text, out,
             );
-            went_on(said)
+            answered(said)
         }
-        Ok(None) => Ok(false),
+        Ok(None) => Ok(None),
         Err(fault) => Err(fault),
     }
 }
@@ -159,25 +160,25 @@ pub fn talk_beside<N: Boarded, S: Shelf, K: Invariant, R: Wait, I: Read + Drop, 
     desk: &mut Desk<N, S>,
     shelf: &mut NamedShelf<N, S>,
     form: Form,
+    bails: bool,
     lines: &mut LineReader<I>,
     out: &mut O,
 ) -> Result<(), TalkFault>
     requires asked { IsKeptByReplies S.honest form lines.old.left K.keeps }
-    ensures talk { IsTalkBeside S.honest K.keeps form lines.old.left result
+    ensures talk { IsTalkBeside S.honest K.keeps form bails lines.old.left result
         (waiting memory.old shelf.old desk.old None) (waiting memory.new shelf.new desk.new None)
         (O.contents out.old) (O.contents out.new) }
 {
     let mut begun = None;
     let mut text = Vec::new(alloc);
+    let mut outcome = Outcome::Done;
     for _turn in 0..u64::MAX {
         let turn = take_turn(
             rt, alloc, store, memory, desk, &mut begun, shelf, form, lines, &mut text, out,
         );
         background.wake(rt);
-        match turn {
-            Ok(true) => {}
-            Ok(false) => return Ok(()),
-            Err(fault) => return Err(fault),
+        if let Some(end) = judge(bails, &begun, turn, &mut outcome) {
+            return end;
         }
     }
     Err(TalkFault::Read)

@@ -1,12 +1,13 @@
 //! The reply to `compact`.
 
-ghost use Rattle.std.specs.Prelude.{◌≡◌, ◌++◌, List, ℕ, OnOk};
-ghost use Rattle.std.specs.Io.KnownBytes.{Appends};
+ghost use Rattle.std.specs.Prelude.{◌≡◌, ◌++◌, IfOk, OnOk};
 ghost use Rattle.lsm_script.specs.Steps.{stage};
 ghost use Rattle.lsm_opening.specs.Compactions.{installed_text};
 ghost use Rattle.lsm_cmd_shell.specs.Batching.{Says};
+ghost use Rattle.lsm_cmd_shell.specs.Said.{IsTold, Said, done};
 ghost use Rattle.lsm_cmd_shell.specs.Talk.{IsCompactReply};
 
+use crate::outcome::Outcome;
 use crate::rounds::compact_all;
 use crate::saying::{Unsaid, say, say_reply, say_unsaid};
 use lsm_script::{Desk, Reply};
@@ -29,9 +30,9 @@ fn push_installed(out: &mut Vec<u8>, count: u64) -> Result<(), AllocError>
 }
 
 /// Says how many results were installed.
-fn say_installed<O: Write>(text: &mut Vec<u8>, count: u64, out: &mut O) -> Result<(), Unsaid>
-    ensures { (said : List ℕ) × Says (installed_text count) said
-        × OnOk result (Appends (O.contents out.old) (O.contents out.new) said) }
+fn say_installed<O: Write>(text: &mut Vec<u8>, count: u64, out: &mut O) -> Result<Outcome, Unsaid>
+    ensures { (said : Said) × Says (done (installed_text count)) said
+        × IfOk result (IsTold said (O.contents out.old) (O.contents out.new)) }
 {
     text.clear();
     match push_installed(text, count) {
@@ -51,10 +52,10 @@ pub(crate) fn compact<N: Boarded, S: Shelf, R: Wait, O: Write>(
     form: Form,
     text: &mut Vec<u8>,
     out: &mut O,
-) -> Result<(), Unsaid>
-    ensures { (said : List ℕ) × IsCompactReply S.honest form said
+) -> Result<Outcome, Unsaid>
+    ensures { (said : Said) × IsCompactReply S.honest form said
         (stage state.old desk.old shelf.old) (stage state.new desk.new shelf.new)
-        × OnOk result (Appends (O.contents out.old) (O.contents out.new) said) }
+        × IfOk result (IsTold said (O.contents out.old) (O.contents out.new)) }
 {
     match compact_all(rt, alloc, state, desk, shelf) {
         Ok(count) => say_installed(text, count, out),

@@ -5,7 +5,7 @@ ghost use Rattle.lsm_shelf.specs.Stored.{Stored};
 ghost use Rattle.lsm_cmd_shell.specs.Conversing.{Converses, IsConverseFault};
 ghost use Rattle.lsm_opening.specs.Parts.{AreOf, usual};
 
-use crate::talk_fault::TalkFault;
+use crate::shell_fault::ShellFault;
 use crate::talking::talk;
 use lsm_lines::LineReader;
 use lsm_opening::{NewParts, Prepared, WriterFault, start};
@@ -27,29 +27,32 @@ fn converse_named<N: Boarded, S: Shelf, R: Wait, I: Read + Drop, O: Write>(
     prepared: &Prepared,
     parts: NewParts<S>,
     form: Form,
+    bails: bool,
     lines: &mut LineReader<I>,
     out: &mut O,
-) -> Result<(), WriterFault>
+) -> Result<(), ShellFault>
     requires parts { AreOf usual N.registry N.board N.history parts }
     ensures done { OnOk result (Converses S.honest prepared.now.start prepared.now.logs.items
-        form lines.old.left (Ok tt) shelf.old shelf.new (O.contents out.old) (O.contents out.new)) }
+        form bails lines.old.left (Ok tt) shelf.old shelf.new
+        (O.contents out.old) (O.contents out.new)) }
     ensures fault { IfErr result (λ e. IsConverseFault (Stored S.Receipt (S.is_of N.place)
         S.Receipt.number S.Receipt.image) (S.refuses N.place) S.honest prepared.now.start
-        prepared.now.logs.items form lines.old.left e shelf.old shelf.new
+        prepared.now.logs.items form bails lines.old.left e shelf.old shelf.new
         (O.contents out.old) (O.contents out.new)) }
 {
     let mut state: State<N, S> = match start(rt, alloc, shelf, prepared, parts) {
         Ok(state) => state,
-        Err(fault) => return Err(fault),
+        Err(fault) => return Err(ShellFault::of_writer(fault)),
     };
     let mut desk = match Desk::new(alloc, &state) {
         Ok(desk) => desk,
-        Err(_) => return Err(WriterFault::OutOfMemory),
+        Err(_) => return Err(ShellFault::of_writer(WriterFault::OutOfMemory)),
     };
-    match talk(rt, alloc, &mut state, &mut desk, shelf, form, lines, out) {
+    match talk(
+        rt, alloc, &mut state, &mut desk, shelf, form, bails, lines, out,
+    ) {
         Ok(()) => Ok(()),
-        Err(TalkFault::Read) => Err(WriterFault::Read),
-        Err(TalkFault::Write) => Err(WriterFault::Write),
+        Err(fault) => Err(ShellFault::of_talk(fault)),
     }
 }
 
@@ -61,26 +64,30 @@ fn converse_as<N: Boarded, S: Shelf, R: Wait, I: Read + Drop, O: Write>(
     prepared: &Prepared,
     parts: NewParts<S>,
     form: Form,
+    bails: bool,
     lines: &mut LineReader<I>,
     out: &mut O,
-) -> (Result<(), WriterFault>, S)
+) -> (Result<(), ShellFault>, S)
     requires parts { AreOf usual N.registry N.board N.history parts }
     requires shelf { (S.told shelf).place ≡ N.place }
     ensures done { OnOk result.0 (Converses S.honest prepared.now.start prepared.now.logs.items
-        form lines.old.left (Ok tt) (S.told shelf) (S.told result.1)
+        form bails lines.old.left (Ok tt) (S.told shelf) (S.told result.1)
         (O.contents out.old) (O.contents out.new)) }
     ensures fault { IfErr result.0 (λ e. IsConverseFault (Stored S.Receipt (S.is_of N.place)
         S.Receipt.number S.Receipt.image) (S.refuses N.place) S.honest prepared.now.start
-        prepared.now.logs.items form lines.old.left e (S.told shelf) (S.told result.1)
+        prepared.now.logs.items form bails lines.old.left e (S.told shelf) (S.told result.1)
         (O.contents out.old) (O.contents out.new)) }
 {
     let mut shelf: NamedShelf<N, S> = NamedShelf::of(shelf);
-    let done = converse_named(rt, alloc, &mut shelf, prepared, parts, form, lines, out);
+    let done = converse_named(
+        rt, alloc, &mut shelf, prepared, parts, form, bails, lines, out,
+    );
     (done, shelf.into_shelf())
 }
 
 /// Begins a database on the shelf, or opens the one that is there, as `prepare` found it, and
-/// replies to the lines of an input, up to `quit` or to its end. The shelf is given back.
+/// replies to the lines of an input, up to `quit` or to its end, or if it bails to the first line
+/// that fails. The shelf is given back.
 ///
 /// Neither is done beside a log that LevelDB would read when it opens the folder, if logs were
 /// looked at: `UnflushedLog` with the number of the first one.
@@ -90,25 +97,28 @@ pub fn converse<S: Shelf, R: Wait, I: Read + Drop, O: Write>(
     shelf: S,
     prepared: &Prepared,
     form: Form,
+    bails: bool,
     input: I,
     out: &mut O,
-) -> (Result<(), WriterFault>, S)
+) -> (Result<(), ShellFault>, S)
     ensures done { OnOk result.0 (Converses S.honest prepared.now.start prepared.now.logs.items
-        form (I.remaining input) (Ok tt) (S.told shelf) (S.told result.1)
+        form bails (I.remaining input) (Ok tt) (S.told shelf) (S.told result.1)
         (O.contents out.old) (O.contents out.new)) }
     ensures fault { IfErr result.0 (λ e.
         IsConverseFault (Stored S.Receipt (S.is_of (S.told shelf).place) S.Receipt.number
         S.Receipt.image) (S.refuses (S.told shelf).place) S.honest prepared.now.start
-        prepared.now.logs.items form (I.remaining input) e (S.told shelf) (S.told result.1)
+        prepared.now.logs.items form bails (I.remaining input) e (S.told shelf) (S.told result.1)
         (O.contents out.old) (O.contents out.new)) }
 {
     let mut lines = match LineReader::new(alloc, input) {
         Ok(lines) => lines,
-        Err(_) => return (Err(WriterFault::OutOfMemory), shelf),
+        Err(_) => return (Err(ShellFault::of_writer(WriterFault::OutOfMemory)), shelf),
     };
     let parts = match NewParts::make(alloc) {
         Ok(parts) => parts,
-        Err(_) => return (Err(WriterFault::OutOfMemory), shelf),
+        Err(_) => return (Err(ShellFault::of_writer(WriterFault::OutOfMemory)), shelf),
     };
-    converse_as::<Brand, S, R, I, O>(rt, alloc, shelf, prepared, parts, form, &mut lines, out)
+    converse_as::<Brand, S, R, I, O>(
+        rt, alloc, shelf, prepared, parts, form, bails, &mut lines, out,
+    )
 }

@@ -12,10 +12,11 @@ ghost use Rattle.lsm_opening.specs.Parts.{AreOf, usual};
 ghost use Rattle.lsm_cmd_shell.specs.Beside.{IsTalkedBeside, waiting};
 ghost use Rattle.lsm_bulk_load.specs.Ending.{IsFaultless, IsFirstFault};
 ghost use Rattle.lsm_cmd_shell.specs.Conversing.{IsBesideFault, IsConversedBeside, IsOfEnds};
-ghost use Rattle.lsm_cmd_shell.specs.Conversing.{IsUnmanned};
+ghost use Rattle.lsm_cmd_shell.specs.Conversing.{IsUnmanned, IsWorkerOr};
 ghost use Rattle.lsm_cmd_shell.specs.Keeping.{IsKeptByReplies};
 
 use crate::beside::talk_beside;
+use crate::shell_fault::ShellFault;
 use crate::talk_fault::TalkFault;
 use lsm_history::Memory;
 use lsm_lines::LineReader;
@@ -50,6 +51,7 @@ fn talk_in_store<N, S, K, R, I, O>(
     desk: Desk<N, S>,
     own: NamedShelf<N, S>,
     form: Form,
+    bails: bool,
     lines: LineReader<I>,
     out: &mut O,
 ) -> Option<Ended>
@@ -62,7 +64,7 @@ where
     O: Write,
     requires workers { IsKeptByCompaction S.honest K.keeps }
     requires asked { IsKeptByReplies S.honest form lines.left K.keeps }
-    ensures talked { IfSome result (λ r. IsTalkedBeside S.honest K.keeps form lines.left r.0
+    ensures talked { IfSome result (λ r. IsTalkedBeside S.honest K.keeps form bails lines.left r.0
         (waiting memory own desk None) (O.contents out.old)) }
     ensures count { IfSome result (λ r. vec_len r.1 ≡ vec_len shelves) }
     ensures ends { IfSome result (λ r. All (IsWorkersEnd S.honest) r.1.items) }
@@ -76,7 +78,7 @@ where
         &NoGate,
         move |background: &Background| -> Result<(), TalkFault>
             requires asked { IsKeptByReplies S.honest form lines.left K.keeps }
-            ensures { IsTalkedBeside S.honest K.keeps form lines.left result
+            ensures { IsTalkedBeside S.honest K.keeps form bails lines.left result
                 (waiting memory own desk None) (O.contents told.entry.now) }
         {
             let mut memory = memory;
@@ -92,6 +94,7 @@ where
                 &mut desk,
                 &mut own,
                 form,
+                bails,
                 &mut lines,
                 told,
             )
@@ -126,19 +129,30 @@ fn first_fault(ends: &[WorkerEnd]) -> Option<WorkerFault>
     None
 }
 
+/// The fault of the first worker that has one, or else this one.
+fn worker_or(ends: &[WorkerEnd], other: ShellFault) -> ShellFault
+    ensures { IsWorkerOr other ends.now result }
+{
+    match first_fault(ends) {
+        Some(fault) => ShellFault::Run(CompactFault::Worker(fault)),
+        None => other,
+    }
+}
+
 /// How a conversation ended beside workers that ended so.
-fn judge(talked: Result<(), TalkFault>, ends: &[WorkerEnd]) -> Result<(), CompactFault>
+fn judge(talked: Result<(), TalkFault>, ends: &[WorkerEnd]) -> Result<(), ShellFault>
     ensures done { OnOk result ((talked ≡ Ok tt) × All IsFaultless ends.now) }
     ensures fault { IfErr result (IsOfEnds talked ends.now) }
 {
     match talked {
-        Ok(()) => {}
-        Err(TalkFault::Read) => return Err(CompactFault::Writer(WriterFault::Read)),
-        Err(TalkFault::Write) => return Err(CompactFault::Writer(WriterFault::Write)),
-    }
-    match first_fault(ends) {
-        Some(fault) => Err(CompactFault::Worker(fault)),
-        None => Ok(()),
+        Ok(()) => match first_fault(ends) {
+            Some(fault) => Err(ShellFault::Run(CompactFault::Worker(fault))),
+            None => Ok(()),
+        },
+        Err(TalkFault::Read) => Err(ShellFault::of_talk(TalkFault::Read)),
+        Err(TalkFault::Write) => Err(ShellFault::of_talk(TalkFault::Write)),
+        Err(TalkFault::LineFailed) => Err(worker_or(ends, ShellFault::LineFailed)),
+        Err(TalkFault::BatchOpen) => Err(worker_or(ends, ShellFault::BatchOpen)),
     }
 }
 
@@ -152,10 +166,11 @@ fn converse_on<N, S, K, R, I, O>(
     desk: Desk<N, S>,
     shelf: &mut NamedShelf<N, S>,
     form: Form,
+    bails: bool,
     workers: usize,
     lines: LineReader<I>,
     out: &mut O,
-) -> Result<(Ended, State<N, S>), CompactFault>
+) -> Result<(Ended, State<N, S>), ShellFault>
 where
     N: Boarded,
     S: Shelf,
@@ -167,7 +182,7 @@ where
     requires found { (h : Held) → IsSeated state h → K.keeps h }
     requires workers { IsKeptByCompaction S.honest K.keeps }
     requires asked { IsKeptByReplies S.honest form lines.left K.keeps }
-    ensures talked { IfOk result (λ r. IsTalkedBeside S.honest K.keeps form lines.left r.0.0
+    ensures talked { IfOk result (λ r. IsTalkedBeside S.honest K.keeps form bails lines.left r.0.0
         (waiting state.history (fresh N.place) desk None) (O.contents out.old)) }
     ensures count { IfOk result (λ r. vec_len r.0.1 ≡ workers) }
     ensures ends { IfOk result (λ r. All (IsWorkersEnd S.honest) r.0.1.items) }
@@ -180,7 +195,7 @@ where
     let memory = state.remember();
     let made: Crew<N, S, K> = match Crew::new(alloc, state, shelf, workers) {
         Ok(crew) => crew,
-        Err((_state, fault)) => return Err(CompactFault::of_shelf(fault)),
+        Err((_state, fault)) => return Err(ShellFault::Run(CompactFault::of_shelf(fault))),
     };
     let Crew {
         store,
@@ -188,10 +203,10 @@ where
         own,
     } = made;
     match talk_in_store(
-        rt, alloc, &store, shelves, memory, desk, own, form, lines, out,
+        rt, alloc, &store, shelves, memory, desk, own, form, bails, lines, out,
     ) {
         Some(ended) => Ok((ended, store.into_state())),
-        None => Err(CompactFault::Writer(WriterFault::OutOfMemory)),
+        None => Err(ShellFault::of_writer(WriterFault::OutOfMemory)),
     }
 }
 
@@ -204,10 +219,11 @@ fn converse_named<N, S, R, I, O>(
     prepared: &Prepared,
     parts: NewParts<S>,
     form: Form,
+    bails: bool,
     workers: usize,
     lines: LineReader<I>,
     out: &mut O,
-) -> Result<(), CompactFault>
+) -> Result<(), ShellFault>
 where
     N: Boarded,
     S: Shelf,
@@ -216,23 +232,23 @@ where
     O: Write,
     requires parts { AreOf usual N.registry N.board N.history parts }
     ensures done { OnOk result (IsConversedBeside S.honest prepared.now.start
-        prepared.now.logs.items form workers lines.left shelf.old shelf.new
+        prepared.now.logs.items form bails workers lines.left shelf.old shelf.new
         (O.contents out.old)) }
     ensures fault { IfErr result (λ e. IsBesideFault (Stored S.Receipt (S.is_of N.place)
         S.Receipt.number S.Receipt.image) (S.refuses N.place) S.honest prepared.now.start
-        prepared.now.logs.items form workers lines.left e shelf.old shelf.new
+        prepared.now.logs.items form bails workers lines.left e shelf.old shelf.new
         (O.contents out.old) (O.contents out.new)) }
 {
     let state: State<N, S> = match start(rt, alloc, shelf, prepared, parts) {
         Ok(state) => state,
-        Err(fault) => return Err(CompactFault::Writer(fault)),
+        Err(fault) => return Err(ShellFault::of_writer(fault)),
     };
     let desk = match Desk::new(alloc, &state) {
         Ok(desk) => desk,
-        Err(_) => return Err(CompactFault::Writer(WriterFault::OutOfMemory)),
+        Err(_) => return Err(ShellFault::of_writer(WriterFault::OutOfMemory)),
     };
     match converse_on::<N, S, Brand, R, I, O>(
-        rt, alloc, state, desk, shelf, form, workers, lines, out,
+        rt, alloc, state, desk, shelf, form, bails, workers, lines, out,
     ) {
         Ok((ended, _left)) => {
             let (talked, ends) = ended;
@@ -250,10 +266,11 @@ fn converse_as<N, S, R, I, O>(
     prepared: &Prepared,
     parts: NewParts<S>,
     form: Form,
+    bails: bool,
     workers: usize,
     lines: LineReader<I>,
     out: &mut O,
-) -> (Result<(), CompactFault>, S)
+) -> (Result<(), ShellFault>, S)
 where
     N: Boarded,
     S: Shelf,
@@ -263,16 +280,16 @@ where
     requires parts { AreOf usual N.registry N.board N.history parts }
     requires shelf { (S.told shelf).place ≡ N.place }
     ensures done { OnOk result.0 (IsConversedBeside S.honest prepared.now.start
-        prepared.now.logs.items form workers lines.left (S.told shelf) (S.told result.1)
+        prepared.now.logs.items form bails workers lines.left (S.told shelf) (S.told result.1)
         (O.contents out.old)) }
     ensures fault { IfErr result.0 (λ e. IsBesideFault (Stored S.Receipt (S.is_of N.place)
         S.Receipt.number S.Receipt.image) (S.refuses N.place) S.honest prepared.now.start
-        prepared.now.logs.items form workers lines.left e (S.told shelf) (S.told result.1)
+        prepared.now.logs.items form bails workers lines.left e (S.told shelf) (S.told result.1)
         (O.contents out.old) (O.contents out.new)) }
 {
     let mut shelf: NamedShelf<N, S> = NamedShelf::of(shelf);
     let done = converse_named(
-        rt, alloc, &mut shelf, prepared, parts, form, workers, lines, out,
+        rt, alloc, &mut shelf, prepared, parts, form, bails, workers, lines, out,
     );
     (done, shelf.into_shelf())
 }
@@ -285,31 +302,34 @@ pub fn converse_beside<S, R, I, O>(
     shelf: S,
     prepared: &Prepared,
     form: Form,
+    bails: bool,
     workers: usize,
     input: I,
     out: &mut O,
-) -> (Result<(), CompactFault>, S)
+) -> (Result<(), ShellFault>, S)
 where
     S: Shelf,
     R: Threads + Wait + Sync,
     I: Read + Drop,
     O: Write,
     ensures done { OnOk result.0 (IsConversedBeside S.honest prepared.now.start
-        prepared.now.logs.items form workers (I.remaining input) (S.told shelf)
+        prepared.now.logs.items form bails workers (I.remaining input) (S.told shelf)
         (S.told result.1) (O.contents out.old)) }
     ensures fault { IfErr result.0 (λ e. IsBesideFault (Stored S.Receipt
         (S.is_of (S.told shelf).place) S.Receipt.number S.Receipt.image)
         (S.refuses (S.told shelf).place) S.honest prepared.now.start prepared.now.logs.items form
-        workers (I.remaining input) e (S.told shelf) (S.told result.1)
+        bails workers (I.remaining input) e (S.told shelf) (S.told result.1)
         (O.contents out.old) (O.contents out.new)) }
 {
     let lines = match LineReader::new(alloc, input) {
         Ok(lines) => lines,
-        Err(_) => return (Err(CompactFault::Writer(WriterFault::OutOfMemory)), shelf),
+        Err(_) => return (Err(ShellFault::of_writer(WriterFault::OutOfMemory)), shelf),
     };
     let parts = match NewParts::make(alloc) {
         Ok(parts) => parts,
-        Err(_) => return (Err(CompactFault::Writer(WriterFault::OutOfMemory)), shelf),
+        Err(_) => return (Err(ShellFault::of_writer(WriterFault::OutOfMemory)), shelf),
     };
-    converse_as::<Brand, S, R, I, O>(rt, alloc, shelf, prepared, parts, form, workers, lines, out)
+    converse_as::<Brand, S, R, I, O>(
+        rt, alloc, shelf, prepared, parts, form, bails, workers, lines, out,
+    )
 }

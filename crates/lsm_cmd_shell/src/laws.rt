@@ -10,6 +10,7 @@ ghost use Rattle.lsm_script.specs.declared.command.Command.{Command};
 ghost use Rattle.lsm_script.specs.declared.reply.Reply.{Reply};
 ghost use Rattle.lsm_cmd_shell.specs.Asked.{AreDone};
 ghost use Rattle.lsm_cmd_shell.specs.Batching.{Standing, standing};
+ghost use Rattle.lsm_cmd_shell.specs.Said.{Said};
 ghost use Rattle.lsm_cmd_shell.specs.Talk.{AreReplied};
 
 use lsm_script::steps_are_of_the_history;
@@ -21,7 +22,7 @@ use lsm_table::Shelf;
 /// their order, with the batches that they begin and commit; and what they were answered is of the
 /// history from the state's own entries. At the end the state is as the history says.
 pub fn talks_are_of_the_history<N: Boarded, S: Shelf>(state: &State<N, S>)
-    ensures { (form : Form) (told : Told) (lines : List (List ℕ)) (said : List ℕ) (t : Standing)
+    ensures { (form : Form) (told : Told) (lines : List (List ℕ)) (said : List Said) (t : Standing)
         → AreReplied S.honest form lines said (standing (stage_of state.now told) None) t
         → (commands : List Command) × (replies : List Reply) × AreDone form None lines commands
         × ((h : History) × AreSteps (IsAnswered S.honest) commands replies (history_of state.now) h

@@ -1,62 +1,25 @@
 //! One run of `shell`.
 
-ghost use Rattle.std.specs.Prelude.{◌≡◌, ◌≢◌, IfErr, None, OnErr, OnOk};
+ghost use Rattle.std.specs.Prelude.{◌≡◌, ◌≢◌, IfErr, OnErr, OnOk};
 ghost use Rattle.std.specs.Io.KnownBytes.{Keeps};
 ghost use Rattle.lsm_shelf.specs.Stored.{Stored};
 ghost use Rattle.lsm_cmd_shell.specs.Conversing.{IsConversed, IsUnconversed};
 ghost use Rattle.lsm_cmd_shell.specs.Talked.{FailsToTalk, TalksAt};
-ghost use Rattle.lsm_opening.specs.CompactFault.{fault_text, table_file_of};
 
 use crate::conversing::converse;
 use crate::conversing_beside::converse_beside;
-use lsm_batch::Write as KeyWrite;
-use lsm_directory::{Exit, Known, Paths, open_at, refuse, status_of};
+use crate::shell_fault::ShellFault;
+use lsm_directory::{Known, Paths, open_at, refuse, status_of};
 use lsm_folder::{FolderCalls, Reasons};
-use lsm_opening::{CompactFault, Prepared, WriterFault, prepare};
+use lsm_opening::{CompactFault, Prepared, prepare};
 use lsm_requests::IngestOptions;
 use lsm_storage::FileShelf;
 use lsm_table::Shelf;
 use lsm_text::Form;
 use std::alloc::Global;
-use std::fmt;
-use std::io::{self, Read, Write};
+use std::io::{Read, Write};
 use std::sync::Wait;
 use std::thread::Threads;
-
-/// Why a conversation ends with status 1.
-#[derive(Debug, Drop)]
-struct Stopped(CompactFault);
-
-impl fmt::Display for Stopped {
-    ghost output = { λ f. fault_text f.0 };
-
-    fn fmt<W: fmt::Write>(&self, f: &mut fmt::Formatter<W>) -> fmt::Result {
-        write!(f, "{}", self.0)
-    }
-}
-
-impl Exit for Stopped {
-    ghost file = { λ f. table_file_of f.0 };
-
-    ghost meaning = { λ _. None };
-
-    fn table_file(&self) -> Option<u64> {
-        self.0.table_file()
-    }
-
-    fn refusal(&self) -> Option<u64> {
-        self.0.refusal()
-    }
-
-    fn explain<E: Write>(&self, err: &mut E, writes: &[KeyWrite]) -> io::Result<()> {
-        match &self.0 {
-            CompactFault::Writer(WriterFault::Read) => {
-                writeln!(err, "the input could not be read any further")
-            }
-            fault => fault.explain(err, writes),
-        }
-    }
-}
 
 /// Replies to the lines of the input on a shelf, while so many workers compact beside, or none.
 fn converse_with<S, R, I, O>(
@@ -66,32 +29,29 @@ fn converse_with<S, R, I, O>(
     prepared: &Prepared,
     form: Form,
     workers: Option<usize>,
+    bails: bool,
     input: I,
     out: &mut O,
-) -> (Result<(), CompactFault>, S)
+) -> (Result<(), ShellFault>, S)
 where
     S: Shelf,
     R: Threads + Wait + Sync,
     I: Read + Drop,
     O: Write,
     ensures done { OnOk result.0 (IsConversed workers S.honest prepared.now.start
-        prepared.now.logs.items form (I.remaining input) (S.told shelf) (S.told result.1)
+        prepared.now.logs.items form bails (I.remaining input) (S.told shelf) (S.told result.1)
         (O.contents out.old) (O.contents out.new)) }
     ensures fault { IfErr result.0 (λ e. IsUnconversed workers (Stored S.Receipt
         (S.is_of (S.told shelf).place) S.Receipt.number S.Receipt.image)
         (S.refuses (S.told shelf).place) S.honest prepared.now.start prepared.now.logs.items form
-        (I.remaining input) e (S.told shelf) (S.told result.1)
+        bails (I.remaining input) e (S.told shelf) (S.told result.1)
         (O.contents out.old) (O.contents out.new)) }
 {
     match workers {
-        Some(workers) => { converse_beside(rt, alloc, shelf, prepared, form, workers, input, out) }
-        None => {
-            let (done, shelf) = converse(rt, alloc, shelf, prepared, form, input, out);
-            match done {
-                Ok(()) => (Ok(()), shelf),
-                Err(fault) => (Err(CompactFault::Writer(fault)), shelf),
-            }
+        Some(workers) => {
+            converse_beside(rt, alloc, shelf, prepared, form, bails, workers, input, out)
         }
+        None => converse(rt, alloc, shelf, prepared, form, bails, input, out),
     }
 }
 
@@ -102,10 +62,11 @@ fn talk_at<C, P, R, I, O>(
     path: &str,
     options: IngestOptions,
     workers: Option<usize>,
+    bails: bool,
     input: I,
     reasons: &Reasons,
     out: &mut O,
-) -> Result<(), CompactFault>
+) -> Result<(), ShellFault>
 where
     C: FolderCalls + Send + Sync,
     C::Mark: Send + Sync,
@@ -113,15 +74,15 @@ where
     R: Threads + Wait + Sync,
     I: Read + Drop,
     O: Write,
-    ensures done { OnOk result (TalksAt C.FolderCalls path.now options workers
+    ensures done { OnOk result (TalksAt C.FolderCalls path.now options workers bails
         (I.remaining input) (O.contents out.old) (O.contents out.new)) }
     ensures refused { OnErr result (FailsToTalk C.FolderCalls C.Mark.Mark path.now options
-        workers (I.remaining input) (O.contents out.old) (O.contents out.new)) }
+        workers bails (I.remaining input) (O.contents out.old) (O.contents out.new)) }
 {
     let mut folder = open_at(paths, path, reasons)?;
     let prepared = match prepare(rt, paths.alloc(), &mut folder, options) {
         Ok(prepared) => prepared,
-        Err(fault) => return Err(CompactFault::Writer(fault)),
+        Err(fault) => return Err(ShellFault::of_writer(fault)),
     };
     let shelf = FileShelf::over(folder);
     let (done, _shelf) = converse_with(
@@ -131,6 +92,7 @@ where
         &prepared,
         options.form,
         workers,
+        bails,
         input,
         out,
     );
@@ -138,16 +100,19 @@ where
 }
 
 /// Opens the database of the folder at a path under its lock, or begins one, as `ingest` does, and
-/// replies to the lines of the input, each a command, up to `quit` or to the end. So many workers
-/// compact beside as long as that goes on, or none. Answers the exit status: 0 then, and 1 where
-/// the folder is not opened, the input can't be read, a reply can't be written, or a worker ended
-/// early. A fault is one line on `err`, and may have more behind it that say what it means.
+/// replies to the lines of the input, each a command, up to `quit` or to the end, or if it bails to
+/// the first one that is bad or refused. So many workers compact beside as long as that goes on, or
+/// none. Answers the exit status: 0 where each line was done, and 1 where one was bad or refused, a
+/// batch is open at the end, the folder is not opened, the input can't be read, a reply can't be
+/// written, or a worker ended early. A fault is one line on `err`, and may have more behind it that
+/// say what it means.
 pub fn run_shell<C, P, R, I, O, E>(
     rt: &R,
     paths: &P,
     path: &str,
     options: IngestOptions,
     workers: Option<usize>,
+    bails: bool,
     input: I,
     out: &mut O,
     err: &mut E,
@@ -160,19 +125,19 @@ where
     I: Read + Drop,
     O: Write,
     E: Write,
-    ensures done { result ≡ 0 → TalksAt C.FolderCalls path.now options workers
+    ensures done { result ≡ 0 → TalksAt C.FolderCalls path.now options workers bails
         (I.remaining input) (O.contents out.old) (O.contents out.new) }
     ensures refused { result ≢ 0 → (result ≡ 1) × FailsToTalk C.FolderCalls C.Mark.Mark
-        path.now options workers (I.remaining input) (O.contents out.old) (O.contents out.new) }
+        path.now options workers bails (I.remaining input)
+        (O.contents out.old) (O.contents out.new) }
     ensures quiet { result ≡ 0 → Keeps (E.contents err.old) (E.contents err.new) }
 {
     let reasons = match Reasons::new(paths.alloc()) {
         Ok(reasons) => reasons,
-        Err(fault) => return refuse(Stopped(CompactFault::from(fault)), err),
+        Err(fault) => return refuse(ShellFault::from(CompactFault::from(fault)), err),
     };
-    let done = match talk_at(rt, paths, path, options, workers, input, &reasons, out) {
-        Ok(()) => Ok(()),
-        Err(fault) => Err(Stopped(fault)),
-    };
+    let done = talk_at(
+        rt, paths, path, options, workers, bails, input, &reasons, out,
+    );
     status_of(done, Known::answered(Some(&reasons)), err)
 }

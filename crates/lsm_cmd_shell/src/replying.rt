@@ -1,12 +1,11 @@
 //! The reply to one line.
 
-ghost use Rattle.std.specs.Prelude.{◌≡◌, ◌≢◌, ◌⊎◌, List, ℕ, OnOk, codes};
-ghost use Rattle.std.specs.Io.KnownBytes.{Appends};
-ghost use Rattle.lsm_script.specs.ReplyText.{reply_text};
+ghost use Rattle.std.specs.Prelude.{◌≡◌, ◌≢◌, ◌⊎◌, IfOk, codes};
 ghost use Rattle.lsm_script.specs.Steps.{OnDesk, stage};
 ghost use Rattle.lsm_script.specs.declared.command_fault.CommandFault.TheVariants.{State as StateRefusal};
 ghost use Rattle.lsm_script.specs.declared.reply.Reply.TheVariants.{Refused};
-ghost use Rattle.lsm_cmd_shell.specs.Batching.{no_memory, standing};
+ghost use Rattle.lsm_cmd_shell.specs.Batching.{no_memory, reply_said, standing};
+ghost use Rattle.lsm_cmd_shell.specs.Said.{IsTold, Said, done};
 ghost use Rattle.lsm_cmd_shell.specs.Statistics.{statistics_text};
 ghost use Rattle.lsm_cmd_shell.specs.Talk.{IsReplied, IsScanned, Obeys};
 
@@ -16,8 +15,9 @@ use crate::ask_line::ask_in;
 use crate::batching::{abort, begin, commit, put};
 use crate::compacting::compact;
 use crate::help::HELP;
+use crate::outcome::Outcome;
 use crate::pairs::{ScanFault, print_version};
-use crate::saying::{Unsaid, say};
+use crate::saying::{Unsaid, say, say_failed};
 use crate::statistics::push_statistics;
 use lsm_lines::WriteBuffer;
 use lsm_requests::KeyBounds;
@@ -36,15 +36,15 @@ fn say_stopped<O: Write>(
     form: Form,
     fault: StateFault,
     out: &mut O,
-) -> Result<(), Unsaid>
-    ensures { (said : List ℕ) × ((said ≡ reply_text form (Refused (StateRefusal fault)))
+) -> Result<Outcome, Unsaid>
+    ensures { (said : Said) × ((said ≡ reply_said form (Refused (StateRefusal fault)))
         ⊎ (said ≡ no_memory))
-        × OnOk result (Appends (O.contents out.old) (O.contents out.new) said) }
+        × IfOk result (IsTold said (O.contents out.old) (O.contents out.new)) }
 {
     text.clear();
     match push_reply(text, form, &Reply::Refused(CommandFault::State(fault))) {
-        Ok(()) => say(out, text.as_slice()),
-        Err(_) => say(out, b"refused 1 OutOfMemory\n"),
+        Ok(()) => say_failed(out, text.as_slice()),
+        Err(_) => say_failed(out, b"refused 1 OutOfMemory\n"),
     }
 }
 
@@ -58,16 +58,16 @@ fn say_scan<N: Boarded, S: Shelf, O: Write>(
     limit: Option<u64>,
     text: &mut Vec<u8>,
     out: &mut O,
-) -> Result<(), Unsaid>
-    ensures { (desk : OnDesk) → (said : List ℕ) × IsScanned S.honest form bounds.now limit said
+) -> Result<Outcome, Unsaid>
+    ensures { (desk : OnDesk) → (said : Said) × IsScanned S.honest form bounds.now limit said
         (stage state.now desk shelf.old) (stage state.now desk shelf.new)
-        × OnOk result (Appends (O.contents out.old) (O.contents out.new) said) }
+        × IfOk result (IsTold said (O.contents out.old) (O.contents out.new)) }
 {
     let (_id, version) = state.current();
     match print_version(shelf, alloc, version, form, bounds, limit, out) {
         Ok(()) => say(out, b"end\n"),
         Err(ScanFault::Write) => Err(Unsaid),
-        Err(ScanFault::NoMemory) => say(out, b"refused 1 OutOfMemory\n"),
+        Err(ScanFault::NoMemory) => say_failed(out, b"refused 1 OutOfMemory\n"),
         Err(ScanFault::Read(fault)) => say_stopped(text, form, StateFault::Read(fault), out),
     }
 }
@@ -77,14 +77,14 @@ fn say_statistics<N: Boarded, S: Shelf, O: Write>(
     state: &State<N, S>,
     text: &mut Vec<u8>,
     out: &mut O,
-) -> Result<(), Unsaid>
-    ensures { (said : List ℕ) × ((said ≡ statistics_text state.now) ⊎ (said ≡ no_memory))
-        × OnOk result (Appends (O.contents out.old) (O.contents out.new) said) }
+) -> Result<Outcome, Unsaid>
+    ensures { (said : Said) × ((said ≡ done (statistics_text state.now)) ⊎ (said ≡ no_memory))
+        × IfOk result (IsTold said (O.contents out.old) (O.contents out.new)) }
 {
     text.clear();
     match push_statistics(text, state) {
         Ok(()) => say(out, text.as_slice()),
-        Err(_) => say(out, b"refused 1 OutOfMemory\n"),
+        Err(_) => say_failed(out, b"refused 1 OutOfMemory\n"),
     }
 }
 
@@ -100,11 +100,11 @@ fn obey<N: Boarded, S: Shelf, R: Wait, O: Write>(
     ask: Ask,
     text: &mut Vec<u8>,
     out: &mut O,
-) -> Result<(), Unsaid>
-    ensures { (said : List ℕ) × Obeys S.honest form ask said
+) -> Result<Outcome, Unsaid>
+    ensures { (said : Said) × Obeys S.honest form ask said
         (standing (stage state.old desk.old shelf.old) begun.old)
         (standing (stage state.new desk.new shelf.new) begun.new)
-        × OnOk result (Appends (O.contents out.old) (O.contents out.new) said) }
+        × IfOk result (IsTold said (O.contents out.old) (O.contents out.new)) }
 {
     match ask {
         Ask::Do(command) => answer(rt, alloc, state, desk, shelf, form, &command, text, out),
@@ -133,16 +133,16 @@ pub(crate) fn reply_to<N: Boarded, S: Shelf, R: Wait, O: Write>(
     line: &[u8],
     text: &mut Vec<u8>,
     out: &mut O,
-) -> Result<(), Unsaid>
+) -> Result<Outcome, Unsaid>
     requires { line.now ≢ codes "quit" }
-    ensures { (said : List ℕ) × IsReplied S.honest form line.now said
+    ensures { (said : Said) × IsReplied S.honest form line.now said
         (standing (stage state.old desk.old shelf.old) begun.old)
         (standing (stage state.new desk.new shelf.new) begun.new)
-        × OnOk result (Appends (O.contents out.old) (O.contents out.new) said) }
+        × IfOk result (IsTold said (O.contents out.old) (O.contents out.new)) }
 {
     match ask_in(alloc, form, line) {
         Ok(Some(ask)) => obey(rt, alloc, state, desk, begun, shelf, form, ask, text, out),
-        Ok(None) => say(out, b"bad line: help tells what lines there are\n"),
-        Err(_) => say(out, b"refused 1 OutOfMemory\n"),
+        Ok(None) => say_failed(out, b"bad line: help tells what lines there are\n"),
+        Err(_) => say_failed(out, b"refused 1 OutOfMemory\n"),
     }
 }

@@ -1,10 +1,10 @@
 //! Replies are written.
 
-ghost use Rattle.std.specs.Prelude.{◌≡◌, ◌⊎◌, List, ℕ, OnOk};
-ghost use Rattle.std.specs.Io.KnownBytes.{Appends};
-ghost use Rattle.lsm_script.specs.ReplyText.{reply_text};
-ghost use Rattle.lsm_cmd_shell.specs.Batching.{Says, unsaid};
+ghost use Rattle.std.specs.Prelude.{◌≡◌, IfOk};
+ghost use Rattle.lsm_cmd_shell.specs.Batching.{Says, outcome_of_reply, reply_said, unsaid};
+ghost use Rattle.lsm_cmd_shell.specs.Said.{IsTold, Said, done, failed, saying};
 
+use crate::outcome::Outcome;
 use lsm_script::{Reply, push_reply};
 use lsm_text::{Form, write_output};
 use std::io::Write;
@@ -13,21 +13,46 @@ use std::io::Write;
 #[derive(Clone, Copy, Debug)]
 pub(crate) struct Unsaid;
 
-/// Writes a reply, and flushes.
-pub(crate) fn say<O: Write>(out: &mut O, text: &[u8]) -> Result<(), Unsaid>
-    ensures { OnOk result (Appends (O.contents out.old) (O.contents out.new) text.now) }
+/// Writes the reply to a line that was answered so, and flushes.
+fn say_as<O: Write>(out: &mut O, text: &[u8], outcome: Outcome) -> Result<Outcome, Unsaid>
+    ensures { IfOk result
+        (IsTold (saying text.now outcome) (O.contents out.old) (O.contents out.new)) }
 {
     match write_output(out, text) {
-        Ok(()) => Ok(()),
+        Ok(()) => Ok(outcome),
         Err(_) => Err(Unsaid),
     }
 }
 
-/// Writes that there is no memory for the reply to what was done.
-pub(crate) fn say_unsaid<O: Write>(out: &mut O) -> Result<(), Unsaid>
-    ensures { OnOk result (Appends (O.contents out.old) (O.contents out.new) unsaid) }
+/// Writes the reply to a line that was done, and flushes.
+pub(crate) fn say<O: Write>(out: &mut O, text: &[u8]) -> Result<Outcome, Unsaid>
+    ensures { IfOk result (IsTold (done text.now) (O.contents out.old) (O.contents out.new)) }
 {
-    say(out, b"done, but there is no memory for the reply\n")
+    say_as(out, text, Outcome::Done)
+}
+
+/// Writes why a line failed, and flushes.
+pub(crate) fn say_failed<O: Write>(out: &mut O, text: &[u8]) -> Result<Outcome, Unsaid>
+    ensures { IfOk result (IsTold (failed text.now) (O.contents out.old) (O.contents out.new)) }
+{
+    say_as(out, text, Outcome::Failed)
+}
+
+/// Writes that there is no memory for the reply to what was done.
+pub(crate) fn say_unsaid<O: Write>(out: &mut O) -> Result<Outcome, Unsaid>
+    ensures { IfOk result (IsTold unsaid (O.contents out.old) (O.contents out.new)) }
+{
+    say_failed(out, b"done, but there is no memory for the reply\n")
+}
+
+/// How the line was answered that has this reply.
+fn outcome_of(reply: &Reply) -> Outcome
+    ensures { result ≡ outcome_of_reply reply.now }
+{
+    match reply {
+        Reply::Refused(_) => Outcome::Failed,
+        _ => Outcome::Done,
+    }
 }
 
 /// Writes the reply of a command, or that there is no memory for its text. `text` is memory for it.
@@ -36,13 +61,13 @@ pub(crate) fn say_reply<O: Write>(
     form: Form,
     reply: &Reply,
     out: &mut O,
-) -> Result<(), Unsaid>
-    ensures { (said : List ℕ) × Says (reply_text form reply.now) said
-        × OnOk result (Appends (O.contents out.old) (O.contents out.new) said) }
+) -> Result<Outcome, Unsaid>
+    ensures { (said : Said) × Says (reply_said form reply.now) said
+        × IfOk result (IsTold said (O.contents out.old) (O.contents out.new)) }
 {
     text.clear();
     match push_reply(text, form, reply) {
-        Ok(()) => say(out, text.as_slice()),
+        Ok(()) => say_as(out, text.as_slice(), outcome_of(reply)),
         Err(_) => say_unsaid(out),
     }
 }

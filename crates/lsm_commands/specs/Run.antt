@@ -64,7 +64,7 @@ module _ {C M : Type 0} (folders : Ghosts C M) (marks : mark.Ghosts M) where
   IsDone text (Script input) old new said_old said_new =
       IsPlayed (text input) old new × Keeps said_old said_new
   IsDone text (Shell line) old new said_old said_new =
-      TalksAt folders line.path.now line.options line.workers (text Standard) old new
+      TalksAt folders line.path.now line.options line.workers line.bails (text Standard) old new
       × Keeps said_old said_new
   IsDone text (Bench line) old new said_old said_new =
       BenchesAt folders line.path.now line.options × Keeps said_old said_new
@@ -104,7 +104,8 @@ module _ {C M : Type 0} (folders : Ghosts C M) (marks : mark.Ghosts M) where
   IsUndone text (Compact line) old new = IsUncompacted folders marks line old new
   IsUndone text (Script input) old new = IsUnplayed (text input) old new
   IsUndone text (Shell line) old new =
-      FailsToTalk folders marks line.path.now line.options line.workers (text Standard) old new
+      FailsToTalk folders marks line.path.now line.options line.workers line.bails (text Standard)
+      old new
   IsUndone text (Bench line) old new = ⊤
 
   -- The words ask for a command, which was not done; or for help, of which a beginning was written;

@@ -140,6 +140,7 @@ where
             line.path,
             line.options,
             line.workers,
+            line.bails,
             input,
             out,
             err,

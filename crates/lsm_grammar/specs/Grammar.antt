@@ -181,7 +181,8 @@ unfoldable pub clean : App
 clean = command (codes "clean") (folder ∷ accept_rest ∷ [])
 
 unfoldable pub shell : App
-shell = command (codes "shell") (folder ∷ text ∷ begin ∷ beside_log ∷ compactors ∷ [])
+shell = command (codes "shell")
+    (folder ∷ text ∷ begin ∷ beside_log ∷ compactors ∷ flag (codes "bail") ∷ [])
 
 unfoldable pub bench : App
 bench = command (codes "bench") (folder ∷ benchmarks ∷ num ∷ value_size ∷ some_workers ∷ [])

@@ -341,6 +341,7 @@ Says rows (Script input) = IsInput (word_in (codes "FILE") rows) input
 Says rows (Shell line) =
     (word_in (codes "DIR") rows ≡ Some line.path.now) × AreIngestOptions rows line.options
     × AreThreads (word_in (codes "workers") rows) line.workers
+    × (line.bails ≡ is_set (codes "bail") rows)
 Says rows (Bench line) = (word_in (codes "DIR") rows ≡ Some line.path.now)
     × AreBenchOptions rows line.options
 

@@ -196,6 +196,12 @@ pub(crate) const FROM_LINE: Argument = Argument::Valued(Valued {
     help: "The first line that is loaded, from 1",
 });
 
+/// A shell ends behind the first line that fails.
+pub(crate) const BAIL: Argument = Argument::Flag(
+    "bail",
+    "End behind the first bad or refused line",
+);
+
 /// A last line that may have been cut is loaded.
 pub(crate) const LAST_LINE: Argument = Argument::Flag(
     "last-line",

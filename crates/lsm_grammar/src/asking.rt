@@ -528,6 +528,7 @@ fn shell_in<'a>(found: &ArgMatches<'a>) -> Option<Request<'a>>
         path,
         options,
         workers,
+        bails: is_set(found, "bail"),
     }))
 }
 

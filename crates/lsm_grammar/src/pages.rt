@@ -1,9 +1,10 @@
 //! The texts of the commands' help.
 
 use crate::arguments::{
-    ACCEPT_REST, ALL, Argument, BATCH, BEGIN, BENCHMARKS, BESIDE_LOG, COMPACTORS, COUNT, EXISTS,
-    FILES, FIRST, FOLDER, FROM, FROM_LINE, JSON, KEY, KEYS, LAST, LAST_LINE, LIMIT, NUM, PREFIX,
-    PROGRESS, RAW, SOME_WORKERS, STRICT, SVG, TEXT, TO, VALUE, VALUE_SIZE, VERIFIERS, WORKERS,
+    ACCEPT_REST, ALL, Argument, BAIL, BATCH, BEGIN, BENCHMARKS, BESIDE_LOG, COMPACTORS, COUNT,
+    EXISTS, FILES, FIRST, FOLDER, FROM, FROM_LINE, JSON, KEY, KEYS, LAST, LAST_LINE, LIMIT, NUM,
+    PREFIX, PROGRESS, RAW, SOME_WORKERS, STRICT, SVG, TEXT, TO, VALUE, VALUE_SIZE, VERIFIERS,
+    WORKERS,
 };
 use crate::command_name::{CommandName, named};
 
@@ -64,10 +65,11 @@ why a command is refused or is none, names logs that are not read, and with
 Exit status:
   0  done
   1  refused; standard error says why: `refused N Name ..`, `write fault`,
-     `read fault` or `bad line I`. A second line may say more: the call that the
-     system refused, with its path and the system's reason, the file of a fault,
-     the place in a line, or what is to be done. `get` with --raw or --exists:
-     the key is absent, and standard error says `absent`
+     `read fault` or `bad line I`, and of a shell also `failed line` or `open
+     batch`. A second line may say more: the call that the system refused, with
+     its path and the system's reason, the file of a fault, the place in a line,
+     or what is to be done. `get` with --raw or --exists: the key is absent, and
+     standard error says `absent`
   2  bad command line
 
 Example: lsm check db";
@@ -535,7 +537,7 @@ command line.",
 
 const SHELL: Page = Page {
     name: "shell",
-    arguments: &[FOLDER, TEXT, BEGIN, BESIDE_LOG, COMPACTORS],
+    arguments: &[FOLDER, TEXT, BEGIN, BESIDE_LOG, COMPACTORS, BAIL],
     about: "Runs commands from standard input on a folder",
     text: "Opens the LevelDB folder DIR once, or begins a database there, as `ingest` does,
 and holds its lock; then it reads commands on standard input, one a line, and
@@ -571,12 +573,14 @@ prints a reply for each, which is written out before the next line is read.
 KEY, VALUE, FROM and TO are hex, or text with --text, `.` for no bytes; a space
 parts two words. A refusal is a reply too, `refused N Name ..`, in a list in
 place of `end`. A line of another form is answered `bad line: REASON`. The shell
-goes on behind both. A line has at most 8388608 bytes.
+goes on behind both, and ends with status 1 and `failed line`; with --bail it
+ends behind the first one. A line has at most 8388608 bytes.
 
 Between `begin` and `commit` all other lines go on without what is queued; of one
 key the last write comes in. A write that a batch cannot have as well is `refused
-39 TooLarge`, and the others stay. Where standard input, output and error are
-terminals, `lsm> ` on standard error asks for each line.
+39 TooLarge`, and the others stay. A batch that is open at the end is let go, and
+is an `open batch`. Where standard input, output and error are terminals, `lsm> `
+on standard error asks for each line.
 
 --workers is how many threads compact beside the lines as long as the shell runs,
 1 to 16; if it is not said none does. Replies are as without them: `none` and
@@ -587,9 +591,10 @@ Of --begin and --beside-log, and of all that is refused before the first line,
 the page of `ingest` says more. A second program that wants to write in DIR is
 `refused 52 Locked` as long as the shell runs.
 
-Exit status: 0 behind `quit` or the end of the input, 1 where the folder is
-refused, a reply cannot be written, the input cannot be read, or such a thread
-has ended early, 2 bad command line.",
+Exit status: 0 behind `quit` or the end of the input, 1 where a line was bad or
+refused, a batch is open at the end, the folder is refused, a reply cannot be
+written, the input cannot be read, or such a thread has ended early, 2 bad
+command line.",
     example: "Example: printf 'put apple red\\nget apple\\n' | lsm shell db --text",
 };
 
@@ -660,7 +665,8 @@ fn usage(name: CommandName) -> &'static str {
         CommandName::Compact =>
             "lsm compact <DIR> [--all] [--from <KEY>] [--to <KEY>] [--text] [--workers <N>] [--accept-rest] [--progress]",
         CommandName::Clean => "lsm clean <DIR> [--accept-rest]",
-        CommandName::Shell => "lsm shell <DIR> [--text] [--begin] [--beside-log] [--workers <N>]",
+        CommandName::Shell =>
+            "lsm shell <DIR> [--text] [--begin] [--beside-log] [--workers <N>] [--bail]",
         CommandName::Bench =>
             "lsm bench <DIR> [--benchmarks <LIST>] [--num <N>] [--value-size <N>] [--workers <N>]",
         CommandName::Help => "lsm help [COMMAND]",

@@ -12,6 +12,6 @@ returns-in-Ok-Some g c =
     let asked = rw (c.in-Ok-Some.is, c.in-Ok-Some.field-0-is) at c.next_line.ensures.some in
     let r = c.reply_under_lock-said.ensures.replied asked.line asked.is in
     record {
-      turn = turn_said (IsRepliedBeside g.S.Shelf.honest g.K.Invariant.keeps c.args.form) c.args.lines.now c.next_line.new.lines _ _ _ _ asked.line r.0 c.reply_under_lock-said.result c.went_on.result asked.takes r.1 r.2
-          c.went_on.ensures.ok c.went_on.ensures.err;
+      turn = turn_said (IsRepliedBeside g.S.Shelf.honest g.K.Invariant.keeps c.args.form) c.args.lines.now c.next_line.new.lines _ _ _ _ asked.line r.0 c.reply_under_lock-said.result c.answered.result asked.takes r.1 r.2
+          c.answered.ensures.ok c.answered.ensures.err;
     }

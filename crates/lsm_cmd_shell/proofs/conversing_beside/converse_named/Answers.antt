@@ -16,12 +16,12 @@ pub converse_on-requires-clause-asked : goal.converse_on-requires-clause-asked
 converse_on-requires-clause-asked g c κs within = come_replies g.S.Shelf.honest c.args.form c.args.lines.left _
 
 pub returns-in-Err-new-clause-fault : goal.returns-in-Err-new-clause-fault
-returns-in-Err-new-clause-fault g c = inl (inl (refl, inr (c.in-Ok.state, c.start.new.shelf, c.in-Ok.ensures.started, forked_none _)), Keeps-refl _)
+returns-in-Err-new-clause-fault g c = inl (inl (c.of_writer-in-Err-new.ensures, inr (c.in-Ok.state, c.start.new.shelf, c.in-Ok.ensures.started, forked_none _)), Keeps-refl _)
 
 pub returns-in-Err-converse_on-clause-fault : goal.returns-in-Err-converse_on-clause-fault
 returns-in-Err-converse_on-clause-fault g c =
     let There = Stored g.row.S-Receipt.Denot (g.S.Shelf.is_of g.N.Naming.place) g.S.Receipt.TableReceipt.number g.S.Receipt.TableReceipt.image in
-    unmanned There (g.S.Shelf.refuses g.N.Naming.place) g.S.Shelf.honest c.args.prepared.now.start c.args.prepared.now.logs.items c.args.form c.args.workers c.args.lines.left c.in-Err-converse_on.fault c.args.shelf.now
+    unmanned There (g.S.Shelf.refuses g.N.Naming.place) g.S.Shelf.honest c.args.prepared.now.start c.args.prepared.now.logs.items c.args.form c.args.bails c.args.workers c.args.lines.left c.in-Err-converse_on.fault c.args.shelf.now
     c.converse_on.new.shelf _ _ (c.in-Ok.state, c.start.new.shelf, c.in-Ok.ensures.started, c.converse_on.ensures.told) c.in-Err-converse_on.ensures.refused
 
 pub returns-in-Ok-converse_on : goal.returns-in-Ok-converse_on
@@ -35,11 +35,11 @@ returns-in-Ok-converse_on g c =
     let old = g.O.Write.contents c.args.out.now in
     let ends = c.deref.result.now in
     let here = c.in-Ok-converse_on in
-    let talked = conversed H start logs c.args.form c.args.workers input here.ended.0 ends here.ended.1.items c.args.shelf.now c.start.new.shelf c.converse_on.new.shelf old c.in-Ok.state here._left c.in-Ok-new.desk
+    let talked = conversed H start logs c.args.form c.args.bails c.args.workers input here.ended.0 ends here.ended.1.items c.args.shelf.now c.start.new.shelf c.converse_on.new.shelf old c.in-Ok.state here._left c.in-Ok-new.desk
     g.N.Naming.place c.in-Ok.ensures.started c.converse_on.ensures.told c.in-Ok-new.ensures.clear here.ensures.talked here.ensures.kept c.deref.ensures.value (c.deref.ensures.len ∙ here.ensures.count)
     here.ensures.ends
     in
     record {
-      done = judged_done H start logs c.args.form c.args.workers input here.ended.0 ends c.args.shelf.now c.converse_on.new.shelf old c.judge.result talked c.judge.ensures.done;
-      fault = judged_fault There Refused H start logs c.args.form c.args.workers input here.ended.0 ends c.args.shelf.now c.converse_on.new.shelf old _ c.judge.result talked c.judge.ensures.fault;
+      done = judged_done H start logs c.args.form c.args.bails c.args.workers input here.ended.0 ends c.args.shelf.now c.converse_on.new.shelf old c.judge.result talked c.judge.ensures.done;
+      fault = judged_fault There Refused H start logs c.args.form c.args.bails c.args.workers input here.ended.0 ends c.args.shelf.now c.converse_on.new.shelf old _ c.judge.result talked c.judge.ensures.fault;
     }

@@ -16,8 +16,8 @@ pub returns-in-Err-NoMemory : goal.returns-in-Err-NoMemory
 returns-in-Err-NoMemory g c = λ desk.
     let version = c.deref.ensures ∙ c.current-id.ensures.version in
     let printed = rw c.in-Err-NoMemory.field-0-is at c.in-Err-NoMemory.ensures.printed in
-    said_some g.S.Shelf.honest c.args.form c.args.bounds.now c.args.limit c.args.state.now desk _ c.args.shelf.now c.print_version.new.shelf _ _ c.say-in-Err-NoMemory.result _ _ _ version printed (λ x. x)
-    c.print_version.ensures.told (inl refl) c.say-in-Err-NoMemory.ensures
+    said_some g.S.Shelf.honest c.args.form c.args.bounds.now c.args.limit c.args.state.now desk _ c.args.shelf.now c.print_version.new.shelf _ _ c.say_failed.result _ _ _ version printed (λ x. x)
+    c.print_version.ensures.told (inl refl) c.say_failed.ensures
 
 pub returns-in-Err-Read : goal.returns-in-Err-Read
 returns-in-Err-Read g c = λ desk.

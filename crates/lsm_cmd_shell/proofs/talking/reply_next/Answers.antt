@@ -14,7 +14,7 @@ returns-in-Line g c = λ line is.
     )
 
 pub returns-in-TooLong : goal.returns-in-TooLong
-returns-in-TooLong g c = λ line is. (_, Long (rw c.in-TooLong.is at is) refl refl, c.say.ensures)
+returns-in-TooLong g c = λ line is. (_, Long (rw c.in-TooLong.is at is) refl refl, c.say_failed.ensures)
 
 pub returns-in-NoMemory : goal.returns-in-NoMemory
-returns-in-NoMemory g c = λ line is. (_, Spent refl refl, c.say-in-NoMemory.ensures)
+returns-in-NoMemory g c = λ line is. (_, Spent refl refl, c.say_failed-in-NoMemory.ensures)

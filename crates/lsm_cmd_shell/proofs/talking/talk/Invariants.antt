@@ -7,5 +7,5 @@ use Rattle.lsm_cmd_shell.proofs.talking.talk.Given as goal
 
 abbrev pub invariant-loop-turn : goal.invariant-loop-turn
 invariant-loop-turn g l =
-    SoFar (IsReplied g.S.Shelf.honest l.form) l.fn.lines.left l.lines.left (standing (stage l.fn.state l.fn.desk l.fn.shelf) None) (standing (stage l.state l.desk l.shelf) l.begun) (g.O.Write.contents l.fn.out)
+    SoFar (IsReplied g.S.Shelf.honest l.form) l.bails l.fn.lines.left l.lines.left l.outcome (standing (stage l.fn.state l.fn.desk l.fn.shelf) None) (standing (stage l.state l.desk l.shelf) l.begun) (g.O.Write.contents l.fn.out)
     (g.O.Write.contents l.out)
