@@ -28,7 +28,19 @@ use Rattle.lsm_verify.specs.declared.check_fault.CheckFault.TheVariants as check
 use Rattle.lsm_text.specs.FaultText.{edit_field, log_field, read_field, refusal_text, replay_field}
 use Rattle.lsm_text.specs.FaultText.{shelf_field}
 use Rattle.lsm_directory.specs.declared.faults.directory_fault.DirectoryFault.{DirectoryFault}
-use Rattle.lsm_directory.specs.declared.faults.directory_fault.DirectoryFault.TheVariants.{OutOfMemory, Write, Shelf, Manifest, Tables, Read, NumbersSpent, Locked, UnflushedLog, TornManifest, Absent}
+use Rattle.lsm_directory.specs.declared.faults.directory_fault.DirectoryFault.TheVariants.{
+  OutOfMemory,
+  Write,
+  Shelf,
+  Manifest,
+  Tables,
+  Read,
+  NumbersSpent,
+  Locked,
+  UnflushedLog,
+  TornManifest,
+  Absent,
+}
 
 -- a directory that could not be opened
 abbrev pub of_open : OpenFault → DirectoryFault

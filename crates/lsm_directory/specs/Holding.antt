@@ -9,7 +9,19 @@ use Rattle.lsm_folder.specs.declared.lock_kind.LockKind.TheVariants.{Shared, Exc
 use Rattle.lsm_storage.specs.FolderFault.{device_of}
 use Rattle.lsm_shelf.specs.Told.{NotNamed}
 use Rattle.lsm_directory.specs.declared.faults.directory_fault.DirectoryFault.{DirectoryFault}
-use Rattle.lsm_directory.specs.declared.faults.directory_fault.DirectoryFault.TheVariants.{OutOfMemory, Write, Shelf, Manifest, Tables, Read, NumbersSpent, Locked, UnflushedLog, TornManifest, Absent}
+use Rattle.lsm_directory.specs.declared.faults.directory_fault.DirectoryFault.TheVariants.{
+  OutOfMemory,
+  Write,
+  Shelf,
+  Manifest,
+  Tables,
+  Read,
+  NumbersSpent,
+  Locked,
+  UnflushedLog,
+  TornManifest,
+  Absent,
+}
 
 -- With this answer a command goes on: the lock is held; or the command only reads, and there is no
 -- file to lock.

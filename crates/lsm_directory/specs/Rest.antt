@@ -2,7 +2,19 @@
 use Rattle.std.specs.Prelude.{◌≡◌, ◌<◌, ℕ, List, ◌++◌, codes, decimal}
 use Rattle.lsm_directory.specs.Logs.{IsFirstUnread, NoneUnread}
 use Rattle.lsm_directory.specs.declared.faults.directory_fault.DirectoryFault.{DirectoryFault}
-use Rattle.lsm_directory.specs.declared.faults.directory_fault.DirectoryFault.TheVariants.{OutOfMemory, Write, Shelf, Manifest, Tables, Read, NumbersSpent, Locked, UnflushedLog, TornManifest, Absent}
+use Rattle.lsm_directory.specs.declared.faults.directory_fault.DirectoryFault.TheVariants.{
+  OutOfMemory,
+  Write,
+  Shelf,
+  Manifest,
+  Tables,
+  Read,
+  NumbersSpent,
+  Locked,
+  UnflushedLog,
+  TornManifest,
+  Absent,
+}
 use Rattle.lsm_directory.specs.declared.folder.folder_file.FolderFile.{FolderFile}
 
 -- `note: the last B bytes of the manifest hold no whole record, and are not read`

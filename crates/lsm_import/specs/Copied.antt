@@ -71,8 +71,8 @@ IsNotCopied From Into Unheld Denied options files fault =
 -- ---- logs
 
 -- the file is the table of these entries, at level 0
-pub record IsLogFile (Into : ℕ → List ℕ → Type 0) (entries : List Entry) (number : ℕ) (file : FileAt)
-    : Type 0 where
+pub record IsLogFile (Into : ℕ → List ℕ → Type 0) (entries : List Entry) (number : ℕ)
+    (file : FileAt) : Type 0 where
   pub image : List ℕ
   pub put : Into number image
   pub table : IsImage entries file.file.smallest file.file.largest image

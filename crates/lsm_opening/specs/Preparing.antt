@@ -1,5 +1,5 @@
--- What comes before a database is begun or opened: its folder is locked, looked at, and tidied (this
--- project's rule).
+-- What comes before a database is begun or opened: its folder is locked, looked at, and tidied
+-- (this project's rule).
 use Rattle.std.specs.Prelude.{◌≡◌, ◌⊎◌, ℕ, Bool, true, false, List, [], ◌∷◌, Result, Ok, codes}
 use Rattle.std.specs.Cmp.Lexicographic.{slice_cmp}
 use Rattle.std.specs.List.Sorted.{IsPermutation, IsSorted}
