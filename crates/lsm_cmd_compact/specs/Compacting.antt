@@ -13,9 +13,7 @@ use Rattle.lsm_manifest.specs.Shape.{Form}
 use Rattle.lsm_journal.specs.HeldManifest.{HeldManifest}
 use Rattle.lsm_journal.specs.Recovering.{IsRecovered, IsRecoverRefusal, RecoverCounted}
 use Rattle.lsm_journal.specs.declared.recover_fault.RecoverFault.{RecoverFault}
-use Rattle.lsm_directory.specs.declared.faults.directory_fault.DirectoryFault.TheVariants.{
-  TornManifest,
-}
+use Rattle.lsm_directory.specs.declared.faults.directory_fault.DirectoryFault.TheVariants.{TornManifest}
 use Rattle.lsm_model.specs.Files.{all_entries}
 use Rattle.lsm_version.specs.Versions.{Levels, files}
 use Rattle.lsm_picker.specs.Joining.{Span}

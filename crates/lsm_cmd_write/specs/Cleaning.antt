@@ -31,9 +31,7 @@ use Rattle.lsm_directory.specs.Logs.{AreThose}
 use Rattle.lsm_directory.specs.Looking.{LooksStopped}
 use Rattle.lsm_requests.specs.declared.clean_options.CleanOptions.{CleanOptions}
 use Rattle.lsm_directory.specs.declared.faults.directory_fault.DirectoryFault.{DirectoryFault}
-use Rattle.lsm_directory.specs.declared.faults.directory_fault.DirectoryFault.TheVariants.{
-  TornManifest,
-}
+use Rattle.lsm_directory.specs.declared.faults.directory_fault.DirectoryFault.TheVariants.{TornManifest}
 use Rattle.lsm_directory.specs.declared.folder.file_kind.FileKind.TheVariants.{Table, Manifest}
 use Rattle.lsm_directory.specs.declared.folder.file_kind.FileKind.TheVariants.{Temporary}
 use Rattle.lsm_opening.specs.WriterFault.{of_open, of_shelf}
