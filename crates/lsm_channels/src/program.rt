@@ -28,7 +28,6 @@ use lsm_frames::Opening;
 use lsm_opening::{Prepared, Start, WriterFault, plainly, prepare};
 use lsm_storage::FileShelf;
 use lsm_wire::{Descriptors, Incoming, Wire, say};
-use std::alloc::Global;
 use std::sync::Wait;
 use std::thread::Threads;
 
@@ -84,49 +83,6 @@ fn prepare_at<C: FolderCalls, P: Paths<C>, R: Wait>(
     }
 }
 
-/// Serves the database of a folder that was looked at over these wires.
-fn serve_folder<C: FolderCalls + Send + Sync, W: Wire + Send, R: Threads + Wait + Sync>(
-    rt: &R,
-    alloc: Global,
-    folder: C,
-    prepared: &Prepared,
-    opening: &Opening<'_>,
-    plan: Plan,
-    wires: Vec<W>,
-) -> Result<Vec<Option<W>>, Unserved<W, OpeningFault>>
-where
-    C::Mark: Send + Sync,
-    requires channels { plan.channels ≡ opening.now.channels }
-    requires workers { plan.workers ≡ opening.now.workers }
-    requires some { 1 ≤ plan.channels }
-    requires few { plan.channels ≤ 62 }
-    requires at { IsFolderAt C.FolderCalls opening.now.path.now
-        (IsPrepared plainly prepared.now.start prepared.now.logs.items) folder }
-    ensures served { IfOk result (λ v. IsFolderServed C.FolderCalls W.gives
-        (opened_of opening.now)
-        (map (λ w. end (W.descriptor w) (W.happened w)) wires.items)
-        (map (option_map (λ w. end (W.descriptor w) (W.happened w))) v.items)) }
-    ensures refused { IfErr result (λ u. IsUnserved C.FolderCalls C.Mark.Mark none_closed
-        (opened_of opening.now) u.fault) }
-    ensures back { IfErr result (λ u.
-        AreHandedBack (Folder OutOfMemory) wires.items u.wires.items u.fault) }
-{
-    match judge(prepared, opening) {
-        Ok(()) => {}
-        Err(fault) => return Err(Unserved { fault, wires }),
-    }
-    let shelf = FileShelf::over(folder);
-    let (done, _shelf) = serve_on(rt, alloc, shelf, prepared, plan, wires);
-    match done {
-        Ok(wires) => Ok(wires),
-        Err(unserved) => {
-            let Unserved { fault, wires } = unserved;
-            let fault = OpeningFault::Folder(fault);
-            Err(Unserved { fault, wires })
-        }
-    }
-}
-
 /// Opens the folder of an opening, and serves its database over these wires.
 fn serve_path<C: FolderCalls + Send + Sync, P: Paths<C>, W: Wire + Send, R: Threads + Wait + Sync>(
     rt: &R,
@@ -158,9 +114,19 @@ where
         }
     };
     let (folder, prepared) = found;
-    match serve_folder(rt, paths.alloc(), folder, &prepared, opening, plan, wires) {
+    match judge(&prepared, opening) {
+        Ok(()) => {}
+        Err(fault) => return Err(Unserved { fault, wires }),
+    }
+    let shelf = FileShelf::over(folder);
+    let (done, _shelf) = serve_on(rt, paths.alloc(), shelf, &prepared, plan, wires);
+    match done {
         Ok(wires) => Ok(wires),
-        Err(unserved) => Err(unserved),
+        Err(unserved) => {
+            let Unserved { fault, wires } = unserved;
+            let fault = OpeningFault::Folder(fault);
+            Err(Unserved { fault, wires })
+        }
     }
 }
 
