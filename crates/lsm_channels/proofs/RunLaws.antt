@@ -25,7 +25,7 @@ use Rattle.lsm_wire.specs.Happenings.{Happening, Came, Went, IsUnanswered, IsWri
 use Rattle.lsm_channels.specs.Answered.{answer_frame}
 use Rattle.lsm_channels.specs.Opening.{AreLeft, AreLost, IsBarred, IsContentServed, IsNoContent, IsNoOpening, IsRun, IsUnpreparedAt, IsUnserved, Names, NoneOpened, Outcome, RefusedOn, SaysRefusal, ServedTo}
 use Rattle.lsm_channels.specs.OpeningFault.{name_of, number_of}
-use Rattle.lsm_channels.specs.Refusal.{AreOpened, IsFirst, IsSaidOn, none_closed}
+use Rattle.lsm_channels.specs.Refusal.{AreOpened, IsFirst, IsSaidOn, none_said}
 use Rattle.lsm_channels.specs.Serving.{AreHandedBack, End, IsDatabaseServed, IsDatabaseUnserved, end, ends_from, opened_from}
 use Rattle.lsm_channels.specs.Starting.{options_for}
 use Rattle.lsm_channels.specs.declared.opening_fault.OpeningFault.{OpeningFault}
@@ -132,16 +132,16 @@ module _ {C M : Type 0} (folders : Ghosts C M) where
 -- ---- what becomes of an opening
 
 module _ {C M : Type 0} (folders : Ghosts C M) (marks : mark.Ghosts M) where
-  -- where no descriptor was found closed
-  pub unserved_open : (closed : ℤ → Type 0) (o : Opened) (e : OpeningFault) → IsUnserved folders marks none_closed o e → IsUnserved folders marks closed o e
-  unserved_open closed o BadOpening why = absurd why.2
-  unserved_open closed o NoDatabase why = why
-  unserved_open closed o IsThere why = why
-  unserved_open closed o (Folder f) why = why
+  -- where of no descriptor anything was said
+  pub unserved_open : (says : ℤ → Bool → Type 0) (o : Opened) (e : OpeningFault) → IsUnserved folders marks none_said o e → IsUnserved folders marks says o e
+  unserved_open says o BadOpening why = absurd why.2
+  unserved_open says o NoDatabase why = why
+  unserved_open says o IsThere why = why
+  unserved_open says o (Folder f) why = why
 
   -- there is none, or one, and that was to be refused
   pub barred : (o : Opened) (start : Start) (logs : List FolderFile) (folder : C) (e : OpeningFault) → IsBarred start o.make o.refuse e
-      → IsFolderAt folders o.path (IsPrepared plainly start logs) folder → IsUnserved folders marks none_closed o e
+      → IsFolderAt folders o.path (IsPrepared plainly start logs) folder → IsUnserved folders marks none_said o e
   barred o Open logs folder BadOpening why at = absurd why
   barred o Open logs folder NoDatabase why at = absurd why
   barred o Open logs folder IsThere why at = record { start = Open; logs = logs; barred = why; folder = folder; at = at }
@@ -152,49 +152,49 @@ module _ {C M : Type 0} (folders : Ghosts C M) (marks : mark.Ghosts M) where
   barred o (Begin n) logs folder (Folder f) why at = absurd why
 
   -- memory ran out, or the folder was not prepared
-  pub unprepared : (o : Opened) (e : WriterFault) → (e ≡ OutOfMemory) ⊎ IsUnpreparedAt folders o.path e → IsUnserved folders marks none_closed o (Folder e)
+  pub unprepared : (o : Opened) (e : WriterFault) → (e ≡ OutOfMemory) ⊎ IsUnpreparedAt folders o.path e → IsUnserved folders marks none_said o (Folder e)
   unprepared o e (inl h) = inl h
   unprepared o e (inr h) = inr (inl h)
 
   -- an opening was refused over its first channel
-  pub opening_refused : (closed : ℤ → Type 0) (gives : List ℕ → Type 0) (content : List ℕ) (o : Opened) (e : OpeningFault) (ws : List End) (outcome : Outcome) (was mid is : List ℤ)
-      → IsOpening content o → IsUnserved folders marks closed o e → AreOpened e o.first o.channels ws was mid → IsSaidOn e o.first ws mid is outcome
-      → IsContentServed folders marks closed gives content outcome was is
-  opening_refused closed gives content o e ws NoneOpened was mid is opening why wires said =
+  pub opening_refused : (says : ℤ → Bool → Type 0) (gives : List ℕ → Type 0) (content : List ℕ) (o : Opened) (e : OpeningFault) (ws : List End) (outcome : Outcome) (was mid is : List ℤ)
+      → IsOpening content o → IsUnserved folders marks says o e → AreOpened e o.first o.channels ws was mid → IsSaidOn e o.first ws mid is outcome
+      → IsContentServed folders marks says gives content outcome was is
+  opening_refused says gives content o e ws NoneOpened was mid is opening why wires said =
       let numbers = opening.fits.descriptors in
       let some = opening.fits.some_channel in
       let past : 2 ^ 31 ≤ o.first = said.0 in
       absurd (omega (arith, numbers, some, past))
-  opening_refused closed gives content o e ws (RefusedOn w others) was mid is opening why wires said =
+  opening_refused says gives content o e ws (RefusedOn w others) was mid is opening why wires said =
       let left = wires_left e o.first o.channels ws said.0 others was mid is opening.fits.some_channel wires said.1 in
       inr (o, opening, record { fault = e; why = why; said = said.2 left.0; wires = left.1 })
-  opening_refused closed gives content o e ws (ServedTo rs) was mid is opening why wires said = absurd said
+  opening_refused says gives content o e ws (ServedTo rs) was mid is opening why wires said = absurd said
 
   -- what is no opening was refused over the channel that it names
-  pub content_refused : (closed : ℤ → Type 0) (gives : List ℕ → Type 0) (content : List ℕ) (first : ℕ) (ws : List End) (outcome : Outcome) (was is : List ℤ) → IsNoOpening content → Names content first
-      → ws ≡ [] → IsSaidOn BadOpening first ws was is outcome → IsContentServed folders marks closed gives content outcome was is
-  content_refused closed gives content first ws NoneOpened was is none named empty said =
+  pub content_refused : (says : ℤ → Bool → Type 0) (gives : List ℕ → Type 0) (content : List ℕ) (first : ℕ) (ws : List End) (outcome : Outcome) (was is : List ℤ) → IsNoOpening content → Names content first
+      → ws ≡ [] → IsSaidOn BadOpening first ws was is outcome → IsContentServed folders marks says gives content outcome was is
+  content_refused says gives content first ws NoneOpened was is none named empty said =
       (none, (λ other names. subst (λ (n : ℕ). 2 ^ 31 ≤ n) (named.1 ∙ sym names.1) said.0), said.1)
-  content_refused closed gives content first ws (RefusedOn w others) was is none named empty said =
+  content_refused says gives content first ws (RefusedOn w others) was is none named empty said =
       let t = first_none first said.0 others was is (subst (λ (vs : List End). IsFirst first vs said.0 others was is) empty said.1) in
       inl (none, (first, named, (said.2 t.0, t.1, t.2)))
-  content_refused closed gives content first ws (ServedTo rs) was is none named empty said = absurd said
+  content_refused says gives content first ws (ServedTo rs) was is none named empty said = absurd said
 
   -- and what names none was not
-  pub content_short : (closed : ℤ → Type 0) (gives : List ℕ → Type 0) (content : List ℕ) (was is : List ℤ) → IsNoOpening content → length content < 4 → is ≡ was
-      → IsContentServed folders marks closed gives content NoneOpened was is
-  content_short closed gives content was is none short same = (none, (λ other names. let long = names.0 in absurd (omega (arith, short, long))), same)
+  pub content_short : (says : ℤ → Bool → Type 0) (gives : List ℕ → Type 0) (content : List ℕ) (was is : List ℤ) → IsNoOpening content → length content < 4 → is ≡ was
+      → IsContentServed folders marks says gives content NoneOpened was is
+  content_short says gives content was is none short same = (none, (λ other names. let long = names.0 in absurd (omega (arith, short, long))), same)
 
   -- ---- what came at descriptor 0
 
-  pub nothing_came : (closed : ℤ → Type 0) (gives : List ℕ → Type 0) (came : Happening) (opening : End) (was is : List ℤ) → IsNoContent came → opening ≡ end (pos 0) (came ∷ [])
-      → is ≡ pos 0 ∷ was → IsRun folders marks closed gives opening NoneOpened was is
-  nothing_came closed gives came opening was is none seen made = inl (came, none, seen, refl, made)
+  pub nothing_came : (says : ℤ → Bool → Type 0) (gives : List ℕ → Type 0) (came : Happening) (opening : End) (was is : List ℤ) → IsNoContent came → opening ≡ end (pos 0) (came ∷ [])
+      → is ≡ pos 0 ∷ was → IsRun folders marks says gives opening NoneOpened was is
+  nothing_came says gives came opening was is none seen made = inl (came, none, seen, refl, made)
 
-  pub content_came : (closed : ℤ → Type 0) (gives : List ℕ → Type 0) (content : List ℕ) (opening : End) (outcome : Outcome) (was mid is : List ℤ) → opening ≡ end (pos 0) (Came content ∷ [])
-      → mid ≡ pos 0 ∷ was → IsContentServed folders marks closed gives content outcome mid is → IsRun folders marks closed gives opening outcome was is
-  content_came closed gives content opening outcome was mid is seen made served =
-      inr (content, seen, subst (λ (ds : List ℤ). IsContentServed folders marks closed gives content outcome ds is) made served)
+  pub content_came : (says : ℤ → Bool → Type 0) (gives : List ℕ → Type 0) (content : List ℕ) (opening : End) (outcome : Outcome) (was mid is : List ℤ) → opening ≡ end (pos 0) (Came content ∷ [])
+      → mid ≡ pos 0 ∷ was → IsContentServed folders marks says gives content outcome mid is → IsRun folders marks says gives opening outcome was is
+  content_came says gives content opening outcome was mid is seen made served =
+      inr (content, seen, subst (λ (ds : List ℤ). IsContentServed folders marks says gives content outcome ds is) made served)
 
 pub seen_end : (d e : ℤ) (was is : List Happening) (came : Happening) → d ≡ pos 0 → e ≡ d → was ≡ [] → is ≡ came ∷ was → end e is ≡ end (pos 0) (came ∷ [])
 seen_end d e was is came zero same none noted =

@@ -45,9 +45,13 @@ IsBarred Open make refuse IsThere = refuse ≡ true
 IsBarred (Begin number) make refuse NoDatabase = make ≡ false
 IsBarred start make refuse e = ⊥
 
--- A descriptor is not open that an opening names as a channel.
-abbrev pub HasClosed : (closed : ℤ → Type 0) → (first channels : ℕ) → Type 0
-HasClosed closed first channels = (n : ℕ) × (n < channels) × closed (pos (first + n))
+-- Of each descriptor that an opening names as a channel it was said that it is open.
+abbrev pub AreOpen : (says : ℤ → Bool → Type 0) → (first channels : ℕ) → Type 0
+AreOpen says first channels = (n : ℕ) → n < channels → says (pos (first + n)) true
+
+-- Of one it was said that it is not.
+abbrev pub HasClosed : (says : ℤ → Bool → Type 0) → (first channels : ℕ) → Type 0
+HasClosed says first channels = (n : ℕ) × (n < channels) × says (pos (first + n)) false
 
 -- ---- in a folder
 
@@ -95,11 +99,11 @@ module _ {C M : Type 0} (folders : Ghosts C M) (marks : mark.Ghosts M) where
 
   -- Why an opening is refused: a channel is not open; memory ran out; the folder was not locked, or
   -- the looking stopped; what there is was not to be opened, or begun; or it was, and was not.
-  abbrev pub IsUnserved : (closed : ℤ → Type 0) → Opened → OpeningFault → Type 0
-  IsUnserved closed o BadOpening = HasClosed closed o.first o.channels
-  IsUnserved closed o NoDatabase = IsBarredAt folders o NoDatabase
-  IsUnserved closed o IsThere = IsBarredAt folders o IsThere
-  IsUnserved closed o (Folder e) =
+  abbrev pub IsUnserved : (says : ℤ → Bool → Type 0) → Opened → OpeningFault → Type 0
+  IsUnserved says o BadOpening = HasClosed says o.first o.channels
+  IsUnserved says o NoDatabase = IsBarredAt folders o NoDatabase
+  IsUnserved says o IsThere = IsBarredAt folders o IsThere
+  IsUnserved says o (Folder e) =
       (e ≡ OutOfMemory) ⊎ (IsUnpreparedAt folders o.path e ⊎ IsUnservedAt o e)
 
 -- ---- a refusal
@@ -164,10 +168,10 @@ IsMalformedRefusal first w others was is =
 
 module _ {C M : Type 0} (folders : Ghosts C M) (marks : mark.Ghosts M) where
   -- An opening was refused over its first channel.
-  pub record IsOpeningRefusal (closed : ℤ → Type 0) (o : Opened) (w : End) (others : List End)
+  pub record IsOpeningRefusal (says : ℤ → Bool → Type 0) (o : Opened) (w : End) (others : List End)
       (was is : List ℤ) : Type 0 where
     pub fault : OpeningFault
-    pub why : IsUnserved folders marks closed o fault
+    pub why : IsUnserved folders marks says o fault
     pub said : SaysRefusal fault o.first w
     pub wires : AreLeft o.first o.channels others was is
         ⊎ AreLost fault o.first o.channels others was is
@@ -175,26 +179,26 @@ module _ {C M : Type 0} (folders : Ghosts C M) (marks : mark.Ghosts M) where
   -- What becomes of an opening frame. It is no opening, no descriptor has the number of a first
   -- channel, and nothing was done; or it was refused over its first channel; or the folder that it
   -- names was served over its channels.
-  abbrev pub IsContentServed : (closed : ℤ → Type 0) → (gives : List ℕ → Type 0)
+  abbrev pub IsContentServed : (says : ℤ → Bool → Type 0) → (gives : List ℕ → Type 0)
       → (content : List ℕ) → Outcome → (was is : List ℤ) → Type 0
-  IsContentServed closed gives content NoneOpened was is =
+  IsContentServed says gives content NoneOpened was is =
       IsNoOpening content × ((first : ℕ) → Names content first → 2 ^ 31 ≤ first) × (is ≡ was)
-  IsContentServed closed gives content (RefusedOn w others) was is =
+  IsContentServed says gives content (RefusedOn w others) was is =
       (IsNoOpening content × ((first : ℕ) × Names content first
       × IsMalformedRefusal first w others was is))
-      ⊎ ((o : Opened) × IsOpening content o × IsOpeningRefusal closed o w others was is)
-  IsContentServed closed gives content (ServedTo rs) was is =
-      (o : Opened) × IsOpening content o
+      ⊎ ((o : Opened) × IsOpening content o × IsOpeningRefusal says o w others was is)
+  IsContentServed says gives content (ServedTo rs) was is =
+      (o : Opened) × IsOpening content o × AreOpen says o.first o.channels
       × IsFolderServed folders gives o (ends_from o.first o.channels) rs
       × (is ≡ opened_from o.first o.channels ++ was)
 
   -- One run: what happened at descriptor 0, how it ended, and of which descriptors wires were made,
   -- the last one first. No opening came, and nothing was done; or one came, and nothing more was
   -- read there.
-  abbrev pub IsRun : (closed : ℤ → Type 0) → (gives : List ℕ → Type 0) → (opening : End) → Outcome
-      → (was is : List ℤ) → Type 0
-  IsRun closed gives opening outcome was is =
+  abbrev pub IsRun : (says : ℤ → Bool → Type 0) → (gives : List ℕ → Type 0) → (opening : End)
+      → Outcome → (was is : List ℤ) → Type 0
+  IsRun says gives opening outcome was is =
       ((came : Happening) × IsNoContent came × (opening ≡ end (pos 0) (came ∷ []))
       × (outcome ≡ NoneOpened) × (is ≡ pos 0 ∷ was))
       ⊎ ((content : List ℕ) × (opening ≡ end (pos 0) (Came content ∷ []))
-      × IsContentServed closed gives content outcome (pos 0 ∷ was) is)
+      × IsContentServed says gives content outcome (pos 0 ∷ was) is)

@@ -1,14 +1,14 @@
 -- What private functions say of an opening that is refused (this project's rule).
-use Rattle.std.specs.Prelude.{◌≡◌, ◌⊎◌, ℕ, ◌^◌, ◌≤◌, ℤ, pos, List, [], ◌∷◌, ◌++◌, Option}
+use Rattle.std.specs.Prelude.{◌≡◌, ◌⊎◌, ℕ, ◌^◌, ◌≤◌, ℤ, pos, Bool, List, [], ◌∷◌, ◌++◌}
 use Rattle.lsm_opening.specs.declared.faults.writer_fault.WriterFault.TheVariants.{OutOfMemory}
 use Rattle.lsm_channels.specs.Opening.{NoneOpened, Outcome, RefusedOn, SaysRefusal, ServedTo}
 use Rattle.lsm_channels.specs.Serving.{End, end, ends_from, opened_from}
 use Rattle.lsm_channels.specs.declared.opening_fault.OpeningFault.{OpeningFault}
 use Rattle.lsm_channels.specs.declared.opening_fault.OpeningFault.TheVariants.{Folder}
 
--- no descriptor was found closed
-abbrev pub none_closed : ℤ → Type 0
-none_closed fd = ⊥
+-- of no descriptor anything was said
+abbrev pub none_said : ℤ → Bool → Type 0
+none_said fd is_open = ⊥
 
 -- Which wires are left of an opening: none was made; those of its channels; or, where workers could
 -- not be had, none of them.

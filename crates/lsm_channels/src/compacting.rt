@@ -1,6 +1,7 @@
 //! Compaction until there is nothing to compact.
 
-ghost use Rattle.std.specs.Prelude.{◌≡◌, [], ◌∷◌, IfErr, IfOk, IsTrue, OnErr, OnOk, Option, vec_len};
+ghost use Rattle.std.specs.Prelude.{◌≡◌, [], ◌∷◌, IfErr, IfOk, IsTrue, OnErr, OnOk, Option};
+ghost use Rattle.std.specs.Prelude.{vec_len};
 ghost use Rattle.lsm_history.specs.History.{IsLater};
 ghost use Rattle.lsm_channels.specs.Compacting.{AreWorkedBy, IsCompactFault, IsCompacted};
 ghost use Rattle.lsm_channels.specs.Compacting.{IsLastWorker, IsSettled, StopsWorking, Works};

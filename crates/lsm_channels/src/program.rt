@@ -1,17 +1,17 @@
 //! One run of the server.
 
-ghost use Rattle.std.specs.Prelude.{◌≡◌, ◌≤◌, ◌<◌, ◌^◌, ◌⊎◌, ◌∷◌, ◌++◌, [], IfErr, IfNone, IfOk, OnOk};
-ghost use Rattle.std.specs.Prelude.{IfSome, length, map, pos};
+ghost use Rattle.std.specs.Prelude.{◌≡◌, ◌≤◌, ◌<◌, ◌^◌, ◌⊎◌, ◌++◌, IfErr, IfNone, IfOk};
+ghost use Rattle.std.specs.Prelude.{IfSome, OnOk, length, map};
 ghost use Rattle.std.specs.Option.{option_map};
 ghost use Rattle.lsm_directory.specs.Folders.{IsFolderAt};
 ghost use Rattle.lsm_frames.specs.OpeningView.{opened_of};
 ghost use Rattle.lsm_frames.specs.Openings.{FitsOpened};
 ghost use Rattle.lsm_opening.specs.Preparing.{IsPrepared, plainly};
 ghost use Rattle.lsm_opening.specs.declared.faults.writer_fault.WriterFault.TheVariants.{OutOfMemory};
-ghost use Rattle.lsm_channels.specs.Opening.{IsAllowed, IsBarred, IsContentServed, IsFolderServed};
-ghost use Rattle.lsm_channels.specs.Opening.{IsNoOpening, IsRun, IsUnpreparedAt, IsUnserved, Names};
-ghost use Rattle.lsm_channels.specs.Opening.{outcome_of};
-ghost use Rattle.lsm_channels.specs.Refusal.{AreOpened, IsFirst, IsSaidOn, none_closed};
+ghost use Rattle.lsm_channels.specs.Opening.{AreOpen, IsAllowed, IsBarred, IsContentServed};
+ghost use Rattle.lsm_channels.specs.Opening.{IsFolderServed, IsNoOpening, IsRun, IsUnpreparedAt};
+ghost use Rattle.lsm_channels.specs.Opening.{IsUnserved, Names, outcome_of};
+ghost use Rattle.lsm_channels.specs.Refusal.{AreOpened, IsFirst, IsSaidOn, none_said};
 ghost use Rattle.lsm_channels.specs.Serving.{AreHandedBack, end, ends_from, opened_from};
 ghost use Rattle.lsm_channels.specs.declared.opening_fault.OpeningFault.TheVariants.{Folder};
 
@@ -101,7 +101,7 @@ where
         (opened_of opening.now)
         (map (λ w. end (W.descriptor w) (W.happened w)) wires.items)
         (map (option_map (λ w. end (W.descriptor w) (W.happened w))) v.items)) }
-    ensures refused { IfErr result (λ u. IsUnserved C.FolderCalls C.Mark.Mark none_closed
+    ensures refused { IfErr result (λ u. IsUnserved C.FolderCalls C.Mark.Mark none_said
         (opened_of opening.now) u.fault) }
     ensures back { IfErr result (λ u.
         AreHandedBack (Folder OutOfMemory) wires.items u.wires.items u.fault) }
@@ -145,9 +145,11 @@ where
         (opened_of opening.now)
         (ends_from opening.now.first_channel opening.now.channels)
         (map (option_map (λ w. end (D.Wire.descriptor w) (D.Wire.happened w))) v.items)) }
+    ensures open { OnOk result
+        (AreOpen D.says opening.now.first_channel opening.now.channels) }
     ensures opened { OnOk result (D.opened descriptors.new ≡ opened_from
         opening.now.first_channel opening.now.channels ++ D.opened descriptors.old) }
-    ensures refused { IfErr result (λ u. IsUnserved C.FolderCalls C.Mark.Mark D.closed
+    ensures refused { IfErr result (λ u. IsUnserved C.FolderCalls C.Mark.Mark D.says
         (opened_of opening.now) u.fault) }
     ensures left { IfErr result (λ u. AreOpened u.fault opening.now.first_channel
         opening.now.channels (map (λ w. end (D.Wire.descriptor w) (D.Wire.happened w))
@@ -235,7 +237,7 @@ fn refuse_content<C: FolderCalls, P: Paths<C>, D: Descriptors>(
     content: &[u8],
 ) -> Ended<D::Wire>
     requires none { IsNoOpening content.now }
-    ensures { IsContentServed C.FolderCalls C.Mark.Mark D.closed D.Wire.gives content.now
+    ensures { IsContentServed C.FolderCalls C.Mark.Mark D.says D.Wire.gives content.now
         (outcome_of (λ w. end (D.Wire.descriptor w) (D.Wire.happened w)) result)
         (D.opened descriptors.old) (D.opened descriptors.new) }
 {
@@ -258,7 +260,7 @@ fn serve_content<
 where
     C::Mark: Send + Sync,
     D::Wire: Send,
-    ensures { IsContentServed C.FolderCalls C.Mark.Mark D.closed D.Wire.gives content.now
+    ensures { IsContentServed C.FolderCalls C.Mark.Mark D.says D.Wire.gives content.now
         (outcome_of (λ w. end (D.Wire.descriptor w) (D.Wire.happened w)) result)
         (D.opened descriptors.old) (D.opened descriptors.new) }
 {
@@ -286,7 +288,7 @@ pub fn serve_opening<
 where
     C::Mark: Send + Sync,
     D::Wire: Send,
-    ensures { IsRun C.FolderCalls C.Mark.Mark D.closed D.Wire.gives
+    ensures { IsRun C.FolderCalls C.Mark.Mark D.says D.Wire.gives
         (end (D.Wire.descriptor result.0) (D.Wire.happened result.0))
         (outcome_of (λ w. end (D.Wire.descriptor w) (D.Wire.happened w)) result.1)
         (D.opened descriptors.old) (D.opened descriptors.new) }

@@ -1,8 +1,8 @@
 //! The wires of the channels.
 
 ghost use Rattle.std.specs.Prelude.{◌≡◌, ◌+◌, ◌≤◌, ◌^◌, ◌++◌, [], IfOk, OnErr, OnOk, map};
-ghost use Rattle.std.specs.Prelude.{false, vec_capacity, vec_len};
-ghost use Rattle.lsm_channels.specs.Opening.{HasClosed};
+ghost use Rattle.std.specs.Prelude.{true, false, vec_capacity, vec_len};
+ghost use Rattle.lsm_channels.specs.Opening.{AreOpen, HasClosed};
 ghost use Rattle.lsm_channels.specs.Serving.{end, ends_from, opened_from};
 
 use lsm_wire::Descriptors;
@@ -13,7 +13,8 @@ use std::alloc::{AllocError, Global};
 /// manifest.
 pub(crate) fn are_open<D: Descriptors>(descriptors: &D, first: u32, count: usize) -> bool
     requires numbers { first + count ≤ 2 ^ 31 }
-    ensures closed { result ≡ false → HasClosed D.closed first count }
+    ensures open { result ≡ true → AreOpen D.says first count }
+    ensures closed { result ≡ false → HasClosed D.says first count }
 {
     for number in 0..count {
         if !descriptors.is_open((first as usize + number) as i32) {

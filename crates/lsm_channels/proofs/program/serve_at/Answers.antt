@@ -5,7 +5,7 @@ use Rattle.lsm_channels.proofs.RunLaws.{opened_back, unserved_open}
 use Rattle.lsm_channels.proofs.program.serve_at.Goals as goal
 
 pub returns-in-Err-clause-refused : goal.returns-in-Err-clause-refused
-returns-in-Err-clause-refused g c = unserved_open g.C.FolderCalls g.C.Mark.Mark g.D.Descriptors.closed (opened_of c.args.opening.now) c.in-Err.unserved.fault c.in-Err.ensures.refused
+returns-in-Err-clause-refused g c = unserved_open g.C.FolderCalls g.C.Mark.Mark g.D.Descriptors.says (opened_of c.args.opening.now) c.in-Err.unserved.fault c.in-Err.ensures.refused
 
 pub returns-in-Err-clause-left : goal.returns-in-Err-clause-left
 returns-in-Err-clause-left g c =

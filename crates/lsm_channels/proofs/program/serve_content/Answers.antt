@@ -6,11 +6,11 @@ use Rattle.lsm_channels.proofs.RunLaws.{opening_refused}
 use Rattle.lsm_channels.proofs.program.serve_content.Goals as goal
 
 pub returns-in-Ok-serve_at : goal.returns-in-Ok-serve_at
-returns-in-Ok-serve_at g c = (opened_of c.in-Ok.opening, c.in-Ok.ensures.found, c.in-Ok-serve_at.ensures.served, c.in-Ok-serve_at.ensures.opened)
+returns-in-Ok-serve_at g c = (opened_of c.in-Ok.opening, c.in-Ok.ensures.found, c.in-Ok-serve_at.ensures.open, c.in-Ok-serve_at.ensures.served, c.in-Ok-serve_at.ensures.opened)
 
 pub returns-in-Err-serve_at : goal.returns-in-Err-serve_at
 returns-in-Err-serve_at g c =
-    opening_refused g.C.FolderCalls g.C.Mark.Mark g.D.Descriptors.closed g.D.Wire.Wire.gives c.args.content.now (opened_of c.in-Ok.opening) c.in-Err-serve_at.unserved.fault _
+    opening_refused g.C.FolderCalls g.C.Mark.Mark g.D.Descriptors.says g.D.Wire.Wire.gives c.args.content.now (opened_of c.in-Ok.opening) c.in-Err-serve_at.unserved.fault _
     (outcome_of (λ w. end (g.D.Wire.Wire.descriptor w) (g.D.Wire.Wire.happened w)) c.refuse.result) (g.D.Descriptors.opened c.args.descriptors.now) (g.D.Descriptors.opened c.serve_at.new.descriptors)
     (g.D.Descriptors.opened c.refuse.new.descriptors) c.in-Ok.ensures.found c.in-Err-serve_at.ensures.refused c.in-Err-serve_at.ensures.left c.refuse.ensures
 
