@@ -14,9 +14,8 @@ use Rattle.lsm_shelf.specs.declared.shelf_fault.ShelfFault.{ShelfFault}
 use Rattle.lsm_storage.specs.FileShelf.{folder_of}
 use Rattle.lsm_storage.specs.declared.file.file_shelf.FileShelf.{FileShelf}
 use Rattle.lsm_directory.specs.Folders.{IsFolderAt, IsShelfAt, told_by}
-use Rattle.lsm_requests.specs.declared.ingest_options.IngestOptions.{IngestOptions}
 use Rattle.lsm_directory.specs.declared.folder.folder_file.FolderFile.{FolderFile}
-use Rattle.lsm_opening.specs.Preparing.{IsPrepared, IsUnprepared, plainly}
+use Rattle.lsm_opening.specs.Preparing.{IsPrepared, plainly}
 use Rattle.lsm_opening.specs.declared.faults.writer_fault.WriterFault.{WriterFault}
 use Rattle.lsm_opening.specs.declared.faults.writer_fault.WriterFault.TheVariants.{OutOfMemory}
 use Rattle.lsm_opening.specs.declared.prepared.Start.{Start}
@@ -105,13 +104,6 @@ opened_back {W} seen e first channels wires back was is (inr lost) made opens = 
 
 -- ---- the folder of a path
 
--- looked at so, by whatever name
-pub prepared_by : {o : IngestOptions} {start : Start} {logs : List FolderFile} {old new : List Call} → o ≡ plainly → IsPrepared o start logs old new → IsPrepared plainly start logs old new
-prepared_by {o} {start} {logs} {old} {new} same p = subst (λ (x : IngestOptions). IsPrepared x start logs old new) same p
-
-pub unprepared_by : {o : IngestOptions} {e : WriterFault} {old new : List Call} → o ≡ plainly → IsUnprepared o e old new → IsUnprepared plainly e old new
-unprepared_by {o} {e} {old} {new} same u = subst (λ (x : IngestOptions). IsUnprepared x e old new) same u
-
 module _ {C M : Type 0} (folders : Ghosts C M) where
   -- a folder that was opened there, and asked for this since
   pub folder_at : (path : List ℕ) (Called : List Call → List Call → Type 0) (first now : C) → IsAtPath path (folders.place first) → folders.calls first ≡ opened ∷ []
@@ -197,8 +189,8 @@ module _ {C M : Type 0} (folders : Ghosts C M) (marks : mark.Ghosts M) where
       inr (content, seen, subst (λ (ds : List ℤ). IsContentServed folders marks says gives content outcome ds is) made served)
 
 pub seen_end : (d e : ℤ) (was is : List Happening) (came : Happening) → d ≡ pos 0 → e ≡ d → was ≡ [] → is ≡ came ∷ was → end e is ≡ end (pos 0) (came ∷ [])
-seen_end d e was is came zero same none noted =
-    ap (λ (n : ℤ). end n is) (same ∙ zero) ∙ ap (λ (hs : List Happening). end (pos 0) hs) (noted ∙ ap (λ (hs : List Happening). came ∷ hs) none)
+seen_end d e was is came opening same none noted =
+    ap (λ (n : ℤ). end n is) (same ∙ opening) ∙ ap (λ (hs : List Happening). end (pos 0) hs) (noted ∙ ap (λ (hs : List Happening). came ∷ hs) none)
 
 -- ---- what is said of a result
 

@@ -10,7 +10,10 @@ returns-in-Err-clause-refused g c = unserved_open g.C.FolderCalls g.C.Mark.Mark 
 pub returns-in-Err-clause-left : goal.returns-in-Err-clause-left
 returns-in-Err-clause-left g c =
     let seen : g.row.D-Wire.Denot → End = λ w. end (g.D.Wire.Wire.descriptor w) (g.D.Wire.Wire.happened w) in
-    opened_back seen c.in-Err.unserved.fault c.args.opening.now.first_channel c.args.opening.now.channels _ _ _ _ c.in-Err.ensures.back (c.in-Ok.ensures.wires) (c.in-Ok.ensures.opened)
+    rw c.of-plan.ensures.channels at (
+    opened_back seen c.in-Err.unserved.fault c.args.opening.now.first_channel c.of-plan.result.channels c.in-Ok.wires.items c.in-Err.unserved.wires.items (g.D.Descriptors.opened c.args.descriptors.now)
+    (g.D.Descriptors.opened c.open_wires.new.descriptors) c.in-Err.ensures.back c.in-Ok.ensures.wires c.in-Ok.ensures.opened
+    )
 
 pub returns-in-Ok-serve_path-clause-open : goal.returns-in-Ok-serve_path-clause-open
 returns-in-Ok-serve_path-clause-open g c = rw c.of-plan.ensures.channels at (c.are_open.ensures.open c.if-not-are_open.false)

@@ -34,8 +34,8 @@ returns-in-Ok-done-clause-served g c =
       served = served_as _ _ _ _ _ _ _ _ _ _ _ _ _ c.requires.channels c.requires.workers (ok_at _ c.serve_on-done.result.0 c.in-Ok-done.wires c.in-Ok-done.is c.serve_on-done.ensures.served);
     }
 
-pub returns-in-Err-done-clause-refused : goal.returns-in-Err-done-clause-refused
-returns-in-Err-done-clause-refused g c =
+pub returns-clause-refused : goal.returns-clause-refused
+returns-clause-refused g c =
     let start = c.in-Ok.found.1.start in
     let logs = c.in-Ok.found.1.logs.items in
     inr (inr record {
@@ -48,5 +48,5 @@ returns-in-Err-done-clause-refused g c =
       refused = unserved_as _ _ _ _ _ _ _ _ _ _ c.requires.channels (err_at _ c.serve_on-done.result.0 c.in-Err-done.unserved c.in-Err-done.is c.serve_on-done.ensures.refused);
     })
 
-pub returns-in-Err-done-clause-back : goal.returns-in-Err-done-clause-back
-returns-in-Err-done-clause-back g c = back_as _ _ _ (err_at _ c.serve_on-done.result.0 c.in-Err-done.unserved c.in-Err-done.is c.serve_on-done.ensures.back)
+pub returns-clause-back : goal.returns-clause-back
+returns-clause-back g c = back_as _ _ _ (err_at _ c.serve_on-done.result.0 c.in-Err-done.unserved c.in-Err-done.is c.serve_on-done.ensures.back)
