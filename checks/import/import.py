@@ -10,7 +10,7 @@ from pathlib import Path
 LSM, LEVELDB = sys.argv[1:3]
 WORK = Path(sys.argv[3])
 SEED, FLIPS = int(sys.argv[4]), int(sys.argv[5])
-LINE = re.compile(rb"tables (\d+) logs (\d+) last (\d+) rest (\d+)\n")
+LINE = re.compile(rb"tables (\d+) logs (\d+) entries (\d+) rest (\d+)\n")
 
 
 def run(*words, status=0):
@@ -84,7 +84,7 @@ def whole(kind):
 
 
 def damage(drawn, source, target):
-    """A copy of the source of which a table or a log is damaged; what was done."""
+    """Copies the source with a table or a log damaged: the file, and what was done to it."""
     shutil.copytree(source, target)
     files = sorted(path for path in target.iterdir() if path.suffix in (".ldb", ".log"))
     files = [path for path in files if path.stat().st_size > 0]
@@ -127,7 +127,7 @@ def damaged(sources):
         pairs = pairs_of(target)
         if pairs == wanted:
             same += 1
-        elif path.suffix == ".log" and pairs == pairs_by_leveldb(folder):
+        elif path.suffix == ".log" and (int(told[4]) > 0 or " cut " in what) and pairs == pairs_by_leveldb(folder):
             rest += 1
         else:
             sys.exit(f"{name}: the copy has other pairs than the whole folder has, and than LevelDB reads")

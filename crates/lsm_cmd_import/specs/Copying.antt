@@ -50,19 +50,14 @@ pub record IsJudged (Honest : Type 0) (tables : Copied) (entries : ℕ) : Type 0
   pub sound : Honest → IsSound version
   pub counted : entries ≡ sum_by count_of version.tables
 
--- The copy has a table for each of the shape, of just the entries of that, and one of the batches'
--- last writes. The former were judged before. At its last sequence it answers as the source does.
-pub record IsCopyOf (From Into : ℕ → List ℕ → Type 0) (Honest : Type 0) (shape : Form)
-    (batches : List WriteBatch) (entries : ℕ) (whole : Copied) : Type 0 where
-  pub tables : Copied
-  pub copied : IsCopiedOf From Into shape tables
-  pub old_entries : ℕ
-  pub judged : IsJudged Honest tables old_entries
+-- The copied tables were judged, and a table of the batches' last writes came behind them, if they
+-- write anything. All have so many entries.
+pub record IsFilled (Into : ℕ → List ℕ → Type 0) (Honest : Type 0) (batches : List WriteBatch)
+    (tables : Copied) (entries : ℕ) (whole : Copied) : Type 0 where
+  pub before : ℕ
+  pub judged : IsJudged Honest tables before
   pub logs : HasLogs Into batches tables whole
-  pub counted : entries ≡ old_entries + length logs.batch
-  pub answers : NoneAbove shape.last copied.entries → (key : UserKey)
-      → answer (entries_from logs.first logs.batch ++ copied.entries) key whole.last
-      ≡ source_answer copied.entries shape.last batches key
+  pub counted : entries ≡ before + length logs.batch
 
 -- Tables were put, and then the manifest of the copy was begun: its one edit names just them.
 pub record IsBegun (whole : Copied) (was is : Told) : Type 0 where
@@ -71,13 +66,25 @@ pub record IsBegun (whole : Copied) (was is : Told) : Type 0 where
   pub begun : Becomes (sending whole.next (manifest_of whole) mid) is
   pub manifest : IsManifest (manifest_of whole) (begun_edit whole ∷ []) 0
 
--- Of a shape and of batches so many tables were made, with so many entries, and begun.
-pub record IsMade (From Into : ℕ → List ℕ → Type 0) (Honest : Type 0) (shape : Form)
-    (batches : List WriteBatch) (tables entries : ℕ) (was is : Told) : Type 0 where
+-- so it was with the copied tables: these tables are so many
+pub record IsFinished (Into : ℕ → List ℕ → Type 0) (Honest : Type 0) (batches : List WriteBatch)
+    (tables : Copied) (count entries : ℕ) (was is : Told) : Type 0 where
   pub whole : Copied
-  pub copy : IsCopyOf From Into Honest shape batches entries whole
+  pub filled : IsFilled Into Honest batches tables entries whole
   pub begun : IsBegun whole was is
-  pub counted : tables ≡ length whole.edit.added
+  pub counted : count ≡ length whole.edit.added
+
+-- A copy was made: a table for each of the shape, of just the entries of that, and one of the
+-- batches' last writes. At its last sequence it answers of each key what the source does.
+pub record IsMade (From Into : ℕ → List ℕ → Type 0) (Honest : Type 0) (shape : Form)
+    (batches : List WriteBatch) (count entries : ℕ) (was is : Told) : Type 0 where
+  pub tables : Copied
+  pub copied : IsCopiedOf From Into shape tables
+  pub finished : IsFinished Into Honest batches tables count entries was is
+  pub answers : NoneAbove shape.last copied.entries → (key : UserKey)
+      → answer (entries_from finished.filled.logs.first finished.filled.logs.batch
+      ++ copied.entries) key finished.whole.last
+      ≡ source_answer copied.entries shape.last batches key
 
 -- ---- refusals
 
@@ -92,6 +99,11 @@ IsUnjudged Into Denied Honest tables fault =
     × IsReplayed (tables.edit ∷ []) shape
     × IsRefusal Into (λ number. Denied (Load number)) Honest shape e)))
 
+-- the manifest is not begun
+abbrev pub IsUnbegun : (Asked → ShelfFault → Type 0) → Copied → CopyFault → Type 0
+IsUnbegun Denied whole fault =
+    (e : ImportFault) × (fault ≡ Copy e) × IsBeginRefusal Denied whole e
+
 -- What keeps a copy from being made whose tables were copied: its judgment, its logs' writes, or
 -- its manifest.
 abbrev pub IsUnmadeOf : (ℕ → List ℕ → Type 0) → (Asked → ShelfFault → Type 0) → Type 0
@@ -100,7 +112,7 @@ IsUnmadeOf Into Denied Honest batches tables fault =
     IsUnjudged Into Denied Honest tables fault
     ⊎ (((e : ImportFault) × (fault ≡ Copy e) × IsLogsRefusal Denied usual batches tables e)
     ⊎ ((whole : Copied) × HasLogs Into batches tables whole
-    × ((e : ImportFault) × (fault ≡ Copy e) × IsBeginRefusal Denied whole e)))
+    × IsUnbegun Denied whole fault))
 
 -- What keeps a copy from being made: a table that is not copied, or what follows. Memory may run
 -- out.

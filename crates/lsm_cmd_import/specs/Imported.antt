@@ -21,6 +21,7 @@ use Rattle.lsm_directory.specs.declared.faults.directory_fault.DirectoryFault.{D
 use Rattle.lsm_directory.specs.declared.folder.folder_file.FolderFile.{FolderFile}
 use Rattle.lsm_opening.specs.Preparing.{IsPrepared, IsUnprepared, plainly}
 use Rattle.lsm_opening.specs.Tidying.{OnlyReads}
+use Rattle.lsm_opening.specs.declared.prepared.Start.{Start}
 use Rattle.lsm_opening.specs.declared.prepared.Start.TheVariants.{Open, Begin}
 use Rattle.lsm_opening.specs.declared.faults.writer_fault.WriterFault.{WriterFault}
 use Rattle.lsm_opening.specs.declared.faults.writer_fault.WriterFault.TheVariants.{Directory}
@@ -54,6 +55,9 @@ pub record Moment : Type 0 where
   pub calls : List Call
   pub source : Told
   pub target : Told
+
+abbrev pub moment_of : List Call → (source target : Told) → Moment
+moment_of calls source target = record { calls = calls; source = source; target = target }
 
 -- The source was only read.
 pub record LeavesSource (before later : Moment) : Type 0 where
@@ -90,39 +94,47 @@ pub record IsUnimported (From Into : ℕ → List ℕ → Type 0) (Unheld Denied
 
 -- ---- on folders
 
+-- These names lead to a new database, and each of the logs is empty.
+abbrev pub IsUntaken : Start → List FolderFile → Type 0
+IsUntaken start logs = ((number : ℕ) × (start ≡ Begin number)) × NoneUnread 0 0 logs
+
+-- They lead to one that is there, or to a new one beside a log that LevelDB would read.
+abbrev pub TakenBy : Start → List FolderFile → CopyFault → Type 0
+TakenBy start logs fault =
+    ((fault ≡ IsThere) × (start ≡ Open))
+    ⊎ ((n : ℕ) × (fault ≡ Target (UnflushedLog n)) × ((number : ℕ) × (start ≡ Begin number))
+    × IsFirstUnread 0 0 logs n)
+
 module _ {C M : Type 0} (folders : Ghosts C M) where
   -- what is known of these
   abbrev pub moment : C → (source target : FileShelf C M) → Moment
-  moment folder source target = record {
-    calls = folders.calls folder;
-    source = told_by folders source;
-    target = told_by folders target;
-  }
+  moment folder source target =
+      moment_of (folders.calls folder) (told_by folders source) (told_by folders target)
+
+  -- The lock of the folder at this path was held alone; no database was there, nor a log but empty
+  -- ones.
+  abbrev pub IsReadyTarget : List ℕ → FileShelf C M → Type 0
+  IsReadyTarget path target = (start : Start) × (logs : List FolderFile)
+      × IsShelfAt folders path (IsPrepared plainly start logs) target × IsUntaken start logs
 
   -- The lock of the folder at the first path was held, shared, and these files were found beside its
-  -- tables. The lock of the one at the second path was held alone; no database was there, nor a log
-  -- but empty ones. A shelf is on each.
+  -- tables. The one at the second path is ready. A shelf is on each.
   pub record AreReady (line : ImportLine) (files : List FolderFile) (folder : C)
       (source target : FileShelf C M) : Type 0 where
     pub opened : IsFolderAt folders line.source.now (TellsBeside files) folder
     pub reading : told_by folders source ≡ fresh (folders.place folder)
-    pub number : ℕ
-    pub logs : List FolderFile
-    pub prepared : IsShelfAt folders line.target.now (IsPrepared plainly (Begin number) logs) target
-    pub flushed : NoneUnread 0 0 logs
+    pub target_ready : IsReadyTarget line.target.now target
 
   -- In the folder at this path there can be no copy: it was not opened, or not locked and looked at;
-  -- or there is a database, or a log that LevelDB would read.
+  -- or it is taken.
   abbrev pub IsNoTarget : List ℕ → CopyFault → Type 0
   IsNoTarget path fault =
       ((e : DirectoryFault) × (fault ≡ Target (Directory e)) × IsFolderFault e)
       ⊎ (((e : WriterFault) × (fault ≡ Target e)
       × ((folder : C) × IsFolderAt folders path (IsUnprepared plainly e) folder))
-      ⊎ (((fault ≡ IsThere) × ((logs : List FolderFile) × (folder : C)
-      × IsFolderAt folders path (IsPrepared plainly Open logs) folder))
-      ⊎ ((n : ℕ) × (fault ≡ Target (UnflushedLog n)) × ((number : ℕ) × (logs : List FolderFile)
-      × (folder : C) × IsFolderAt folders path (IsPrepared plainly (Begin number) logs) folder
-      × IsFirstUnread 0 0 logs n))))
+      ⊎ ((start : Start) × (logs : List FolderFile)
+      × ((folder : C) × IsFolderAt folders path (IsPrepared plainly start logs) folder)
+      × TakenBy start logs fault))
 
   -- memory ran out, or the folders were not both opened
   abbrev pub AreUnready : ImportLine → CopyFault → Type 0

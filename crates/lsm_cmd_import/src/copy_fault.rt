@@ -120,14 +120,9 @@ impl Exit for CopyFault {
                 write_log(err, *number)
             }
             CopyFault::Target(fault) => explain_target(err, fault),
-            CopyFault::IsThere => writeln!(
-                err,
-                "DST has a database: a copy is made where none is"
-            ),
-            CopyFault::OutOfMemory
-            | CopyFault::Copy(_)
-            | CopyFault::Tables(_)
-            | CopyFault::Write => Ok(()),
+            CopyFault::IsThere => writeln!(err, "DST has a database: a copy is made where none is"),
+            CopyFault::OutOfMemory | CopyFault::Copy(_) | CopyFault::Tables(_) | CopyFault::Write =>
+                Ok(()),
         }
     }
 }

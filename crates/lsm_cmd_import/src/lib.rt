@@ -10,12 +10,13 @@
 // Why there is no copy.
 mod copy_fault;
 
-// What is read of the source beside its tables: its logs.
+// What is read of the source beside its tables.
 mod log_files;
 mod reading;
 
 // The copy, and what is said of it.
 mod copying;
+mod importing;
 mod reply;
 
 // One run.
@@ -23,3 +24,4 @@ mod program;
 
 pub use copy_fault::CopyFault;
 pub use program::run_import;
+pub use reply::CopyMade;

@@ -1,25 +1,36 @@
 //! What is said of a copy.
 
+ghost use Rattle.std.specs.Prelude.{OnOk};
+ghost use Rattle.std.specs.Io.KnownBytes.{Appends};
+ghost use Rattle.lsm_cmd_import.specs.Imported.{made_text};
+
 use std::io::{self, Write};
 
-/// What a copy has: how many tables, of how many logs the writes, which last sequence; and how many
-/// bytes at the ends of the manifest and of the logs hold no whole record, and are not copied.
+/// A copy: how many tables it has; of how many logs the writes came in; how many entries the tables
+/// have; and how many bytes at the ends of the manifest and of the logs hold no whole record, and
+/// are not read.
 #[derive(Clone, Copy, Debug)]
-pub(crate) struct CopyMade {
-    pub(crate) tables: u64,
-    pub(crate) logs: u64,
-    pub(crate) last: u64,
-    pub(crate) rest: u64,
+pub struct CopyMade {
+    pub tables: u64,
+    pub logs: u64,
+    pub entries: u64,
+    pub rest: u64,
 }
 
-/// Writes `tables T logs L last S rest B`, and flushes.
-pub(crate) fn reply<O: Write>(out: &mut O, made: CopyMade) -> io::Result<()> {
+/// Writes `tables T logs L entries E rest B`, and flushes.
+pub(crate) fn reply<O: Write>(out: &mut O, made: CopyMade) -> io::Result<()>
+    ensures written { OnOk result
+        (Appends (O.contents out.old) (O.contents out.new) (made_text made)) }
+{
     let CopyMade {
         tables,
         logs,
-        last,
+        entries,
         rest,
     } = made;
-    writeln!(out, "tables {tables} logs {logs} last {last} rest {rest}")?;
+    writeln!(
+        out,
+        "tables {tables} logs {logs} entries {entries} rest {rest}"
+    )?;
     out.flush()
 }
