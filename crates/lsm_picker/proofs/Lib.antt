@@ -7,4 +7,4 @@ pub mod Opening
 pub mod Scoring
 pub mod Choosing
 pub mod Ranges
-pub mod JoiningLaws
+pub mod FirstLaws
