@@ -1,7 +1,7 @@
 -- The first file of those that a test lets through.
 use Rattle.std.proofs.Common.{◌≡◌, ℕ, zero, suc, ◌<◌, Bool, true, List, [], ◌∷◌, ◌++◌}
-use Rattle.std.proofs.Common.{length, get_or, take, refl, sym, ◌∙◌, ap, arith}
-use Rattle.std.specs.Prelude.{Some, None, cond, slice_get}
+use Rattle.std.proofs.Common.{length, get_or, take, sym, ◌∙◌, ap, arith}
+use Rattle.std.specs.Prelude.{Some, cond, slice_get}
 use Rattle.std.specs.List.{filter}
 use Rattle.std.proofs.lemmas.List.Elements.{filter-append}
 use Rattle.lsm_table.specs.Registry.{Table}

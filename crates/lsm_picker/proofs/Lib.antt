@@ -8,3 +8,4 @@ pub mod Scoring
 pub mod Choosing
 pub mod Ranges
 pub mod FirstLaws
+pub mod GatheringLaws
