@@ -31,13 +31,18 @@ abbrev pub HasEight : ℕ → List Reserved → List Table → Type 0
 HasEight target_size rs ts =
     (t : Table) × Has ts t × AllMayGather target_size rs ts t.number × (8 ≤ length (newest t.number ts))
 
--- The files from this one on may all be gathered, they are two at least, and it has at most one and
--- a half times the bytes of the newer ones together.
+-- one of the two newest, or with at most one and a half times the bytes of the newer ones together
+abbrev pub IsWorthAdding : List Table → Table → Type 0
+IsWorthAdding ts t = (length (newest (suc t.number) ts) ≤ 1)
+    ⊎ (2 * size_of t ≤ 3 * bytes_of (newest (suc t.number) ts))
+
+-- The files from this one on may all be gathered, they are two at least, and it is worth adding to
+-- the newer ones.
 pub record CanGather (target_size : ℕ) (rs : List Reserved) (ts : List Table) (oldest : Table)
     : Type 0 where
   pub all : AllMayGather target_size rs ts oldest.number
   pub two : 2 ≤ length (newest oldest.number ts)
-  pub ratio : 2 * size_of oldest ≤ 3 * bytes_of (newest (suc oldest.number) ts)
+  pub worth : IsWorthAdding ts oldest
 
 -- As many of the newest files as can be, where eight may be; said by the number of the oldest.
 pub record IsToGather (v : Levels) (rs : List Reserved) (target_size number : ℕ) : Type 0 where
@@ -61,11 +66,11 @@ HasNoneToGather v rs target_size = HasEight target_size rs (level_in v.tables 0)
 abbrev pub is_large : ℕ → List Reserved → Table → Bool
 is_large target_size rs t = not (is_small target_size t) && not (is_taken rs t)
 
--- Level 0 has four files that are not small, or eight files, the inputs of live jobs not counted.
+-- Level 0 has four files that are not small, or eleven files, the inputs of live jobs not counted.
 abbrev pub IsReady : Levels → List Reserved → ℕ → Type 0
 IsReady v rs target_size =
     (4 ≤ length (filter (is_large target_size rs) (level_in v.tables 0)))
-    ⊎ (8 ≤ length (free_tables rs (level_in v.tables 0)))
+    ⊎ (11 ≤ length (free_tables rs (level_in v.tables 0)))
 
 -- ---- how the code looks for the least number
 

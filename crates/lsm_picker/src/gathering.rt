@@ -4,8 +4,8 @@ ghost use Rattle.std.specs.Prelude.{◌≡◌, ◌<◌, ◌≤◌, ◌^◌, ◌*
 ghost use Rattle.lsm_table.specs.Registry.{bytes_of};
 ghost use Rattle.std.specs.List.{filter};
 ghost use Rattle.lsm_picker.specs.Gathering.{AllMayGather, CanGather, HasEight, HasNoneToGather};
-ghost use Rattle.lsm_picker.specs.Gathering.{IsLesser, IsReady, IsToGather, is_large, is_small};
-ghost use Rattle.lsm_picker.specs.Gathering.{may_gather, newest};
+ghost use Rattle.lsm_picker.specs.Gathering.{IsLesser, IsReady, IsToGather, IsWorthAdding};
+ghost use Rattle.lsm_picker.specs.Gathering.{is_large, is_small, may_gather, newest};
 
 use crate::conflicts::is_taken;
 use crate::level_scores::free_count;
@@ -40,14 +40,14 @@ fn may_gather<N: Naming, S: Shelf>(
 fn newest_count<N: Naming, S: Shelf>(
     registry: &Registry<N, S>,
     tables: &[TableRef<N, S>],
-    number: u64,
+    number: u128,
 ) -> u128
     ensures count { result ≡ length (newest number tables.now) }
     ensures few { result < 2 ^ 64 }
 {
     let mut count = 0;
     for table in tables {
-        if registry.record(table).number() >= number {
+        if u128::from(registry.record(table).number()) >= number {
             count += 1;
         }
     }
@@ -104,7 +104,7 @@ fn has_eight<N: Naming, S: Shelf>(
 {
     for table in tables {
         let number = registry.record(table).number();
-        if newest_count(registry, tables, number) >= 8
+        if newest_count(registry, tables, u128::from(number)) >= 8
             && all_may_gather(registry, tables, live, number, target_size)
         {
             return true;
@@ -113,8 +113,22 @@ fn has_eight<N: Naming, S: Shelf>(
     false
 }
 
-/// Whether the tables from this one on can be gathered: there are two at least, all of them may be,
-/// and this one has at most one and a half times the bytes of the others together.
+/// Whether a table is one of the two newest, or has at most one and a half times the bytes of the
+/// newer ones together.
+fn is_worth_adding<N: Naming, S: Shelf>(
+    registry: &Registry<N, S>,
+    tables: &[TableRef<N, S>],
+    table: &TableRef<N, S>,
+) -> bool
+    ensures { IsTrue result ↔ IsWorthAdding tables.now table.now }
+{
+    let record = registry.record(table);
+    let above = u128::from(record.number()) + 1;
+    newest_count(registry, tables, above) <= 1
+        || 2 * u128::from(record.receipt.size()) <= 3 * newest_bytes(registry, tables, above)
+}
+
+/// Whether the tables from this one on can be gathered.
 fn can_gather<N: Naming, S: Shelf>(
     registry: &Registry<N, S>,
     tables: &[TableRef<N, S>],
@@ -124,11 +138,9 @@ fn can_gather<N: Naming, S: Shelf>(
 ) -> bool
     ensures { IsTrue result ↔ CanGather target_size live.now tables.now oldest.now }
 {
-    let record = registry.record(oldest);
-    let number = record.number();
-    2 * u128::from(record.receipt.size())
-        <= 3 * newest_bytes(registry, tables, u128::from(number) + 1)
-        && newest_count(registry, tables, number) >= 2
+    let number = registry.record(oldest).number();
+    newest_count(registry, tables, u128::from(number)) >= 2
+        && is_worth_adding(registry, tables, oldest)
         && all_may_gather(registry, tables, live, number, target_size)
 }
 
@@ -164,8 +176,8 @@ fn large_count<N: Naming, S: Shelf>(
 /// answers; none where there is nothing to gather.
 ///
 /// A file is small below half the target size. Where eight newest files of level 0, or more, are
-/// small and inputs of no live job, the newest of them are gathered: two at least, and as many as
-/// can be so that the oldest has at most one and a half times the bytes of the newer ones together.
+/// small and inputs of no live job, the two newest are gathered, and as many more as can be so that
+/// the oldest has at most one and a half times the bytes of the newer ones together.
 pub fn to_gather<N: Naming, S: Shelf>(
     registry: &Registry<N, S>,
     version: &Version<N, S>,
@@ -191,7 +203,7 @@ pub fn to_gather<N: Naming, S: Shelf>(
 }
 
 /// Whether level 0 itself may be compacted: it has four files at least that are not small, as
-/// `to_gather` has it, or eight files at least, the inputs of live jobs not counted.
+/// `to_gather` has it, or eleven files at least, the inputs of live jobs not counted.
 pub fn level_zero_is_ready<N: Naming, S: Shelf>(
     registry: &Registry<N, S>,
     version: &Version<N, S>,
@@ -202,5 +214,6 @@ pub fn level_zero_is_ready<N: Naming, S: Shelf>(
     ensures { IsTrue result ↔ IsReady version.now live.now target_size }
 {
     let tables = version.level(0);
-    free_count(registry, tables, live) >= 8 || large_count(registry, tables, live, target_size) >= 4
+    free_count(registry, tables, live) >= 11
+        || large_count(registry, tables, live, target_size) >= 4
 }
