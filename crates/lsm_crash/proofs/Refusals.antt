@@ -85,14 +85,14 @@ pub change_spent : (old new : Held) (ws : List Write) (e : StateFault) (was is :
 change_spent old new ws e was is w same r going = (changed old new e r.0 is w.numbers same r.3 going).1
 
 pub gather_stays : (honest : Type 0) (old new : Held) (e : GatherFault) (was is : Told) → IsGatherRefusal honest old new e was is → old.next < 2 ^ 64 → new.halted ≡ false → Stays old new
-gather_stays honest old new (State e) was is (inl (inl r)) small going = stays_same old new r.1 small going
-gather_stays honest old new (State e) was is (inl (inr r)) small going = stays_from old new new.slots old.next old.halted r.1.0 r.1.1.looked.version (omega arith) small going
-gather_stays honest old new (Merge e) was is (inl r) small going = absurd r
-gather_stays honest old new (State e) was is (inr (least, m, sought, slot, inl r)) small going = stays_from old new new.slots old.next old.halted r.1 sought.looked.version (omega arith) small going
-gather_stays honest old new (Merge e) was is (inr (least, m, sought, slot, inl r)) small going =
+gather_stays honest old new e was is (inl r) small going = stays_same old new r.1 small going
+gather_stays honest old new (State e) was is (inr (least, m, inl r)) small going = stays_from old new new.slots old.next old.halted r.0 r.1.looked.version (omega arith) small going
+gather_stays honest old new (Merge e) was is (inr (least, m, inl r)) small going = absurd r
+gather_stays honest old new (State e) was is (inr (least, m, inr (sought, slot, inl r))) small going = stays_from old new new.slots old.next old.halted r.1 sought.looked.version (omega arith) small going
+gather_stays honest old new (Merge e) was is (inr (least, m, inr (sought, slot, inl r))) small going =
     stays_from old new new.slots (suc old.next) old.halted r.0 sought.looked.version (omega arith) (spent_small (is_at_limit old.journal) old.next m.numbers).2 going
-gather_stays honest old new (State e) was is (inr (least, m, sought, slot, inr r)) small going = (changed old new e r.1 is m.numbers sought.looked.version r.4 going).0
-gather_stays honest old new (Merge e) was is (inr (least, m, sought, slot, inr r)) small going = absurd r
+gather_stays honest old new (State e) was is (inr (least, m, inr (sought, slot, inr r))) small going = (changed old new e r.1 is m.numbers sought.looked.version r.4 going).0
+gather_stays honest old new (Merge e) was is (inr (least, m, inr (sought, slot, inr r))) small going = absurd r
 
 -- a table was put, and its number is spent
 pub record HasPut (old new : Held) (was is : Told) : Type 0 where
@@ -103,11 +103,11 @@ pub record HasPut (old new : Held) (was is : Told) : Type 0 where
 
 -- a refused gather put nothing, or such a table
 pub gather_made_err : (honest : Type 0) (old new : Held) (e : GatherFault) (was is : Told) → IsGatherRefusal honest old new e was is → (is.made ≡ was.made) ⊎ HasPut old new was is
-gather_made_err honest old new (State e) was is (inl (inl r)) = inl (ap (λ (t : Told). t.made) r.2)
-gather_made_err honest old new (State e) was is (inl (inr r)) = inl (ap (λ (t : Told). t.made) r.1.3)
-gather_made_err honest old new (Merge e) was is (inl r) = absurd r
-gather_made_err honest old new (State e) was is (inr (least, m, sought, slot, inl r)) = inl (ap (λ (t : Told). t.made) r.2)
-gather_made_err honest old new (Merge e) was is (inr (least, m, sought, slot, inl r)) = elim r.1.told [
+gather_made_err honest old new e was is (inl r) = inl (ap (λ (t : Told). t.made) r.2)
+gather_made_err honest old new (State e) was is (inr (least, m, inl r)) = inl (ap (λ (t : Told). t.made) r.3)
+gather_made_err honest old new (Merge e) was is (inr (least, m, inl r)) = absurd r
+gather_made_err honest old new (State e) was is (inr (least, m, inr (sought, slot, inl r))) = inl (ap (λ (t : Told). t.made) r.2)
+gather_made_err honest old new (Merge e) was is (inr (least, m, inr (sought, slot, inl r))) = elim r.1.told [
   | inl told ↦ inl told.made
   | inr (es, told) ↦ inr record {
     image = table_bytes (sizes_of old.options) es;
@@ -116,13 +116,13 @@ gather_made_err honest old new (Merge e) was is (inr (least, m, sought, slot, in
     spent = λ going. (let n : new.next ≡ suc old.next = ap (λ (h : Held). h.next) r.0 in omega arith);
   }
 ]
-gather_made_err honest old new (State e) was is (inr (least, m, sought, slot, inr r)) = inr record {
+gather_made_err honest old new (State e) was is (inr (least, m, inr (sought, slot, inr r))) = inr record {
   image = r.0.image;
   made = r.5.made ∙ r.3.made;
   numbers = m.numbers;
   spent = λ going. (changed old new e r.1 is m.numbers sought.looked.version r.4 going).1;
 }
-gather_made_err honest old new (Merge e) was is (inr (least, m, sought, slot, inr r)) = absurd r
+gather_made_err honest old new (Merge e) was is (inr (least, m, inr (sought, slot, inr r))) = absurd r
 
 room_at : (b : Bool) (next : ℕ) → (b ≡ true → next ≡ 2 ^ 64 - 1 → ⊥) → next < 2 ^ 64 → (if b then next + 1 else next) < 2 ^ 64
 room_at true next spare small = elim (cases_lt (next + 1) (2 ^ 64)) [ inl lt ↦ lt | inr le ↦ absurd (spare refl (omega arith)) ]

@@ -219,8 +219,8 @@ module _ (law : TablesChange) (honest : Type 0) (board : TableId) (old new : Hel
 
   pub gather_is : (number : ℕ) (was is : Told) → (i : Gathers honest old new number was is) → Coming old new w v (operations v (shelf.Put old.next i.table.image ∷ changes_by (with_number old i.slots) i.change ∷ []))
   gather_is number was is i = coming_is i.table i.slots i.change [] i.mid is record {
-    going = i.may.going;
-    numbers = i.may.numbers;
+    going = i.going_on;
+    numbers = i.numbers;
     version = i.sought.looked.version;
     number_is = i.is_table.number_is;
     added = λ level t h. one_added i.table level t (subst (λ (xs : List (ℕ × Table)). Has xs (level, t)) i.its.added h);
