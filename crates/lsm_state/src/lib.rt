@@ -53,6 +53,8 @@ mod state_fault;
 // What changes the version.
 mod changing;
 mod coming;
+mod gather;
+mod gather_fault;
 mod ingest;
 mod install;
 mod install_change;
@@ -71,6 +73,7 @@ mod collect;
 mod listing;
 mod unkept;
 
+pub use gather_fault::GatherFault;
 pub use ingest::Ingested;
 pub use lsm_journal::OpenFault;
 pub use options::Options;
