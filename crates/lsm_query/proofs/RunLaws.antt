@@ -146,7 +146,7 @@ once_sorted n last (t ∷ ts) f w = go (is_number last t.number) (once_sorted n 
 pub one_at : (ts : List Table) (i : ℕ) (t : Table) → i < length ts → t ≡ get_or ts i t → drop i (take (i + 1) ts) ≡ t ∷ []
 one_at [] i t lt is = absurd (omega arith)
 one_at (u ∷ ts) zero t lt is = ap (λ (x : Table). x ∷ []) (sym is)
-one_at (u ∷ ts) (suc i) t lt is = one_at ts i t (omega arith) is
+one_at (u ∷ ts) (suc i) t lt is = let there : suc (i + 1) ≡ suc i + 1 = omega arith in ap (λ (n : ℕ). drop (suc i) (take n (u ∷ ts))) (sym there) ∙ one_at ts i t (omega arith) is
 
 pub whole_at : (ts : List Table) → drop 0 (take (length ts) ts) ≡ ts
 whole_at ts = take_all (length ts) ts (omega arith)

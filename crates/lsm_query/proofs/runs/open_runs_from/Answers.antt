@@ -28,7 +28,7 @@ pub open_row-requires-clause-row : goal.open_row-requires-clause-row
 open_row-requires-clause-row g c κs within = λ h.
     let tables : List (List Table) = c.args.levels.now in
     let n = c.loop-number.number in
-    let same : c.in_ok-row.row ≡ level_in tables n = c.in_ok-row.ensures ∙ ap (λ (e : ℕ). drop 0 (take e (level_in tables n))) (c.len.ensures ∙ ap length c.level-2.ensures) ∙ whole_at (level_in tables n) in
+    let same : c.in_ok-row.row ≡ level_in tables n = c.in_ok-row.ensures ∙ ap (λ (us : List Table). drop 0 (take (length us) (level_in tables n))) c.level.ensures ∙ whole_at (level_in tables n) in
     (n, c.loop-number.auto.number, subst (λ (l : List Table). IsSoundLevel n l) (sym same) ((c.requires.mergeable h).deeper n c.loop-number.auto.number))
 
 pub returns-in_err-runs-clause-number : goal.returns-in_err-runs-clause-number
@@ -41,7 +41,7 @@ pub returns-in_err-open_row-clause-number : goal.returns-in_err-open_row-clause-
 returns-in_err-open_row-clause-number g c =
     let tables : List (List Table) = c.args.levels.now in
     let n = c.loop-number.number in
-    let same : c.in_ok-row.row ≡ level_in tables n = c.in_ok-row.ensures ∙ ap (λ (e : ℕ). drop 0 (take e (level_in tables n))) (c.len.ensures ∙ ap length c.level-2.ensures) ∙ whole_at (level_in tables n) in
+    let same : c.in_ok-row.row ≡ level_in tables n = c.in_ok-row.ensures ∙ ap (λ (us : List Table). drop 0 (take (length us) (level_in tables n))) c.level.ensures ∙ whole_at (level_in tables n) in
     let p = err_from_is_err_and c.from_residual-in_err-open_row.result c.from_residual-in_err-open_row.ensures.1 in
     rw (p.1, p.2) (names_as _ (IsNumberIn tables) c.in_err-open_row.field-0.0.file c.in_err-open_row.field-0.0.fault
     (λ m. named_in tables n c.in_ok-row.row m (sym same)) c.in_err-open_row.ensures.number)
@@ -55,7 +55,7 @@ pub loop-number-preserved : goal.loop-number-preserved
 loop-number-preserved g c =
     let tables : List (List Table) = c.args.levels.now in
     let n = c.loop-number.number in
-    let same : c.in_ok-row.row ≡ level_in tables n = c.in_ok-row.ensures ∙ ap (λ (e : ℕ). drop 0 (take e (level_in tables n))) (c.len.ensures ∙ ap length c.level-2.ensures) ∙ whole_at (level_in tables n) in
+    let same : c.in_ok-row.row ≡ level_in tables n = c.in_ok-row.ensures ∙ ap (λ (us : List Table). drop 0 (take (length us) (level_in tables n))) c.level.ensures ∙ whole_at (level_in tables n) in
     let ts : List Table = c.in_ok-row.row in
     let pos : 1 ≤ n = c.loop-number.auto.number in
     let user = c.args.from.now in
@@ -66,10 +66,10 @@ loop-number-preserved g c =
       loan = c.open_row.ensures.loan ∙ c.loop-number.invariant.loan;
       named = named_more (IsNumberIn tables) (IsNumberOf ts) _ _ (λ m. named_in tables n ts m (sym same)) c.in_ok-open_row.ensures.files c.loop-number.invariant.named;
       made = λ h. deeper_more user (level_in tables 0) n tables ts old new pos (sym same)
-          (subst (λ (m : ℕ). AddsRun user m ts old new) (ap (λ (k : ℕ). k + n) (c.len-shallow.ensures ∙ ap length c.level.ensures)) (c.in_ok-open_row.ensures.run h)) (c.loop-number.invariant.made h);
+          (subst (λ (m : ℕ). AddsRun user m ts old new) (ap (λ (us : List Table). length us + n) c.level-shallow.ensures) (c.in_ok-open_row.ensures.run h)) (c.loop-number.invariant.made h);
     }
 
 pub returns-clause-runs : goal.returns-clause-runs
 returns-clause-runs g c = λ h.
-    let past : length c.args.levels.now ≤ c.loop-number.number = subst (λ (n : ℕ). n ≤ c.loop-number.number) c.count.ensures c.loop-number-test.false in
+    let past : length c.args.levels.now ≤ c.loop-number.number = subst (λ (n : ℕ). n ≤ c.loop-number.number) c.count-number-end.ensures c.loop-number-test.false in
     runs_whole c.args.from.now (level_in c.args.levels.now 0) c.loop-number.number c.args.levels.now (map (λ r. r.placed) c.loop-number.runs.items) past (c.loop-number.invariant.made h)
