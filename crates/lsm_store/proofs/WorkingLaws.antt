@@ -35,8 +35,8 @@ use Rattle.lsm_state.specs.declared.gather_fault.GatherFault.TheVariants as gath
 use Rattle.lsm_state.specs.Installing.{IsInstallRefusal}
 use Rattle.lsm_state.specs.declared.state_fault.StateFault.{StateFault}
 use Rattle.lsm_state.specs.declared.state_fault.StateFault.TheVariants as state
-use Rattle.lsm_store.specs.Picking.{IsPickedUnder}
-use Rattle.lsm_store.specs.Working.{AreReturned, Given, IsCounted, IsCountedIf, IsDone, IsLast, IsPutOrSent, IsRefusedBy, IsReturned, IsStoppedBy, IsTaken, IsCompacted, IsGatheredUnder, IsTurn, IsUngatheredUnder, IsUnmerged, IsWorked, OnlyPutsAndSends, Turns, compactions_in, given_each, given_one}
+use Rattle.lsm_store.specs.Picking.{HasGathered, IsPicked, IsPickedUnder}
+use Rattle.lsm_store.specs.Working.{AreReturned, Given, IsCounted, IsCountedIf, IsDone, IsLast, IsPutOrSent, IsRefusedBy, IsReturned, IsStoppedBy, IsTaken, GathersFiles, IsCompacted, IsGatheredUnder, IsStoppedIn, IsTurn, IsUngatheredUnder, IsUnmerged, IsWorked, OnlyPutsAndSends, Turns, compactions_in, given_each, given_one}
 use Rattle.lsm_store.specs.declared.picks.Picks.{Picks}
 use Rattle.lsm_store.specs.declared.turned.Turned.{Turned}
 use Rattle.lsm_store.specs.declared.turned.Turned.TheVariants.{Compacted, Gathered}
@@ -415,3 +415,31 @@ pub joined_one_more : {T S : Type 0} (f : T → S) (done : List S) (threads thre
     → (done ++ f t ∷ []) ++ reverse (map f threads') ≡ all
 joined_one_more f done threads threads' t all before pop =
     append_assoc done (f t ∷ []) (reverse (map f threads')) ∙ ap (λ (xs : List _). done ++ xs) (sym (last_first f threads' t)) ∙ ap (λ (ts : List _). done ++ reverse (map f ts)) (sym pop) ∙ before
+
+-- ---- one taking of the lock
+
+pub match_false : (b : Bool) (P Q : Type 0) → b ≡ false → MatchBool b P Q → Q
+match_false true P Q e m = absurd (cc e)
+match_false false P Q e m = m
+
+pub match_true : (b : Bool) (P Q : Type 0) → b ≡ true → MatchBool b P Q → P
+match_true true P Q e m = m
+match_true false P Q e m = absurd (cc e)
+
+pub gathered_under : (Honest : Type 0) (keeps : Held → Type 0) (picks : Picks) (old new : Held) (was is : Told) (b : Bool) → ∥ keeps old ∥₁
+    → MatchBool b (GathersFiles Honest old new was is) ((is ≡ was) × HasGathered picks old) → MatchBool b (IsGatheredUnder Honest keeps was is) (is ≡ was)
+gathered_under Honest keeps picks old new was is true kept m = record { old = old; new = new; kept = kept; gathers = m }
+gathered_under Honest keeps picks old new was is false kept m = m.0
+
+pub picked_under : (Honest : Type 0) (keeps : Held → Type 0) (picks : Picks) (old new : Held) (was is : Told) (b : Bool) (job : Option Work) → ∥ keeps old ∥₁
+    → (b ≡ false → IsPicked picks old job) → MatchBool b (GathersFiles Honest old new was is) ((is ≡ was) × HasGathered picks old) → b ≡ false → IsPickedUnder keeps picks job
+picked_under Honest keeps picks old new was is b job kept next m e = (old, kept, next e, (match_false b _ _ e m).1)
+
+pub stopped_under : (Honest : Type 0) (Refused : Asked → ShelfFault → Type 0) (keeps : Held → Type 0) (old new : Held) (e : WorkerFault) (was is : Told) → ∥ keeps old ∥₁
+    → IsStoppedIn Honest Refused old new e was is → IsStoppedBy Honest Refused keeps e was is
+stopped_under Honest Refused keeps old new NoThread was is kept s = absurd s
+stopped_under Honest Refused keeps old new (State fault) was is kept s = elim s [
+  | inl r ↦ inl (inl r)
+  | inr l ↦ inr (record { old = old; new = new; kept = kept; leaves = l })
+]
+stopped_under Honest Refused keeps old new (Merge fault) was is kept s = inr (record { old = old; new = new; kept = kept; leaves = s })

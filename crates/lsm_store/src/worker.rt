@@ -2,6 +2,7 @@
 
 ghost use Rattle.std.specs.Prelude.{◌≡◌, false, IfErr, IfOk, MatchBool, MatchOption, OnOk};
 ghost use Rattle.lsm_live.specs.Booked.{HasTicket, without};
+ghost use Rattle.lsm_state.specs.Gathering.{HasNoneToGather};
 ghost use Rattle.lsm_store.specs.Compacting.{IsCompactingStep, IsKeptByCompaction};
 ghost use Rattle.lsm_store.specs.Picking.{HasGathered, IsBooked, IsManual, IsPicked};
 ghost use Rattle.lsm_store.specs.Picking.{IsPickedUnder};
@@ -25,7 +26,7 @@ use crate::worker_end::WorkerEnd;
 use crate::worker_fault::WorkerFault;
 use lsm_merge::{Finished, Job, compact};
 use lsm_slots::Boarded;
-use lsm_state::{GatherFault, State, StateFault};
+use lsm_state::{State, StateFault};
 use lsm_table::{NamedShelf, Registry, Shelf};
 use std::alloc::{AllocError, Global};
 use std::sync::{Arc, Wait};
@@ -103,7 +104,31 @@ fn next_job<N: Boarded, S: Shelf>(
     }
 }
 
-/// Whether small files of level 0 were gathered: by workers that join files, where there are such.
+/// Whether small files of level 0 were gathered: where there were such.
+#[tactic(auto, using(crate::proofs::CompactingLaws::step_none))]
+fn gather_files<N: Boarded, S: Shelf, R: Wait>(
+    state: &mut State<N, S>,
+    rt: &R,
+    alloc: Global,
+    shelf: &mut NamedShelf<N, S>,
+) -> Result<bool, WorkerFault>
+    ensures step { IsCompactingStep S.honest state.old state.new }
+    ensures did { IfOk result (λ did. MatchBool did
+        (GathersFiles S.honest state.old state.new shelf.old shelf.new)
+        ((state.new ≡ state.old) × (shelf.new ≡ shelf.old) × HasNoneToGather state.old)) }
+    ensures refused { IfErr result (IsOfTurn S.honest) }
+    ensures stopped { IfErr result (λ e. FailsToGather S.honest (S.refuses N.place)
+        state.old state.new e shelf.old shelf.new) }
+{
+    match state.gather(rt, alloc, shelf) {
+        Ok(Some(_number)) => Ok(true),
+        Ok(None) => Ok(false),
+        Err(fault) => Err(WorkerFault::from(fault)),
+    }
+}
+
+/// The same of workers that join files; others gather nothing.
+#[tactic(auto, using(crate::proofs::CompactingLaws::step_none))]
 fn gather<N: Boarded, S: Shelf, R: Wait>(
     state: &mut State<N, S>,
     rt: &R,
@@ -120,14 +145,8 @@ fn gather<N: Boarded, S: Shelf, R: Wait>(
         state.old state.new e shelf.old shelf.new) }
 {
     match picks {
-        Picks::Choice => Ok(false),
-        Picks::Manual(_) => Ok(false),
-        Picks::Joining => match state.gather(rt, alloc, shelf) {
-            Ok(Some(_number)) => Ok(true),
-            Ok(None) => Ok(false),
-            Err(GatherFault::State(fault)) => Err(WorkerFault::State(fault)),
-            Err(GatherFault::Merge(fault)) => Err(WorkerFault::Merge(fault)),
-        },
+        Picks::Choice | Picks::Manual(_) => Ok(false),
+        Picks::Joining => gather_files(state, rt, alloc, shelf),
     }
 }
 
@@ -149,7 +168,8 @@ fn look<N: Boarded, S: Shelf, R: Wait>(
     ensures stopped { IfErr result (λ e. IsStoppedIn S.honest (S.refuses N.place)
         state.old state.new e shelf.old shelf.new) }
 {
-    if gather(state, rt, alloc, shelf, picks)? {
+    let gathered = gather(state, rt, alloc, shelf, picks)?;
+    if gathered {
         return Ok((true, None));
     }
     match next_job(state, alloc, picks) {
@@ -286,7 +306,8 @@ fn turn<N: Boarded, S: Shelf, K: Invariant, G: Gate, R: Wait>(
     ensures stopped { IfErr result (λ e.
         IsStoppedBy S.honest (S.refuses N.place) K.keeps e shelf.old shelf.new) }
 {
-    let (gathered, found) = look_under_lock(rt, alloc, store, shelf, picks)?;
+    let looked = look_under_lock(rt, alloc, store, shelf, picks)?;
+    let (gathered, found) = looked;
     if gathered {
         return Ok(Some(Turned::Gathered));
     }

@@ -20,7 +20,7 @@ gather_in-requires-clause-may g c κs within =
     let h : Held = c.args.self.now in
     let m : Held = c.find_slot.new.self in
     let least : ℕ = c.in-Some.least in
-    let may : MayGather h least = match_some c.in_ok-field-0.field-0 least (HasNoneToGather h) (MayGather h) c.in-Some.is c.in_ok-field-0.ensures.may in
+    let may : MayGather h least = match_some c.in_ok-least.field-0 least (HasNoneToGather h) (MayGather h) c.in-Some.is c.in_ok-least.ensures.may in
     let looked = c.find_slot.ensures.rest in
     let sought = c.find_slot.ensures.sought in
     may_looked h m least looked sought.looked.version may
@@ -30,7 +30,7 @@ returns-clause-ok g c =
     let h : Held = c.args.self.now in
     let m : Held = c.find_slot.new.self in
     let least : ℕ = c.in-Some.least in
-    let may : MayGather h least = match_some c.in_ok-field-0.field-0 least (HasNoneToGather h) (MayGather h) c.in-Some.is c.in_ok-field-0.ensures.may in
+    let may : MayGather h least = match_some c.in_ok-least.field-0 least (HasNoneToGather h) (MayGather h) c.in-Some.is c.in_ok-least.ensures.may in
     let looked = c.find_slot.ensures.rest in
     let sought = c.find_slot.ensures.sought in
     gathers_looked g.S.Shelf.honest h m c.gather_in.new.self least c.next_file-number.result c.args.shelf.now c.gather_in.new.shelf (c.next_file-number.ensures ∙ ap (λ (z : Held). z.next) looked) may looked sought c.in_ok-gather_in.ensures.ok
@@ -40,7 +40,7 @@ returns-clause-event g c =
     let h : Held = c.args.self.now in
     let m : Held = c.find_slot.new.self in
     let least : ℕ = c.in-Some.least in
-    let may : MayGather h least = match_some c.in_ok-field-0.field-0 least (HasNoneToGather h) (MayGather h) c.in-Some.is c.in_ok-field-0.ensures.may in
+    let may : MayGather h least = match_some c.in_ok-least.field-0 least (HasNoneToGather h) (MayGather h) c.in-Some.is c.in_ok-least.ensures.may in
     let looked = c.find_slot.ensures.rest in
     let sought = c.find_slot.ensures.sought in
     gathering_looked g.S.Shelf.honest h m c.gather_in.new.self looked sought c.in_ok-gather_in.ensures.event
@@ -50,7 +50,7 @@ returns-clause-answers g c =
     let h : Held = c.args.self.now in
     let m : Held = c.find_slot.new.self in
     let least : ℕ = c.in-Some.least in
-    let may : MayGather h least = match_some c.in_ok-field-0.field-0 least (HasNoneToGather h) (MayGather h) c.in-Some.is c.in_ok-field-0.ensures.may in
+    let may : MayGather h least = match_some c.in_ok-least.field-0 least (HasNoneToGather h) (MayGather h) c.in-Some.is c.in_ok-least.ensures.may in
     let looked = c.find_slot.ensures.rest in
     let sought = c.find_slot.ensures.sought in
     λ honest. answers_gathered g.S.Shelf.honest h c.gather_in.new.self (c.gathering_changes_no_answer.ensures (plain h) (plain c.gather_in.new.self) honest c.options-options.ensures.law.law (gathering_looked g.S.Shelf.honest h m c.gather_in.new.self looked sought c.in_ok-gather_in.ensures.event))
@@ -60,7 +60,7 @@ returns-clause-history g c =
     let h : Held = c.args.self.now in
     let m : Held = c.find_slot.new.self in
     let least : ℕ = c.in-Some.least in
-    let may : MayGather h least = match_some c.in_ok-field-0.field-0 least (HasNoneToGather h) (MayGather h) c.in-Some.is c.in_ok-field-0.ensures.may in
+    let may : MayGather h least = match_some c.in_ok-least.field-0 least (HasNoneToGather h) (MayGather h) c.in-Some.is c.in_ok-least.ensures.may in
     let looked = c.find_slot.ensures.rest in
     let sought = c.find_slot.ensures.sought in
     c.gather_in.ensures.history ∙ ap (λ (z : Held). z.history) looked
