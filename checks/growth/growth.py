@@ -21,10 +21,11 @@ FEW, MANY = 2000, 8000  # tables below deletions
 SLACK = 0.1  # seconds of the processor, which a machine may take more or less
 DELETIONS = 10000  # of each of the four tables of level 0
 READ_FEW, READ_MANY = 50, 250  # tables that are read
+DESCRIPTORS = 16 * READ_MANY + 64  # so that each of these stays open
 BLOCKS = 64  # of each of these, more than a channel's cache has room for
-READS, AT_ONCE = 20000, 100  # reads, and how many a request has
+READS, AT_ONCE = 100000, 100  # reads, and how many a request has
 SCAN_FEW, SCAN_MANY = 1000, 2000  # tables in which scans begin
-SCANS = 4000
+SCANS = 20000
 TURNS = 3  # of a server; the least time counts
 SPARE = 8 << 20  # bytes of memory, which a run may take more or less
 
@@ -183,7 +184,15 @@ def refused_unread(lsm, folder, name, refusal, few):
     print(said)
 
 
+def raise_descriptors():
+    _soft, hard = resource.getrlimit(resource.RLIMIT_NOFILE)
+    if hard != resource.RLIM_INFINITY and hard < DESCRIPTORS:
+        stop(f"needs {DESCRIPTORS} descriptors, of which a reader keeps a sixteenth open; the limit is {hard}")
+    resource.setrlimit(resource.RLIMIT_NOFILE, (DESCRIPTORS, hard))
+
+
 def main(lsm, server, folder):
+    raise_descriptors()
     refused_unread(lsm, f"{folder}/manifest", "MANIFEST-000001", "refused 9 Device", (1 << 30) + 1)
     refused_unread(lsm, f"{folder}/current", "CURRENT", "refused 10 Missing", 64 << 20)
     tables = FEW, MANY

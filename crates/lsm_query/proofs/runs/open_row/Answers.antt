@@ -1,13 +1,12 @@
-use Rattle.std.proofs.Common.{◌≡◌, ◌∙◌, ◌<◌, ◌++◌, ◌∷◌, List, [], None, ap, append-nil, arith, drop, length, map, sym, subst, inl}
-use Rattle.std.specs.List.{All}
+use Rattle.std.proofs.Common.{◌≡◌, ◌∙◌, ◌++◌, ◌∷◌, List, [], None, ap, append-nil, arith, length, map, sym, subst, inl}
 use Rattle.std.proofs.lemmas.Bool.{eq-eqb, eqb-false, eqb-true}
 use Rattle.std.proofs.lemmas.List.{map-append, nil_from_length}
 use Rattle.std.proofs.lemmas.Result.{err_from_is_err_and}
 use Rattle.lsm_codec.specs.Lists.{Has}
 use Rattle.lsm_table.specs.Registry.{Table, image_of}
-use Rattle.lsm_model.specs.Merging.{IsSorted, Placed, placed_at}
-use Rattle.lsm_iterators.specs.Runs.{HasEntries, entries_of_all, once}
-use Rattle.lsm_iterators.specs.Seeking.{IsReached, at_or_past}
+use Rattle.lsm_model.specs.Merging.{Placed}
+use Rattle.lsm_iterators.specs.Runs.{once}
+use Rattle.lsm_iterators.specs.Seeking.{at_or_past}
 use Rattle.lsm_version.specs.Reads.{IsFirstReaching, IsRising}
 use Rattle.lsm_version.proofs.CallerLemmas.{level_rises}
 use Rattle.lsm_query.specs.Runs.{entries_after, run_of}

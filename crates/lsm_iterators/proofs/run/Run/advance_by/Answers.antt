@@ -1,11 +1,10 @@
-use Rattle.std.proofs.Common.{rules, ◌≡◌, ◌++◌, ◌∷◌, [], ℕ, List, Option, IfSome, false, ap, sym, subst, ◌∙◌, inr}
+use Rattle.std.proofs.Common.{rules, ◌≡◌, ◌∷◌, [], ℕ, Option, IfSome, false, ap, sym, subst, ◌∙◌, inr}
 use Rattle.std.proofs.lemmas.Result.{err_from_is_err_and}
-use Rattle.lsm_codec.specs.Entries.{Entry}
 use Rattle.lsm_codec.specs.Lists.{Has}
 use Rattle.lsm_block.specs.Standing.{IsMovedBy, but_first, is_end}
 use Rattle.lsm_model.specs.Merging.{placed_at}
 use Rattle.lsm_iterators.specs.Heads.{after_first}
-use Rattle.lsm_iterators.specs.Runs.{HasEntries, InFile, IsFirst, IsFirstOf, IsOfFirst, Left, entries_of_all, files_at}
+use Rattle.lsm_iterators.specs.Runs.{HasEntries, InFile, IsFirst, IsFirstOf, IsOfFirst, Left, entries_of_all}
 use Rattle.lsm_iterators.proofs.RunLaws.{all_rest, first_files, first_left, first_numbered, last_if_some, last_numbered, last_placed, of_first}
 use Rattle.lsm_iterators.proofs.run.Run.advance_by.Goals as goal
 

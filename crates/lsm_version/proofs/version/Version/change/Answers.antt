@@ -1,4 +1,4 @@
-use Rattle.std.proofs.Common.{List, length, map, ap, sym, subst, ◌∙◌}
+use Rattle.std.proofs.Common.{List, length, ap, sym, subst, ◌∙◌}
 use Rattle.std.proofs.lemmas.List.{length-map}
 use Rattle.std.proofs.lemmas.Result.{IfOk-weaker}
 use Rattle.lsm_table.specs.Registry.{Table}
