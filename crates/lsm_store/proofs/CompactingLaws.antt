@@ -9,7 +9,7 @@ use Rattle.std.proofs.lemmas.Option.{slice_get_within, get_or_from_slice_get}
 use Rattle.lsm_model.specs.Jobs.{Job}
 use Rattle.lsm_model.specs.Plans.{Plan}
 use Rattle.lsm_model.specs.Plain.{Cancels, Draws, Reserves, Spends}
-use Rattle.lsm_model.specs.Runs.{Event, Run, Cancel, Draw, Gather, Install, Reserve, Spend}
+use Rattle.lsm_model.specs.Runs.{Event, Run, Cancel, Draw, Install, Reserve, Spend}
 use Rattle.lsm_codec.specs.Lists.{Has}
 use Rattle.lsm_version.specs.Versions.{Levels, files}
 use Rattle.lsm_version.specs.Changes.{changed}
@@ -22,16 +22,11 @@ use Rattle.lsm_shelf.specs.Told.{Told}
 use Rattle.lsm_live.specs.Booked.{booked, without}
 use Rattle.lsm_merge.specs.Work.{Done, Work}
 use Rattle.lsm_state.specs.Held.{Held, plain}
-use Rattle.lsm_state.specs.Changing.{IsChangeRefusal, halts, next_spent}
-use Rattle.lsm_state.specs.Gathering.{GatherLacksSlot, Gathers, IsGatherRefusal, IsGathering, IsRefusedIn}
-use Rattle.lsm_state.specs.Ingesting.{with_number, with_slots}
-use Rattle.lsm_state.specs.declared.gather_fault.GatherFault.{GatherFault}
-use Rattle.lsm_state.specs.declared.gather_fault.GatherFault.TheVariants as gather
 use Rattle.lsm_state.specs.Installing.{Installed, IsInstallRefusal, IsInstalling, IsRefusedLater, SameAnswers}
 use Rattle.lsm_state.specs.Reserving.{reserved}
 use Rattle.lsm_state.specs.declared.state_fault.StateFault.{StateFault}
 use Rattle.lsm_state.specs.declared.state_fault.StateFault.TheVariants.{OutOfMemory, Shelf, Read, BadLevel, EmptyBatch, KeyOrder, TooLarge, LevelZeroFull, SequencesSpent, Halted, UnknownSnapshot, Conflict, UnknownTicket, NumbersSpent, Stale, SlotsHeld, VersionsSpent, PinsSpent}
-use Rattle.lsm_store.specs.Compacting.{AddsCurrentAlone, IsAsFound, IsCompactingStep, IsKeptByCompaction, IsOfWorkers, changes_in, pins_in, pins_of}
+use Rattle.lsm_store.specs.Compacting.{AddsCurrentAlone, IsAsFound, IsCompactingStep, IsKeptByCompaction, IsOfWorkers, installs_in, pins_in, pins_of}
 
 -- ---- pins
 
@@ -134,11 +129,11 @@ abbrev Beside : Held → Held → Type 0
 Beside was mid = (mid.slots ≡ was.slots) × (mid.history ≡ was.history) × (mid.snapshots ≡ was.snapshots) × (mid.options ≡ was.options) × (mid.pinners ≡ was.pinners)
 
 -- where the slots stay, and nothing was installed, the current id stays
-same_id : (was is : Held) (events : List Event) → is.slots ≡ was.slots → changes_in events ≡ 0 → current_id is.slots ≡ current_id was.slots + changes_in events
+same_id : (was is : Held) (events : List Event) → is.slots ≡ was.slots → installs_in events ≡ 0 → current_id is.slots ≡ current_id was.slots + installs_in events
 same_id was is events slots none = let same : current_id is.slots ≡ current_id was.slots = ap current_id slots in omega (arith, same, none)
 
 step_beside : (Honest : Type 0) (was is mid : Held) (events : List Event) → is ≡ mid → Beside was mid → ((e : Event) → Has events e → IsOfWorkers e)
-    → Run Honest (plain was) events (plain is) → changes_in events ≡ 0 → IsCompactingStep Honest was is
+    → Run Honest (plain was) events (plain is) → installs_in events ≡ 0 → IsCompactingStep Honest was is
 step_beside Honest was is mid events e b only run none = record {
   run = record { events = events; only = only; run = run; ids = same_id was is events (ap (λ (h : Held). h.slots) e ∙ b.0) none };
   options = ap (λ (h : Held). h.options) e ∙ b.3;
@@ -236,89 +231,6 @@ step_refused Honest was is d e t u refused event = elim refused [
         slots = adds_looked was.slots is.slots looked;
       }
 ]
-
--- ---- gathers
-
-pub step_gathered : (Honest : Type 0) (was is : Held) (number : ℕ) (t u : Told) → Gathers Honest was is number t u → (Honest → SameAnswers was is) → IsGathering Honest was is → IsCompactingStep Honest was is
-step_gathered Honest was is number t u i answers event =
-    let rest = i.changes.rest in
-    record {
-      run = record {
-        events = Gather ∷ [];
-        only = one_event _ tt;
-        run = (plain is, event, refl);
-        ids = (let sought = i.sought.looked.id in let next = i.changes.published.id in omega (arith, sought, next));
-      };
-      options = ap (λ (h : Held). h.options) rest;
-      pinners = ap (λ (h : Held). h.pinners) rest;
-      found = record {
-        history = ap (λ (h : Held). h.history) rest;
-        last = ap (λ (v : Levels). v.last) i.changes.published.version_is ∙ last_after i.change i.slots.version ∙ (i.its.last_is ∙ refl);
-        snapshots = ap (λ (h : Held). h.snapshots) rest;
-        pins = λ id. pins_published i.slots is.slots _ i.changes.published id ∙ pins_looked was.slots i.slots i.sought.looked id;
-        answers = answers;
-      };
-      slots = adds_published was.slots i.slots is.slots _ i.sought.looked i.changes.published;
-    }
-
--- what a refused gather leaves but the next number, the slots, and whether the state is halted
-abbrev Stays : Held → Held → Type 0
-Stays was is = (is.history ≡ was.history) × (is.snapshots ≡ was.snapshots) × (is.options ≡ was.options) × (is.pinners ≡ was.pinners)
-
-stays_by : (was is mid : Held) → is ≡ mid → Stays was mid → Stays was is
-stays_by was is mid e s = (ap (λ (h : Held). h.history) e ∙ s.0, ap (λ (h : Held). h.snapshots) e ∙ s.1, ap (λ (h : Held). h.options) e ∙ s.2, ap (λ (h : Held). h.pinners) e ∙ s.3)
-
-changed_stays : (was is x : Held) (e : StateFault) (t u : Told) → IsChangeRefusal x is e t u → Stays was x → Stays was is
-changed_stays was is x OutOfMemory t u r s = stays_by was is x r.0 s
-changed_stays was is x (Shelf fault) t u r s = stays_by was is (record x { next = next_spent x; halted = halts fault }) r.0 s
-changed_stays was is x (Read fault) t u r s = absurd r
-changed_stays was is x (BadLevel n) t u r s = absurd r
-changed_stays was is x EmptyBatch t u r s = absurd r
-changed_stays was is x (KeyOrder n) t u r s = absurd r
-changed_stays was is x TooLarge t u r s = absurd r
-changed_stays was is x LevelZeroFull t u r s = absurd r
-changed_stays was is x SequencesSpent t u r s = absurd r
-changed_stays was is x Halted t u r s = absurd r
-changed_stays was is x (UnknownSnapshot n) t u r s = absurd r
-changed_stays was is x (Conflict n) t u r s = absurd r
-changed_stays was is x (UnknownTicket n) t u r s = absurd r
-changed_stays was is x NumbersSpent t u r s = absurd r
-changed_stays was is x Stale t u r s = absurd r
-changed_stays was is x SlotsHeld t u r s = absurd r
-changed_stays was is x VersionsSpent t u r s = absurd r
-changed_stays was is x PinsSpent t u r s = absurd r
-
-merging_stays : (Honest : Type 0) (was is : Held) (least : ℕ) (e : GatherFault) (t u : Told) → IsRefusedIn Honest was is least e t u → Stays was is
-merging_stays Honest was is least (gather.State e) t u (inl r) = stays_by was is (with_slots was is.slots) r.1 (refl, refl, refl, refl)
-merging_stays Honest was is least (gather.State e) t u (inr r) = changed_stays was is (with_number was is.slots) e r.1 u r.4 (refl, refl, refl, refl)
-merging_stays Honest was is least (gather.Merge e) t u (inl r) = stays_by was is (with_number was is.slots) r.0 (refl, refl, refl, refl)
-merging_stays Honest was is least (gather.Merge e) t u (inr r) = absurd r
-
-step_spent : (Honest : Type 0) (was is : Held) → Looked was.slots is.slots → Stays was is → Spends (plain was) (plain is) → IsCompactingStep Honest was is
-step_spent Honest was is looked same event = record {
-  run = record { events = Spend ∷ []; only = one_event _ tt; run = (plain is, event, refl); ids = (let id = looked.id in omega (arith, id)) };
-  options = same.2;
-  pinners = same.3;
-  found = record {
-    history = same.0;
-    last = ap (λ (v : Levels). v.last) looked.version;
-    snapshots = same.1;
-    pins = λ id. pins_looked was.slots is.slots looked id;
-    answers = λ h. same_answers was is looked.version;
-  };
-  slots = adds_looked was.slots is.slots looked;
-}
-
-lacking_stays : (was is : Held) (e : GatherFault) (t u : Told) → GatherLacksSlot was is e t u → (is ≡ with_slots was is.slots) × Looked was.slots is.slots
-lacking_stays was is (gather.State e) t u r = (r.0, r.1.looked)
-lacking_stays was is (gather.Merge e) t u r = absurd r
-
-pub step_ungathered : (Honest : Type 0) (was is : Held) (e : GatherFault) (t u : Told) → IsGatherRefusal Honest was is e t u → Spends (plain was) (plain is) → IsCompactingStep Honest was is
-step_ungathered Honest was is e t u (inl once) event = step_none Honest was is once.1
-step_ungathered Honest was is e t u (inr (least, may, inl lacks)) event =
-    let r = lacking_stays was is e t u lacks in
-    step_spent Honest was is r.1 (stays_by was is (with_slots was is.slots) r.0 (refl, refl, refl, refl)) event
-step_ungathered Honest was is e t u (inr (least, may, inr (sought, slot, rest))) event = step_spent Honest was is sought.looked (merging_stays Honest was is least e t u rest) event
 
 -- ---- the fact
 

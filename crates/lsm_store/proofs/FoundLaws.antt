@@ -4,12 +4,12 @@ use Rattle.std.proofs.Math.Logic.{∥∥₁_elim, ∥∥₁_map, ∥∥₁_prop}
 use Rattle.std.proofs.Props.{props}
 use Rattle.lsm_codec.specs.Lists.{Has}
 use Rattle.lsm_model.specs.Plain.{IsReadable, Plain}
-use Rattle.lsm_model.specs.Runs.{Event, Run, Ingest, Snapshot, Release, Reserve, Cancel, Draw, Install, Gather, Spend, Nothing}
+use Rattle.lsm_model.specs.Runs.{Event, Run, Ingest, Snapshot, Release, Reserve, Cancel, Draw, Install, Spend, Nothing}
 use Rattle.lsm_slots.specs.Slots.{Looked, current_id}
 use Rattle.lsm_slots.specs.Snapshots.{Taken}
 use Rattle.lsm_state.specs.Held.{Held, plain}
 use Rattle.lsm_version.specs.Versions.{Levels}
-use Rattle.lsm_store.specs.Compacting.{IsAsFound, IsKeptByCompaction, IsLeftByWorkers, IsSeated, IsWorkersRun, changes_in}
+use Rattle.lsm_store.specs.Compacting.{IsAsFound, IsKeptByCompaction, IsLeftByWorkers, IsSeated, IsWorkersRun, installs_in}
 use Rattle.lsm_store.proofs.CompactingLaws.{found_by_parts, found_looked}
 
 -- where the last sequence and the snapshots stay, so do the reads that are promised
@@ -41,26 +41,25 @@ among (x ∷ es) fs e h = elim h [
   | inr t ↦ elim (among es fs e t) [ inl l ↦ inl (inr l) | inr r ↦ inr r ]
 ]
 
--- versions of both runs
-changes_then : (es fs : List Event) → changes_in (es ++ fs) ≡ changes_in es + changes_in fs
-changes_then [] fs = omega arith
-changes_then (Ingest entries ∷ es) fs = changes_then es fs
-changes_then (Snapshot ∷ es) fs = changes_then es fs
-changes_then (Release id ∷ es) fs = changes_then es fs
-changes_then (Reserve plan job ∷ es) fs = changes_then es fs
-changes_then (Cancel ticket ∷ es) fs = changes_then es fs
-changes_then (Draw ticket ∷ es) fs = changes_then es fs
-changes_then (Install ticket ∷ es) fs = let rest = changes_then es fs in omega (arith, rest)
-changes_then (Gather ∷ es) fs = let rest = changes_then es fs in omega (arith, rest)
-changes_then (Spend ∷ es) fs = changes_then es fs
-changes_then (Nothing ∷ es) fs = changes_then es fs
+-- installs of both runs
+installs_then : (es fs : List Event) → installs_in (es ++ fs) ≡ installs_in es + installs_in fs
+installs_then [] fs = omega arith
+installs_then (Ingest entries ∷ es) fs = installs_then es fs
+installs_then (Snapshot ∷ es) fs = installs_then es fs
+installs_then (Release id ∷ es) fs = installs_then es fs
+installs_then (Reserve plan job ∷ es) fs = installs_then es fs
+installs_then (Cancel ticket ∷ es) fs = installs_then es fs
+installs_then (Draw ticket ∷ es) fs = installs_then es fs
+installs_then (Install ticket ∷ es) fs = let rest = installs_then es fs in omega (arith, rest)
+installs_then (Spend ∷ es) fs = installs_then es fs
+installs_then (Nothing ∷ es) fs = installs_then es fs
 
 run_then : (Honest : Type 0) (a b c : Held) → IsWorkersRun Honest a b → IsWorkersRun Honest b c → IsWorkersRun Honest a c
 run_then Honest a b c first second = record {
   events = first.events ++ second.events;
   only = λ e h. elim (among first.events second.events e h) [ inl l ↦ first.only e l | inr r ↦ second.only e r ];
   run = ran Honest (plain a) (plain b) (plain c) first.events second.events first.run second.run;
-  ids = (let x = first.ids in let y = second.ids in let all = changes_then first.events second.events in omega (arith, x, y, all));
+  ids = (let x = first.ids in let y = second.ids in let all = installs_then first.events second.events in omega (arith, x, y, all));
 }
 
 -- nothing was done that the plain machine sees

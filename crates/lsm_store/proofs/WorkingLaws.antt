@@ -4,16 +4,13 @@ use Rattle.std.specs.Prelude.{MatchBool, min, reverse, Result, Ok, Err, OnOk}
 use Rattle.std.proofs.lemmas.List.{append-nil, append_assoc, map-append, nil_from_length, reverse-append}
 use Rattle.lsm_codec.specs.Lists.{Has}
 use Rattle.lsm_shelf.specs.Asked.{Asked, Put, StartManifest, AppendManifest}
-use Rattle.lsm_shelf.specs.Told.{Told, Becomes, Counted, appending, putting, sending}
+use Rattle.lsm_shelf.specs.Told.{Told, Becomes, Counted, appending, sending}
 use Rattle.lsm_shelf.specs.declared.shelf_fault.ShelfFault.{ShelfFault}
 use Rattle.lsm_shelf.specs.declared.shelf_fault.ShelfFault.TheVariants as why
 use Rattle.lsm_table.specs.ReadFault.{ReadCounted}
-use Rattle.lsm_table.specs.TableBuilding.{table_bytes}
-use Rattle.lsm_table.specs.declared.table_options.TableOptions.{TableOptions}
 use Rattle.lsm_table.specs.declared.read_fault.ReadFault.{ReadFault}
 use Rattle.lsm_table.specs.declared.read_fault.ReadFault.TheVariants as read
 use Rattle.lsm_merge.specs.Causes.{HasCause}
-use Rattle.lsm_merge.specs.Gathering.{PutsAtMost}
 use Rattle.lsm_merge.specs.Inputs.{input_numbers}
 use Rattle.lsm_merge.specs.Outputs.{going, putting_all}
 use Rattle.lsm_merge.specs.Work.{Done, Work, puts_by}
@@ -25,21 +22,13 @@ use Rattle.lsm_journal.specs.HeldManifest.{HeldManifest, is_at_limit}
 use Rattle.lsm_journal.specs.Difference.{Difference, changed_by}
 use Rattle.lsm_journal.specs.Sending.{Sends}
 use Rattle.lsm_version.specs.Versions.{Levels}
-use Rattle.lsm_state.specs.Changing.{IsChangeRefusal}
-use Rattle.lsm_state.specs.Gathering.{GatherLacksSlot, IsGatherRefusal, IsRefusedIn}
 use Rattle.lsm_state.specs.Held.{Held}
-use Rattle.lsm_state.specs.Ingesting.{with_number}
-use Rattle.lsm_state.specs.Options.{sizes_of}
-use Rattle.lsm_state.specs.declared.gather_fault.GatherFault.{GatherFault}
-use Rattle.lsm_state.specs.declared.gather_fault.GatherFault.TheVariants as gather
 use Rattle.lsm_state.specs.Installing.{IsInstallRefusal}
 use Rattle.lsm_state.specs.declared.state_fault.StateFault.{StateFault}
 use Rattle.lsm_state.specs.declared.state_fault.StateFault.TheVariants as state
 use Rattle.lsm_store.specs.Picking.{IsPickedUnder}
-use Rattle.lsm_store.specs.Working.{AreReturned, Given, IsCounted, IsCountedIf, IsDone, IsLast, IsPutOrSent, IsRefusedBy, IsReturned, IsStoppedBy, IsTaken, IsCompacted, IsGatheredUnder, IsTurn, IsUngatheredUnder, IsUnmerged, IsWorked, OnlyPutsAndSends, Turns, compactions_in, given_each, given_one}
+use Rattle.lsm_store.specs.Working.{AreReturned, Given, IsCounted, IsCountedIf, IsDone, IsLast, IsPutOrSent, IsRefusedBy, IsReturned, IsStoppedBy, IsTaken, IsTurn, IsWorked, OnlyPutsAndSends, Turns, given_each, given_one}
 use Rattle.lsm_store.specs.declared.picks.Picks.{Picks}
-use Rattle.lsm_store.specs.declared.turned.Turned.{Turned}
-use Rattle.lsm_store.specs.declared.turned.Turned.TheVariants.{Compacted, Gathered}
 use Rattle.lsm_store.specs.declared.worker_end.WorkerEnd.{WorkerEnd}
 use Rattle.lsm_store.specs.declared.worker_fault.WorkerFault.{WorkerFault}
 use Rattle.lsm_store.specs.declared.worker_fault.WorkerFault.TheVariants.{NoThread, State, Merge}
@@ -164,81 +153,19 @@ only_taken keeps d was is t =
 only_done : (Honest : Type 0) (keeps : Held → Type 0) (work : Work) (was is : Told) → IsDone Honest keeps work was is → OnlyPutsAndSends was is
 only_done Honest keeps work was is t = only_then was t.put is (only_put (puts_by t.result) was t.put t.merged.told) (only_taken keeps t.result t.put is t.taken)
 
--- ---- gathers
-
-only_put_one : (number : ℕ) (image : List ℕ) (was is : Told) → Becomes (putting number image was) is → OnlyPutsAndSends was is
-only_put_one number image was is b = record {
-  place = b.place;
-  gone = b.gone;
-  listed = b.listed;
-  found = b.found;
-  forks = b.forks;
-  faults = b.faults;
-  misses = b.misses;
-  calls = Put number image ∷ [];
-  made = b.made;
-  each = λ a h. only_one (Put number image) a tt h;
-}
-
-only_gathered : (Honest : Type 0) (keeps : Held → Type 0) (was is : Told) → IsGatheredUnder Honest keeps was is → OnlyPutsAndSends was is
-only_gathered Honest keeps was is u =
-    let g = u.gathers.gathers in
-    only_then was g.mid is (only_put_one u.old.next g.table.image was g.mid g.put)
-    (only_sent g.change (changed_by g.change g.slots.version) (suc u.old.next) u.new.next u.old.journal u.new.journal g.mid is g.changes.sends)
-
-only_at_most : (number : ℕ) (sizes : TableOptions) (was is : Told) → PutsAtMost number sizes was is → OnlyPutsAndSends was is
-only_at_most number sizes was is (inl b) = only_becomes was is b
-only_at_most number sizes was is (inr p) = only_put_one number (table_bytes sizes p.0) was is p.1
-
-only_same : (was is : Told) → is ≡ was → OnlyPutsAndSends was is
-only_same was is e = subst (λ (t : Told). OnlyPutsAndSends was t) (sym e) (only_none was)
-
-only_merging : (Honest : Type 0) (old new : Held) (least : ℕ) (e : GatherFault) (was is : Told) → IsRefusedIn Honest old new least e was is → OnlyPutsAndSends was is
-only_merging Honest old new least (gather.State e) was is (inl r) = only_same was is r.2
-only_merging Honest old new least (gather.State e) was is (inr r) = only_then was r.1 is (only_put_one old.next r.0.image was r.1 r.3) (only_becomes r.1 is r.5)
-only_merging Honest old new least (gather.Merge e) was is (inl r) = only_at_most old.next (sizes_of old.options) was is r.1.told
-only_merging Honest old new least (gather.Merge e) was is (inr r) = absurd r
-
-only_lacking : (old new : Held) (e : GatherFault) (was is : Told) → GatherLacksSlot old new e was is → OnlyPutsAndSends was is
-only_lacking old new (gather.State e) was is r = only_same was is r.3
-only_lacking old new (gather.Merge e) was is r = absurd r
-
-only_ungathered : (Honest : Type 0) (Refused : Asked → ShelfFault → Type 0) (keeps : Held → Type 0) (e : GatherFault) (was is : Told) → IsUngatheredUnder Honest Refused keeps e was is → OnlyPutsAndSends was is
-only_ungathered Honest Refused keeps e was is u = go u.leaves.refusal
-  where
-    go : IsGatherRefusal Honest u.old u.new e was is → OnlyPutsAndSends was is
-    go (inl once) = only_same was is once.2
-    go (inr (least, may, inl lacks)) = only_lacking u.old u.new e was is lacks
-    go (inr (least, may, inr (sought, slot, rest))) = only_merging Honest u.old u.new least e was is rest
-
--- ---- turns
-
-only_turn : (Honest : Type 0) (keeps : Held → Type 0) (picks : Picks) (t : Turned) (was is : Told) → IsTurn Honest keeps picks t was is → OnlyPutsAndSends was is
-only_turn Honest keeps picks Gathered was is u = only_gathered Honest keeps was is u
-only_turn Honest keeps picks Compacted was is u = only_done Honest keeps u.work was is u.done
-
-pub only_turns : (Honest : Type 0) (keeps : Held → Type 0) (picks : Picks) (ts : List Turned) (was is : Told) → Turns Honest keeps picks ts was is → OnlyPutsAndSends was is
-only_turns Honest keeps picks [] was is e = only_same was is e
-only_turns Honest keeps picks (t ∷ ts) was is u = only_then was u.0 is (only_turns Honest keeps picks ts was u.0 u.1) (only_turn Honest keeps picks t u.0 is u.2)
-
-only_refused : (Honest : Type 0) (Refused : Asked → ShelfFault → Type 0) (keeps : Held → Type 0) (e : StateFault) (was is : Told) → IsRefusedBy Honest Refused keeps e was is → OnlyPutsAndSends was is
-only_refused Honest Refused keeps e was is l = elim l [
-  | inl r ↦ only_same was is r.1
-  | inr r ↦ only_then was r.1 is (only_put (puts_by r.0) was r.1 r.2.told) (only_becomes r.1 is r.3.leaves.unsent)
-]
+pub only_turns : (Honest : Type 0) (keeps : Held → Type 0) (picks : Picks) (count : ℕ) (was is : Told) → Turns Honest keeps picks count was is → OnlyPutsAndSends was is
+only_turns Honest keeps picks zero was is e = subst (λ (t : Told). OnlyPutsAndSends was t) (sym e) (only_none was)
+only_turns Honest keeps picks (suc count) was is t = only_then was t.0 is (only_turns Honest keeps picks count was t.0 t.1) (only_done Honest keeps t.2.work t.0 is t.2.done)
 
 only_last : (Honest : Type 0) (Refused : Asked → ShelfFault → Type 0) (keeps : Held → Type 0) (given : Given) (fault : Option WorkerFault) (was is : Told)
     → IsLast Honest Refused keeps given fault was is → OnlyPutsAndSends was is
 only_last Honest Refused keeps given None was is l = subst (λ (t : Told). OnlyPutsAndSends was t) (sym l.0) (only_none was)
 only_last Honest Refused keeps given (Some NoThread) was is l = absurd l
 only_last Honest Refused keeps given (Some (State fault)) was is l = elim l [
-  | inl r ↦ only_refused Honest Refused keeps fault was is r
-  | inr u ↦ only_ungathered Honest Refused keeps (gather.State fault) was is u
+  | inl r ↦ subst (λ (t : Told). OnlyPutsAndSends was t) (sym r.1) (only_none was)
+  | inr r ↦ only_then was r.1 is (only_put (puts_by r.0) was r.1 r.2.told) (only_becomes r.1 is r.3.leaves.unsent)
 ]
-only_last Honest Refused keeps given (Some (Merge fault)) was is l = elim l [
-  | inl r ↦ only_put r.told.tables was is r.told.told
-  | inr u ↦ only_ungathered Honest Refused keeps (gather.Merge fault) was is u
-]
+only_last Honest Refused keeps given (Some (Merge fault)) was is l = only_put l.told.tables was is l.told.told
 
 pub only_worked : (Honest : Type 0) (Refused : Asked → ShelfFault → Type 0) (keeps : Held → Type 0) (given : Given) (e : WorkerEnd) (back : Told)
     → IsWorked Honest Refused keeps given e back → OnlyPutsAndSends given.shelf back
@@ -298,57 +225,12 @@ state_counted Honest Refused keeps state.SlotsHeld a b c p r = tt
 state_counted Honest Refused keeps state.VersionsSpent a b c p r = tt
 state_counted Honest Refused keeps state.PinsSpent a b c p r = tt
 
-change_counted : (fault : ShelfFault) (x y : Held) (was is : Told) → IsChangeRefusal x y (state.Shelf fault) was is → Counted fault was is
-change_counted fault x y was is r = r.1.1
-
-ungathered_state : (Honest : Type 0) (fault : ShelfFault) (old new : Held) (was is : Told) → IsGatherRefusal Honest old new (gather.State (state.Shelf fault)) was is → Counted fault was is
-ungathered_state Honest fault old new was is (inl once) = absurd once.0
-ungathered_state Honest fault old new was is (inr (least, may, inl lacks)) = absurd lacks.2
-ungathered_state Honest fault old new was is (inr (least, may, inr (sought, slot, inl r))) = (let no : state.Shelf fault ≡ state.OutOfMemory = r.0 in absurd (cc no))
-ungathered_state Honest fault old new was is (inr (least, may, inr (sought, slot, inr r))) =
-    (let f = r.3.faults in
-    let m = r.3.misses in
-    counted_from fault was r.1 is (f, m) (change_counted fault (with_number old new.slots) new r.1 is r.4))
-
-gather_counted : (Honest : Type 0) (Refused : Asked → ShelfFault → Type 0) (keeps : Held → Type 0) (e : StateFault) (a b c : Told) → NoFewer a b
-    → IsUngatheredUnder Honest Refused keeps (gather.State e) b c → IsCounted (State e) a c
-gather_counted Honest Refused keeps (state.Shelf fault) a b c p u = counted_from fault a b c p (ungathered_state Honest fault u.old u.new b c u.leaves.refusal)
-gather_counted Honest Refused keeps state.OutOfMemory a b c p u = tt
-gather_counted Honest Refused keeps (state.Read fault) a b c p u = tt
-gather_counted Honest Refused keeps (state.BadLevel n) a b c p u = tt
-gather_counted Honest Refused keeps state.EmptyBatch a b c p u = tt
-gather_counted Honest Refused keeps (state.KeyOrder n) a b c p u = tt
-gather_counted Honest Refused keeps state.TooLarge a b c p u = tt
-gather_counted Honest Refused keeps state.LevelZeroFull a b c p u = tt
-gather_counted Honest Refused keeps state.SequencesSpent a b c p u = tt
-gather_counted Honest Refused keeps state.Halted a b c p u = tt
-gather_counted Honest Refused keeps (state.UnknownSnapshot n) a b c p u = tt
-gather_counted Honest Refused keeps (state.Conflict n) a b c p u = tt
-gather_counted Honest Refused keeps (state.UnknownTicket n) a b c p u = tt
-gather_counted Honest Refused keeps state.NumbersSpent a b c p u = tt
-gather_counted Honest Refused keeps state.Stale a b c p u = tt
-gather_counted Honest Refused keeps state.SlotsHeld a b c p u = tt
-gather_counted Honest Refused keeps state.VersionsSpent a b c p u = tt
-gather_counted Honest Refused keeps state.PinsSpent a b c p u = tt
-
-ungathered_merge : (Honest : Type 0) (e : MergeFault) (old new : Held) (a b c : Told) → NoFewer a b → IsGatherRefusal Honest old new (gather.Merge e) b c → IsCounted (Merge e) a c
-ungathered_merge Honest e old new a b c p (inl once) = absurd once.0
-ungathered_merge Honest e old new a b c p (inr (least, may, inl lacks)) = absurd lacks
-ungathered_merge Honest e old new a b c p (inr (least, may, inr (sought, slot, inl r))) = merge_counted _ e a b c p r.1.cause
-ungathered_merge Honest e old new a b c p (inr (least, may, inr (sought, slot, inr r))) = absurd r
-
 last_counted : (Honest : Type 0) (Refused : Asked → ShelfFault → Type 0) (keeps : Held → Type 0) (given : Given) (fault : Option WorkerFault) (a b c : Told) → NoFewer a b
     → IsLast Honest Refused keeps given fault b c → IsCountedIf fault a c
 last_counted Honest Refused keeps given None a b c p l = tt
 last_counted Honest Refused keeps given (Some NoThread) a b c p l = tt
-last_counted Honest Refused keeps given (Some (State fault)) a b c p l = elim l [
-  | inl r ↦ state_counted Honest Refused keeps fault a b c p r
-  | inr u ↦ gather_counted Honest Refused keeps fault a b c p u
-]
-last_counted Honest Refused keeps given (Some (Merge fault)) a b c p l = elim l [
-  | inl r ↦ merge_counted (input_numbers r.work) fault a b c p r.cause
-  | inr u ↦ ungathered_merge Honest fault u.old u.new a b c p u.leaves.refusal
-]
+last_counted Honest Refused keeps given (Some (State fault)) a b c p l = state_counted Honest Refused keeps fault a b c p l
+last_counted Honest Refused keeps given (Some (Merge fault)) a b c p l = merge_counted (input_numbers l.work) fault a b c p l.cause
 
 pub worked_counted : (Honest : Type 0) (Refused : Asked → ShelfFault → Type 0) (keeps : Held → Type 0) (given : Given) (e : WorkerEnd) (back : Told)
     → IsWorked Honest Refused keeps given e back → IsCountedIf e.fault given.shelf back
@@ -385,7 +267,7 @@ same_given p q a b t u e f g = cc
 
 -- a job that was picked and was done is a compaction
 pub turned : (Honest : Type 0) (keeps : Held → Type 0) (picks : Picks) (work : Work) (was is : Told) → (Honest → IsPickedUnder keeps picks (Some work)) → IsDone Honest keeps work was is
-    → IsCompacted Honest keeps picks was is
+    → IsTurn Honest keeps picks was is
 turned Honest keeps picks work was is picked done = record { work = work; picked = picked; done = done }
 
 -- ---- outcomes

@@ -4,7 +4,6 @@ use Rattle.lsm_picker.specs.Choice.{HasNoChoice}
 use Rattle.lsm_picker.specs.Joining.{Span}
 use Rattle.lsm_live.specs.Reserving.{reserved_jobs}
 use Rattle.lsm_merge.specs.Work.{Work}
-use Rattle.lsm_state.specs.Gathering.{HasNoneToGather}
 use Rattle.lsm_state.specs.Held.{Held}
 use Rattle.lsm_state.specs.Reserving.{HasNoNext, HasToWait, IsChosen, IsNext, IsRangePlan}
 use Rattle.lsm_state.specs.Reserving.{plan_in, reserved}
@@ -22,12 +21,6 @@ IsManual s h None = (level : ℕ) → level ≤ s.level → HasToWaitAt s h leve
 IsManual s h (Some w) = (level : ℕ) × (level ≤ s.level)
     × ((n : ℕ) → n < level → HasToWaitAt s h n) × IsRangePlan h level s.from s.to (plan_in w)
 
--- No files are to be gathered, where workers gather: those that join small files do.
-abbrev pub HasGathered : Picks → Held → Type 0
-HasGathered Choice h = Unit {0}
-HasGathered Joining h = HasNoneToGather h
-HasGathered (Manual s) h = Unit {0}
-
 -- the job of the plan that is picked; none just where there is none
 abbrev pub IsPicked : Picks → Held → Option Work → Type 0
 IsPicked Choice h None = HasNoChoice h.slots.version (reserved_jobs h.live)
@@ -41,7 +34,6 @@ abbrev pub IsBooked : Option Work → Held → Held → Type 0
 IsBooked None was is = is ≡ was
 IsBooked (Some w) was is = is ≡ reserved w was
 
--- So it was at one taking of the lock, where the fact held, and nothing was to be gathered.
+-- So it was at one taking of the lock, where the fact held.
 abbrev pub IsPickedUnder : (Held → Type 0) → Picks → Option Work → Type 0
-IsPickedUnder keeps picks job =
-    (h : Held) × ∥ keeps h ∥₁ × IsPicked picks h job × HasGathered picks h
+IsPickedUnder keeps picks job = (h : Held) × ∥ keeps h ∥₁ × IsPicked picks h job

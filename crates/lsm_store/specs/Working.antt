@@ -1,6 +1,6 @@
 -- What a worker does with its shelf, and what its shelf was told when it ends (this project's
 -- rule).
-use Rattle.std.specs.Prelude.{◌≡◌, ℕ, suc, ◌-◌, ◌^◌, ◌≤◌, min, ◌⊎◌, List, [], ◌∷◌, ◌++◌, map}
+use Rattle.std.specs.Prelude.{◌≡◌, ℕ, zero, suc, ◌-◌, ◌^◌, ◌≤◌, min, ◌⊎◌, List, [], ◌∷◌, ◌++◌, map}
 use Rattle.std.specs.Prelude.{Bool, true, Option, None, Some}
 use Rattle.lsm_codec.specs.Lists.{Has}
 use Rattle.lsm_shelf.specs.Asked.{Asked, Put, StartManifest, AppendManifest}
@@ -16,19 +16,14 @@ use Rattle.lsm_merge.specs.declared.merge_fault.OutputFault.TheVariants as outpu
 use Rattle.lsm_merge.specs.declared.merge_fault.MergeFault.{MergeFault}
 use Rattle.lsm_merge.specs.declared.merge_fault.MergeFault.TheVariants as merge
 use Rattle.lsm_state.specs.Asked.{InstallRefused, OnShelf}
-use Rattle.lsm_state.specs.Gathering.{GatherRefused, Gathers, IsGatherRefusal}
 use Rattle.lsm_state.specs.Collecting.{SameCounts}
 use Rattle.lsm_state.specs.Held.{Held}
 use Rattle.lsm_state.specs.Installing.{Installed, IsInstallRefusal, MayInstall}
-use Rattle.lsm_state.specs.declared.gather_fault.GatherFault.{GatherFault}
-use Rattle.lsm_state.specs.declared.gather_fault.GatherFault.TheVariants as gather
 use Rattle.lsm_state.specs.declared.state_fault.StateFault.{StateFault}
 use Rattle.lsm_state.specs.declared.state_fault.StateFault.TheVariants as state
 use Rattle.lsm_store.specs.Picking.{IsPickedUnder}
 use Rattle.lsm_store.specs.Workers.{IsOfReserving}
 use Rattle.lsm_store.specs.declared.picks.Picks.{Picks}
-use Rattle.lsm_store.specs.declared.turned.Turned.{Turned}
-use Rattle.lsm_store.specs.declared.turned.Turned.TheVariants.{Compacted, Gathered}
 use Rattle.lsm_store.specs.declared.worker_end.WorkerEnd.{WorkerEnd}
 use Rattle.lsm_store.specs.declared.worker_fault.WorkerFault.{WorkerFault}
 use Rattle.lsm_store.specs.declared.worker_fault.WorkerFault.TheVariants.{NoThread, State, Merge}
@@ -79,46 +74,19 @@ pub record IsDone (Honest : Type 0) (keeps : Held → Type 0) (work : Work) (was
   pub taken : IsTaken keeps result put is
 
 -- One compaction: a job that a worker who picks so gets was finished, and its result installed.
-pub record IsCompacted (Honest : Type 0) (keeps : Held → Type 0) (picks : Picks) (was is : Told)
+pub record IsTurn (Honest : Type 0) (keeps : Held → Type 0) (picks : Picks) (was is : Told)
     : Type 0 where
   pub work : Work
   pub picked : Honest → IsPickedUnder keeps picks (Some work)
   pub done : IsDone Honest keeps work was is
 
--- ---- one gather
+-- so many compactions, one after another
+abbrev pub Turns : Type 0 → (Held → Type 0) → Picks → ℕ → Told → Told → Type 0
+Turns Honest keeps picks zero was is = is ≡ was
+Turns Honest keeps picks (suc count) was is =
+    (mid : Told) × Turns Honest keeps picks count was mid × IsTurn Honest keeps picks mid is
 
--- The state gathered small files of level 0.
-pub record GathersFiles (Honest : Type 0) (old new : Held) (was is : Told) : Type 0 where
-  pub number : ℕ
-  pub gathers : Gathers Honest old new number was is
-
--- So it was at one taking of the lock, where the fact held.
-pub record IsGatheredUnder (Honest : Type 0) (keeps : Held → Type 0) (was is : Told) : Type 0 where
-  pub old : Held
-  pub new : Held
-  pub kept : ∥ keeps old ∥₁
-  pub gathers : GathersFiles Honest old new was is
-
--- ---- turns
-
--- one gather, or one compaction
-abbrev pub IsTurn : Type 0 → (Held → Type 0) → Picks → Turned → Told → Told → Type 0
-IsTurn Honest keeps picks Gathered was is = IsGatheredUnder Honest keeps was is
-IsTurn Honest keeps picks Compacted was is = IsCompacted Honest keeps picks was is
-
--- these, the last first, one after another
-abbrev pub Turns : Type 0 → (Held → Type 0) → Picks → List Turned → Told → Told → Type 0
-Turns Honest keeps picks [] was is = is ≡ was
-Turns Honest keeps picks (t ∷ ts) was is =
-    (mid : Told) × Turns Honest keeps picks ts was mid × IsTurn Honest keeps picks t mid is
-
--- how many of them are compactions
-abbrev pub compactions_in : List Turned → ℕ
-compactions_in [] = 0
-compactions_in (Gathered ∷ ts) = compactions_in ts
-compactions_in (Compacted ∷ ts) = suc (compactions_in ts)
-
--- nothing was to be gathered, and there was no job for a worker who picks so
+-- there was no job for a worker who picks so
 abbrev pub FindsNone : Type 0 → (Held → Type 0) → Picks → Type 0
 FindsNone Honest keeps picks = Honest → IsPickedUnder keeps picks None
 
@@ -158,49 +126,15 @@ IsRefusedBy Honest Refused keeps e was is =
     ⊎ ((d : Done) × (put : Told) × IsMerged Honest d was put
     × IsUntaken Refused keeps d e put is)
 
--- The state refused to gather.
-pub record LeavesUngathered (Honest : Type 0) (Refused : Asked → ShelfFault
-    → Type 0) (old new : Held) (e : GatherFault) (was is : Told) : Type 0 where
-  pub refusal : IsGatherRefusal Honest old new e was is
-  pub asked : GatherRefused Refused old e
-
--- So it was at one taking of the lock, where the fact held.
-pub record IsUngatheredUnder (Honest : Type 0) (Refused : Asked → ShelfFault → Type 0) (keeps : Held
-    → Type 0) (e : GatherFault) (was is : Told) : Type 0 where
-  pub old : Held
-  pub new : Held
-  pub kept : ∥ keeps old ∥₁
-  pub leaves : LeavesUngathered Honest Refused old new e was is
-
--- as a worker tells it
-abbrev pub FailsToGather : Type 0 → (Asked → ShelfFault → Type 0) → Held → Held → WorkerFault → Told
-    → Told → Type 0
-FailsToGather Honest Refused old new NoThread was is = ⊥
-FailsToGather Honest Refused old new (State fault) was is =
-    LeavesUngathered Honest Refused old new (gather.State fault) was is
-FailsToGather Honest Refused old new (Merge fault) was is =
-    LeavesUngathered Honest Refused old new (gather.Merge fault) was is
-
--- The state refused to gather; or it refused a reservation, and the shelf was asked for nothing.
-abbrev pub IsStoppedIn : Type 0 → (Asked → ShelfFault → Type 0) → Held → Held → WorkerFault → Told
-    → Told → Type 0
-IsStoppedIn Honest Refused old new NoThread was is = ⊥
-IsStoppedIn Honest Refused old new (State fault) was is = (IsOfReserving fault × (is ≡ was))
-    ⊎ LeavesUngathered Honest Refused old new (gather.State fault) was is
-IsStoppedIn Honest Refused old new (Merge fault) was is =
-    LeavesUngathered Honest Refused old new (gather.Merge fault) was is
-
--- The refusal that ended a worker with a thread, after its last turn.
+-- The refusal that ended a worker with a thread, after its last compaction.
 abbrev pub IsStoppedBy : Type 0 → (Asked → ShelfFault → Type 0) → (Held → Type 0) → WorkerFault
     → Told → Told → Type 0
 IsStoppedBy Honest Refused keeps NoThread was is = ⊥
 IsStoppedBy Honest Refused keeps (State fault) was is =
     IsRefusedBy Honest Refused keeps fault was is
-    ⊎ IsUngatheredUnder Honest Refused keeps (gather.State fault) was is
 IsStoppedBy Honest Refused keeps (Merge fault) was is = IsUnmerged Honest fault was is
-    ⊎ IsUngatheredUnder Honest Refused keeps (gather.Merge fault) was is
 
--- Why a worker with a thread ended, after its last turn: a refusal; or none, and where it was
+-- Why a worker with a thread ended, after its last compaction: a refusal; or none, and where it was
 -- to go on to the end, it found no job.
 abbrev pub IsLast : Type 0 → (Asked → ShelfFault → Type 0) → (Held → Type 0) → Given
     → Option WorkerFault → Told → Told → Type 0
@@ -209,12 +143,12 @@ IsLast Honest Refused keeps given None was is =
 IsLast Honest Refused keeps given (Some fault) was is =
     IsStoppedBy Honest Refused keeps fault was is
 
--- A worker ended with this shelf: it did turns, one after another, of which as many were compactions
--- as it says, and then what ended it; and its shelf was told no more.
+-- A worker ended with this shelf: it did as many compactions as it says, one after another, and
+-- then what ended it; and its shelf was told no more.
 pub record IsWorked (Honest : Type 0) (Refused : Asked → ShelfFault → Type 0) (keeps : Held
     → Type 0) (given : Given) (e : WorkerEnd) (back : Told) : Type 0 where
-  pub turns : List Turned
-  pub counted : e.installed ≡ min (compactions_in turns) (2 ^ 64 - 1)
+  pub turns : ℕ
+  pub counted : e.installed ≡ min turns (2 ^ 64 - 1)
   pub mid : Told
   pub done : Turns Honest keeps given.picks turns given.shelf mid
   pub last : IsLast Honest Refused keeps given e.fault mid back

@@ -1,16 +1,13 @@
 //! What a worker does in its thread.
 
-ghost use Rattle.std.specs.Prelude.{◌≡◌, false, IfErr, IfOk, MatchBool, MatchOption, OnOk};
+ghost use Rattle.std.specs.Prelude.{◌≡◌, IfErr, IfOk, MatchBool, OnOk};
 ghost use Rattle.lsm_live.specs.Booked.{HasTicket, without};
 ghost use Rattle.lsm_store.specs.Compacting.{IsCompactingStep, IsKeptByCompaction};
-ghost use Rattle.lsm_store.specs.Picking.{HasGathered, IsBooked, IsManual, IsPicked};
-ghost use Rattle.lsm_store.specs.Picking.{IsPickedUnder};
+ghost use Rattle.lsm_store.specs.Picking.{IsBooked, IsManual, IsPicked, IsPickedUnder};
 ghost use Rattle.lsm_store.specs.declared.picks.Picks.TheVariants.{Choice, Joining};
 ghost use Rattle.lsm_store.specs.Workers.{IsOfInstalling, IsOfReserving, IsOfTurn, IsWorkersEnd};
-ghost use Rattle.lsm_store.specs.Working.{FailsToGather, FindsNone, GathersFiles, IsDone};
-ghost use Rattle.lsm_store.specs.Working.{IsGatheredUnder, IsStoppedBy, IsStoppedIn, IsTaken};
-ghost use Rattle.lsm_store.specs.Working.{IsTurn, IsUntaken, IsWorked, LeavesOut, TakesIn};
-ghost use Rattle.lsm_store.specs.Working.{given_one};
+ghost use Rattle.lsm_store.specs.Working.{FindsNone, IsDone, IsStoppedBy, IsTaken, IsTurn};
+ghost use Rattle.lsm_store.specs.Working.{IsUntaken, IsWorked, LeavesOut, TakesIn, given_one};
 
 use crate::bell::Bell;
 use crate::gate::Gate;
@@ -20,12 +17,11 @@ use crate::number_service::NumberService;
 use crate::picks::Picks;
 use crate::store::Store;
 use crate::ticket_numbers::TicketNumbers;
-use crate::turned::Turned;
 use crate::worker_end::WorkerEnd;
 use crate::worker_fault::WorkerFault;
 use lsm_merge::{Finished, Job, compact};
 use lsm_slots::Boarded;
-use lsm_state::{GatherFault, State, StateFault};
+use lsm_state::{State, StateFault};
 use lsm_table::{NamedShelf, Registry, Shelf};
 use std::alloc::{AllocError, Global};
 use std::sync::{Arc, Wait};
@@ -103,80 +99,18 @@ fn next_job<N: Boarded, S: Shelf>(
     }
 }
 
-/// Whether small files of level 0 were gathered: by workers that join files, where there are such.
-fn gather<N: Boarded, S: Shelf, R: Wait>(
-    state: &mut State<N, S>,
-    rt: &R,
-    alloc: Global,
-    shelf: &mut NamedShelf<N, S>,
-    picks: &Picks,
-) -> Result<bool, WorkerFault>
-    ensures step { IsCompactingStep S.honest state.old state.new }
-    ensures did { IfOk result (λ did. MatchBool did
-        (GathersFiles S.honest state.old state.new shelf.old shelf.new)
-        ((state.new ≡ state.old) × (shelf.new ≡ shelf.old) × HasGathered picks.now state.old)) }
-    ensures refused { IfErr result (IsOfTurn S.honest) }
-    ensures stopped { IfErr result (λ e. FailsToGather S.honest (S.refuses N.place)
-        state.old state.new e shelf.old shelf.new) }
-{
-    match picks {
-        Picks::Choice => Ok(false),
-        Picks::Manual(_) => Ok(false),
-        Picks::Joining => match state.gather(rt, alloc, shelf) {
-            Ok(Some(_number)) => Ok(true),
-            Ok(None) => Ok(false),
-            Err(GatherFault::State(fault)) => Err(WorkerFault::State(fault)),
-            Err(GatherFault::Merge(fault)) => Err(WorkerFault::Merge(fault)),
-        },
-    }
-}
-
-/// Gathers files, or else reserves a job. Whether it gathered; and the job, none where there is
-/// none.
-fn look<N: Boarded, S: Shelf, R: Wait>(
-    state: &mut State<N, S>,
-    rt: &R,
-    alloc: Global,
-    shelf: &mut NamedShelf<N, S>,
-    picks: &Picks,
-) -> Result<(bool, Option<Job<N, S>>), WorkerFault>
-    ensures step { IsCompactingStep S.honest state.old state.new }
-    ensures gathered { IfOk result (λ r. MatchBool r.0
-        (GathersFiles S.honest state.old state.new shelf.old shelf.new)
-        ((shelf.new ≡ shelf.old) × HasGathered picks.now state.old)) }
-    ensures next { S.honest → IfOk result (λ r. r.0 ≡ false → IsPicked picks.now state.old r.1) }
-    ensures refused { IfErr result (IsOfTurn S.honest) }
-    ensures stopped { IfErr result (λ e. IsStoppedIn S.honest (S.refuses N.place)
-        state.old state.new e shelf.old shelf.new) }
-{
-    if gather(state, rt, alloc, shelf, picks)? {
-        return Ok((true, None));
-    }
-    match next_job(state, alloc, picks) {
-        Ok(job) => Ok((false, job)),
-        Err(fault) => Err(WorkerFault::State(fault)),
-    }
-}
-
-/// What a worker does at one taking of the lock: it gathers files, or else reserves a job. Whether
-/// it gathered; and the job, none where there is none.
-fn look_under_lock<N: Boarded, S: Shelf, K: Invariant, R: Wait>(
+/// The job that the state reserves for a worker under the lock; none where there is none.
+fn reserve<N: Boarded, S: Shelf, K: Invariant, R: Wait>(
     rt: &R,
     alloc: Global,
     store: &Store<N, S, K>,
-    shelf: &mut NamedShelf<N, S>,
     picks: &Picks,
-) -> Result<(bool, Option<Job<N, S>>), WorkerFault>
+) -> Result<Option<Job<N, S>>, StateFault>
     requires kept { IsKeptByCompaction S.honest K.keeps }
-    ensures gathered { IfOk result (λ r. MatchBool r.0
-        (IsGatheredUnder S.honest K.keeps shelf.old shelf.new) (shelf.new ≡ shelf.old)) }
-    ensures next { S.honest → IfOk result (λ r.
-        r.0 ≡ false → IsPickedUnder K.keeps picks.now r.1) }
-    ensures refused { IfErr result (IsOfTurn S.honest) }
-    ensures stopped { IfErr result (λ e.
-        IsStoppedBy S.honest (S.refuses N.place) K.keeps e shelf.old shelf.new) }
+    ensures next { S.honest → IfOk result (IsPickedUnder K.keeps picks.now) }
+    ensures refused { IfErr result IsOfReserving }
 {
-    look(&mut store.lock(rt).state, rt, alloc, shelf, picks)
+    next_job(&mut store.lock(rt).state, alloc, picks)
 }
 
 /// Puts the result into the state. A refused one is let go.
@@ -266,7 +200,7 @@ fn finish<N: Boarded, S: Shelf, K: Invariant, R: Wait>(
     }
 }
 
-/// One turn: what was done, none where nothing was to be done. After a fault its job is not live.
+/// One compaction: whether there was one to do. After a fault its job is not live.
 fn turn<N: Boarded, S: Shelf, K: Invariant, G: Gate, R: Wait>(
     rt: &R,
     alloc: Global,
@@ -277,26 +211,24 @@ fn turn<N: Boarded, S: Shelf, K: Invariant, G: Gate, R: Wait>(
     gate: &G,
     worker: usize,
     picks: &Picks,
-) -> Result<Option<Turned>, WorkerFault>
+) -> Result<bool, WorkerFault>
     requires kept { IsKeptByCompaction S.honest K.keeps }
     ensures refused { IfErr result (IsOfTurn S.honest) }
-    ensures turn { IfOk result (λ did. MatchOption did
-        ((shelf.new ≡ shelf.old) × FindsNone S.honest K.keeps picks.now) (λ turned.
-        IsTurn S.honest K.keeps picks.now turned shelf.old shelf.new)) }
+    ensures turn { IfOk result (λ did.
+        MatchBool did (IsTurn S.honest K.keeps picks.now shelf.old shelf.new)
+        ((shelf.new ≡ shelf.old) × FindsNone S.honest K.keeps picks.now)) }
     ensures stopped { IfErr result (λ e.
         IsStoppedBy S.honest (S.refuses N.place) K.keeps e shelf.old shelf.new) }
 {
-    let (gathered, found) = look_under_lock(rt, alloc, store, shelf, picks)?;
-    if gathered {
-        return Ok(Some(Turned::Gathered));
-    }
-    let Some(job) = found else {
-        return Ok(None);
+    let job = match reserve(rt, alloc, store, picks) {
+        Ok(Some(job)) => job,
+        Ok(None) => return Ok(false),
+        Err(fault) => return Err(WorkerFault::State(fault)),
     };
     let ticket = job.ticket();
     gate.merging(worker, ticket);
     match finish(rt, alloc, store, registry, service, shelf, job) {
-        Ok(()) => Ok(Some(Turned::Compacted)),
+        Ok(()) => Ok(true),
         Err(fault) => {
             give_up(rt, store, ticket);
             Err(fault)
@@ -312,9 +244,9 @@ fn registry_of<N: Boarded, S: Shelf, K: Invariant, R: Wait>(
     Arc::try_clone(store.lock(rt).state.registry())
 }
 
-/// One turn after another, until the bell is closed, or a fault; where it closes at the end, until
-/// nothing is left to do. Meanwhile, where there is nothing, it sleeps until the bell rings. It
-/// rings after each turn.
+/// One compaction after another, until the bell is closed, or a fault; where it closes at the end,
+/// until nothing is left to reserve. Meanwhile, where there is nothing, it sleeps until the bell
+/// rings. It rings after each install.
 pub(crate) fn work<N: Boarded, S: Shelf, K: Invariant, G: Gate, R: Wait>(
     rt: &R,
     alloc: Global,
@@ -348,12 +280,11 @@ pub(crate) fn work<N: Boarded, S: Shelf, K: Invariant, G: Gate, R: Wait>(
         match turn(
             rt, alloc, store, &registry, service, shelf, gate, worker, picks,
         ) {
-            Ok(Some(Turned::Gathered)) => bell.installed(rt),
-            Ok(Some(Turned::Compacted)) => {
+            Ok(true) => {
                 installed = installed.saturating_add(1);
                 bell.installed(rt);
             }
-            Ok(None) => {
+            Ok(false) => {
                 if !bell.wait_for_work(rt, rings) {
                     return WorkerEnd {
                         installed,
