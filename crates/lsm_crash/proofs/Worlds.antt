@@ -203,7 +203,7 @@ module _ (law : TablesChange) (honest : Type 0) (board : TableId) (old new : Hel
       changes = change_changes honest board (with_number old slots) new d None coming old.next x v mid is ln before o.manifest o.bytes comes to new_has below own small room i.changes;
     }
 
-  one_added : (table : Table) (level : ℕ) (t : Table) → Has ((0, table) ∷ []) (level, t) → table ≡ t
+  one_added : (table : Table) (level : ℕ) (t : Table) → Has {X = ℕ × Table} ((0, table) ∷ []) (level, t) → table ≡ t
   one_added table level t (inl e) = table_is (0, table) (level, t) e
   one_added table level t (inr none) = absurd none
 
