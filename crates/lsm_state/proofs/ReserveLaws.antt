@@ -27,7 +27,7 @@ use Rattle.lsm_live.specs.Planned.{IsWorkOf}
 use Rattle.lsm_live.specs.Reserving.{reserved_jobs}
 use Rattle.lsm_live.proofs.CallerLemmas.{live_has, live_says, lives_added, reserved_has}
 use Rattle.lsm_state.specs.Held.{HasInputs, Held, IsLawfulState, plain}
-use Rattle.lsm_state.specs.Reserving.{HasOrderedInputs, IsChosen, IsClosedPlan, IsOfMoment, IsPlanAt, IsRangePlan, IsRangeRefusal, IsReserveRefusal, IsReserving, plan_in, reserved, GoesAtOnce, HasNoJoining, HasNoNext, IsReady, Moves, WaitsForJoining, HasToWait, IsJoining, IsNext, IsNextRefusal, IsPlanRefusal}
+use Rattle.lsm_state.specs.Reserving.{HasOrderedInputs, IsChosen, IsClosedPlan, IsOfMoment, IsPlanAt, IsRangePlan, IsRangeRefusal, IsReserveRefusal, IsReserving, plan_in, reserved, HasNoJoining, HasNoNext, IsReady, Moves, WaitsForJoining, HasToWait, IsJoining, IsNext, IsNextRefusal, IsPlanRefusal}
 use Rattle.lsm_state.specs.declared.state_fault.StateFault.{StateFault}
 use Rattle.lsm_state.specs.declared.state_fault.StateFault.TheVariants.{OutOfMemory, Shelf, Read, BadLevel, EmptyBatch, KeyOrder, TooLarge, LevelZeroFull, SequencesSpent, Halted, UnknownSnapshot, Conflict, UnknownTicket, NumbersSpent, Stale, SlotsHeld, VersionsSpent, PinsSpent}
 use Rattle.lsm_state.proofs.StateLaws.{agreed, stepped}
@@ -260,9 +260,9 @@ pub next_unchosen : (h : Held) (o : Option TablePlan) → HasNoChoice h.slots.ve
 next_unchosen h None none m = (m, inl none)
 next_unchosen h (Some p) none m = inr (inl (inl none, m))
 
--- a choice that goes at once is next
-pub next_at_once : (h : Held) (p : TablePlan) → IsChosen h p → GoesAtOnce h p → IsNext h p
-next_at_once h p c goes = inl (c, goes)
+pub match_none : {A : Type 0} (o : Option A) (P : Type 0) (Q : A → Type 0) → ((x : A) → o ≡ Some x → ⊥) → MatchOption o P Q → P
+match_none None P Q f m = m
+match_none (Some x) P Q f m = absurd (f x refl)
 
 -- where the choice waits, what is joined is next, or else the choice, where level 0 is ready
 pub next_joined : (h : Held) (chosen p : TablePlan) → WaitsForJoining h chosen → IsJoining h p → IsNext h p
