@@ -126,8 +126,8 @@ ReadsManifest was is = Becomes was is
 -- ---- a folder
 
 module _ {C M : Type 0} (folders : Ghosts C M) where
-  -- These files with their sizes were found in the folder at the path, and no lock was asked for. On
-  -- a shelf of it the command was done.
+  -- These files with their sizes were found in the folder at the path, and no lock was asked for.
+  -- On a shelf of it the command was done.
   pub record LaysOutAt (line : LevelsLine) (old new said_old said_new : Option (List ℕ))
       : Type 0 where
     pub files : List FolderFile

@@ -2,10 +2,10 @@
 //! folder has, its files with their ranges, or a picture of them, which compaction is due, and what
 //! all tables and the folder have.
 //!
-//! Stands on `lsm_directory` for the folder and its names, on `lsm_journal` to read the manifest, on
-//! `lsm_picker` for what scores are, and on `lsm_text` for words. It reads `CURRENT` and the manifest
-//! that this names, and no table. Its contract: what is printed is the text of the shape to which the
-//! manifest's edits come, and of the folder's names and sizes.
+//! Stands on `lsm_directory` for the folder and its names, on `lsm_journal` to read the manifest,
+//! on `lsm_picker` for what scores are, and on `lsm_text` for words. It reads `CURRENT` and the
+//! manifest that this names, and no table. Its contract: what is printed is the text of the shape to
+//! which the manifest's edits come, and of the folder's names and sizes.
 #![tactic(auto)]
 
 // One run.
