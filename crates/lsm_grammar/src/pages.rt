@@ -3,7 +3,8 @@
 use crate::arguments::{
     ACCEPT_REST, ALL, Argument, BAIL, BATCH, BEGIN, BENCHMARKS, BESIDE_LOG, COMPACTORS, COUNT,
     EXISTS, FILES, FIRST, FOLDER, FROM, FROM_LINE, JSON, KEY, KEYS, LAST, LIMIT, NUM, PREFIX,
-    PROGRESS, RAW, SOME_WORKERS, STRICT, SVG, TEXT, TO, VALUE, VALUE_SIZE, VERIFIERS, WORKERS,
+    PROGRESS, RAW, SOME_WORKERS, SOURCE, STRICT, SVG, TARGET, TEXT, TO, VALUE, VALUE_SIZE,
+    VERIFIERS, WORKERS,
 };
 use crate::command_name::{CommandName, named};
 
@@ -464,6 +465,16 @@ Device` one batch more than is said may be in.",
           lsm load db words.txt --text --from-line 131073",
 };
 
+const IMPORT: Page = Page {
+    name: "import",
+    arguments: &[SOURCE, TARGET],
+    about: "Copies the database of a folder to another, whatever wrote it",
+    text: "Copies the database of the LevelDB folder SRC into the folder DST, with what no
+other command reads: what stands in write-ahead logs (`N.log`) that are not
+flushed, and tables that Snappy has compressed.",
+    example: "Example: mkdir copy && lsm import db copy",
+};
+
 const COMPACT: Page = Page {
     name: "compact",
     arguments: &[
@@ -636,9 +647,9 @@ Exit status: 0 done, 1 refused, 2 bad command line, also where COMMAND is none."
 };
 
 /// The commands, in the order in which the overview lists them.
-pub(crate) const COMMANDS: [Page; 18] = [
+pub(crate) const COMMANDS: [Page; 19] = [
     MAKE_TABLE, DUMP, MANIFEST, SCRIPT, CHECK, LIST, LEVELS, GET, SCAN, INGEST, PUT, DELETE, LOAD,
-    COMPACT, CLEAN, SHELL, BENCH, HELP,
+    IMPORT, COMPACT, CLEAN, SHELL, BENCH, HELP,
 ];
 
 /// How a command is used.
@@ -659,6 +670,7 @@ fn usage(name: CommandName) -> &'static str {
         CommandName::Delete => "lsm delete <DIR> <KEY> [--text] [--begin] [--beside-log]",
         CommandName::Load =>
             "lsm load <DIR> [FILE] [--text] [--begin] [--beside-log] [--workers <N>] [--from-line <I>] [--progress]",
+        CommandName::Import => "lsm import <SRC> <DST>",
         CommandName::Compact =>
             "lsm compact <DIR> [--all] [--from <KEY>] [--to <KEY>] [--text] [--workers <N>] [--accept-rest] [--progress]",
         CommandName::Clean => "lsm clean <DIR> [--accept-rest]",

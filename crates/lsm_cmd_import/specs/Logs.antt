@@ -1,0 +1,98 @@
+-- Which logs of a folder are copied, and how they are read (LevelDB's `DBImpl::Recover` of
+-- `db/db_impl.cc`).
+use Rattle.std.specs.Prelude.{◌≡◌, ◌⊎◌, ◌↔◌, ℕ, ◌<◌, List, ◌∷◌, ◌++◌, Ok, Err, All, codes, map}
+use Rattle.std.specs.Prelude.{reverse, string_bytes}
+use Rattle.std.specs.List.{flat_map, sum_by}
+use Rattle.std.specs.List.Sorted.{IsStrictlyIncreasing}
+use Rattle.lsm_codec.specs.Lists.{Has}
+use Rattle.lsm_folder.specs.Calls.{Call, loaded}
+use Rattle.lsm_folder.specs.declared.folder_fault.FolderFault.{FolderFault}
+use Rattle.lsm_storage.specs.FileNames.{padded}
+use Rattle.lsm_storage.specs.FolderFault.{missing_of}
+use Rattle.lsm_directory.specs.Logs.{IsLogName, IsReached}
+use Rattle.lsm_directory.specs.declared.folder.folder_file.FolderFile.{FolderFile}
+use Rattle.lsm_wal.specs.WriteLog.{IsWriteLog}
+use Rattle.lsm_wal.specs.WriteLogs.{IsReadRefusal}
+use Rattle.lsm_wal.specs.declared.write_batch.WriteBatch.{WriteBatch}
+use Rattle.lsm_wal.specs.declared.write_log_fault.WriteLogFault.{WriteLogFault}
+use Rattle.lsm_cmd_import.specs.declared.copy_fault.CopyFault.{CopyFault}
+use Rattle.lsm_cmd_import.specs.declared.copy_fault.CopyFault.TheVariants.{OutOfMemory, UnreadLog}
+use Rattle.lsm_cmd_import.specs.declared.copy_fault.CopyFault.TheVariants.{BadLog}
+
+-- the file is the log of this number, is not empty, and LevelDB reads it
+abbrev pub IsLogOf : (log prev : ℕ) → FolderFile → ℕ → Type 0
+IsLogOf log prev file n = (0 < file.size) × IsLogName (string_bytes file.name) n
+    × IsReached log prev n
+
+-- one of the files is
+abbrev pub IsLogAmong : (log prev : ℕ) → List FolderFile → ℕ → Type 0
+IsLogAmong log prev files n = (file : FolderFile) × Has files file × IsLogOf log prev file n
+
+-- the numbers of these logs
+abbrev pub AreNumbers : (log prev : ℕ) → List FolderFile → List ℕ → Type 0
+AreNumbers log prev files numbers = (n : ℕ) → Has numbers n ↔ IsLogAmong log prev files n
+
+-- the numbers of these logs, ascending, each once
+pub record AreLogs (log prev : ℕ) (files : List FolderFile) (numbers : List ℕ) : Type 0 where
+  pub ascending : IsStrictlyIncreasing numbers
+  pub all : AreNumbers log prev files numbers
+
+-- the name of the file of a log (`LogFileName` of LevelDB's `db/filename.cc`)
+abbrev pub log_name : ℕ → List ℕ
+log_name n = padded n ++ codes ".log"
+
+-- a log as it was read: its number, its bytes, their batches, and how many bytes at the end hold no
+-- whole record
+pub record LogRead : Type 0 where
+  pub number : ℕ
+  pub bytes : List ℕ
+  pub batches : List WriteBatch
+  pub rest : ℕ
+
+abbrev pub IsSpelled : LogRead → Type 0
+IsSpelled l = IsWriteLog l.bytes l.batches l.rest
+
+abbrev pub call_of : LogRead → Call
+call_of l = loaded (log_name l.number) (Ok l.bytes)
+
+-- The folder was asked for the logs of these numbers, one after another, and for nothing else.
+-- These are the batches of all, and so many bytes at their ends hold no whole record.
+pub record AreRead (numbers : List ℕ) (batches : List WriteBatch) (rest : ℕ) (old new : List Call)
+    : Type 0 where
+  pub reads : List LogRead
+  pub numbered : map (λ l. l.number) reads ≡ numbers
+  pub spelled : All IsSpelled reads
+  pub all : batches ≡ flat_map (λ l. l.batches) reads
+  pub rests : rest ≡ sum_by (λ l. l.rest) reads
+  pub calls : new ≡ reverse (map call_of reads) ++ old
+
+-- ---- refusals
+
+-- The folder did not give the log of this number; or its bytes are none behind these batches.
+abbrev pub IsLogRefusal : List WriteBatch → ℕ → CopyFault → List Call → List Call → Type 0
+IsLogRefusal before number fault old new =
+    ((e : FolderFault) × (fault ≡ UnreadLog number (missing_of e))
+    × (new ≡ loaded (log_name number) (Err e) ∷ old))
+    ⊎ ((bytes : List ℕ) × (e : WriteLogFault) × (fault ≡ BadLog number e)
+    × (new ≡ loaded (log_name number) (Ok bytes) ∷ old) × IsReadRefusal before bytes e)
+
+-- memory ran out, or it was refused so
+abbrev pub IsLogStop : List WriteBatch → ℕ → CopyFault → List Call → List Call → Type 0
+IsLogStop before number fault old new =
+    (fault ≡ OutOfMemory) ⊎ IsLogRefusal before number fault old new
+
+-- The first of the logs were read, and the next one was not.
+pub record StopsReading (numbers : List ℕ) (fault : CopyFault) (old new : List Call) : Type 0 where
+  pub front : List ℕ
+  pub one : ℕ
+  pub back : List ℕ
+  pub parts : numbers ≡ front ++ one ∷ back
+  pub batches : List WriteBatch
+  pub rest : ℕ
+  pub mid : List Call
+  pub read : AreRead front batches rest old mid
+  pub refused : IsLogRefusal batches one fault mid new
+
+-- memory ran out, or they were not all read
+abbrev pub AreUnread : List ℕ → CopyFault → List Call → List Call → Type 0
+AreUnread numbers fault old new = (fault ≡ OutOfMemory) ⊎ StopsReading numbers fault old new
