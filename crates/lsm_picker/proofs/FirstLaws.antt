@@ -1,17 +1,10 @@
 -- The first file of those that a test lets through.
 use Rattle.std.proofs.Common.{◌≡◌, ℕ, zero, suc, ◌<◌, Bool, true, List, [], ◌∷◌, ◌++◌}
-use Rattle.std.proofs.Common.{length, get_or, take, refl, sym, ◌∙◌, ap, arith}
-use Rattle.std.specs.Prelude.{Some, None, cond, slice_get}
+use Rattle.std.proofs.Common.{length, get_or, take, sym, ◌∙◌, ap, arith}
+use Rattle.std.specs.Prelude.{Some, cond, slice_get}
 use Rattle.std.specs.List.{filter}
 use Rattle.std.proofs.lemmas.List.Elements.{filter-append}
-use Rattle.lsm_codec.specs.Keys.{UserKey}
-use Rattle.lsm_table.specs.Registry.{Table, bytes_of}
-use Rattle.lsm_version.specs.Versions.{Levels}
-use Rattle.lsm_picker.specs.Joining.{IsTooMuch}
-use Rattle.lsm_picker.specs.Joining.{first_over}
-use Rattle.lsm_picker.specs.TablePlans.{tables_over}
-
--- ---- the first that a test lets through
+use Rattle.lsm_table.specs.Registry.{Table}
 
 parts_at : (ts : List Table) (i : ℕ) (x : Table) → i < length ts → x ≡ get_or ts i x
     → (r : List Table) × (ts ≡ take i ts ++ x ∷ r)
@@ -29,16 +22,3 @@ first_let f ts i x lt is holds none =
     ∙ ap (λ (l : List Table). slice_get l 0) (filter-append f (take i ts) (x ∷ p.0))
     ∙ ap (λ (l : List Table). slice_get (l ++ filter f (x ∷ p.0)) 0) none
     ∙ ap (λ (b : Bool). slice_get (cond b (x ∷ filter f p.0) (filter f p.0)) 0) holds
-
-no_first : (ts : List Table) → slice_get ts 0 ≡ None → bytes_of ts ≡ 0
-no_first [] e = refl
-no_first (t ∷ ts) e = absurd (cc e)
-
--- a range that meets more than some bytes meets a file
-pub meets_some : (v : Levels) (target_size level : ℕ) (from to : UserKey)
-    → IsTooMuch v target_size level from to → first_over v level from to ≡ None → ⊥
-meets_some v target_size level from to much none =
-    let zero_is : bytes_of (tables_over v level from to) ≡ 0
-    = no_first (tables_over v level from to) none in
-    let lt = much.1 in
-    omega arith
