@@ -53,6 +53,7 @@ mod state_fault;
 // What changes the version.
 mod changing;
 mod coming;
+mod gather;
 mod gather_fault;
 mod ingest;
 mod install;
