@@ -23,13 +23,13 @@ use Rattle.lsm_version.specs.Versions.{IsWhole, files_of}
 use Rattle.lsm_merge.specs.declared.merge_fault.InputFault.TheVariants.{Read, OutOfOrder}
 use Rattle.lsm_merge.specs.declared.merge_fault.MergeFault.{MergeFault}
 use Rattle.lsm_merge.specs.declared.merge_fault.MergeFault.TheVariants.{OutOfMemory, ReadFailed, PutFailed, UnknownTicket, NumbersSpent}
-use Rattle.lsm_merge.specs.Causes.{AnswersOf, IsUnasked}
+use Rattle.lsm_merge.specs.Causes.{AnswersOf, IsUnasked, Leaves}
 use Rattle.lsm_merge.specs.Dropping.{AscendingAfter, Follows, IsUpTo}
-use Rattle.lsm_merge.specs.Gathering.{HasEachOf, IsInTheMaking, IsUnnumbered, PutsAtMost, TakesIn, all_of}
+use Rattle.lsm_merge.specs.Gathering.{HasEachOf, IsInTheMaking, IsOfOneOutput, PutsAtMost, TakesIn, all_of}
 use Rattle.lsm_merge.specs.InputOrder.{HasTwins, StandInOrder}
 use Rattle.lsm_merge.specs.Inputs.{AreInputs, IsOfReading, IsOrderFault, IsReadable, input_numbers}
 use Rattle.lsm_merge.specs.MergeFault.{of_build}
-use Rattle.lsm_merge.specs.Outputs.{Unfinished}
+use Rattle.lsm_merge.specs.Outputs.{Unfinished, going}
 use Rattle.lsm_merge.specs.PutBefore.{PutsPerhaps}
 use Rattle.lsm_merge.specs.Remembered.{bare}
 use Rattle.lsm_merge.specs.Work.{Work, job_of}
@@ -50,23 +50,23 @@ if_ok_both P Q R (Err e) f h k = tt
 
 -- ---- refusals
 
-pub unnumbered_reading : (e : MergeFault) → IsOfReading e → IsUnnumbered e
-unnumbered_reading OutOfMemory k = tt
-unnumbered_reading (ReadFailed n f) k = tt
-unnumbered_reading (PutFailed n f) k = tt
-unnumbered_reading (UnknownTicket t) k = absurd k
-unnumbered_reading NumbersSpent k = absurd k
+pub one_reading : (number : ℕ) (e : MergeFault) → IsOfReading e → IsOfOneOutput number e
+one_reading number OutOfMemory k = tt
+one_reading number (ReadFailed n f) k = tt
+one_reading number (PutFailed n f) k = absurd k
+one_reading number (UnknownTicket t) k = absurd k
+one_reading number NumbersSpent k = absurd k
 
-pub unnumbered_build : (n : ℕ) (f : BuildFault) → IsUnnumbered (of_build n f)
-unnumbered_build n build.OutOfMemory = tt
-unnumbered_build n build.TooLarge = tt
+pub one_build : (number : ℕ) (f : BuildFault) → IsOfOneOutput number (of_build number f)
+one_build number build.OutOfMemory = tt
+one_build number build.TooLarge = refl
 
-pub unnumbered_why : (e : MergeFault) → ((answers : List ℕ) → AnswersOf e answers answers) → IsUnnumbered e
-unnumbered_why OutOfMemory k = tt
-unnumbered_why (ReadFailed n f) k = tt
-unnumbered_why (PutFailed n f) k = tt
-unnumbered_why (UnknownTicket t) k = absurd (let z = k [] in cc z)
-unnumbered_why NumbersSpent k = absurd (let z = k [] in cc z)
+pub one_why : (number : ℕ) (put put' : List ℕ) (e : MergeFault) → Leaves e put' (number ∷ going put []) [] → ((answers : List ℕ) → AnswersOf e answers answers) → IsOfOneOutput number e
+one_why number put put' OutOfMemory l k = tt
+one_why number put put' (ReadFailed n f) l k = tt
+one_why number put put' (PutFailed n f) l k = (let same : number ∷ going put [] ≡ n ∷ going put' [] = l in sym cc)
+one_why number put put' (UnknownTicket t) l k = absurd (let z = k [] in cc z)
+one_why number put put' NumbersSpent l k = absurd (let z = k [] in cc z)
 
 pub readable_unasked : (e : MergeFault) → IsUnasked e → IsReadable e
 readable_unasked OutOfMemory k = tt

@@ -24,13 +24,13 @@ use Rattle.lsm_merge.specs.Work.{Work, job_of}
 abbrev pub HasEachOf : List Entry → List Entry → Type 0
 HasEachOf es fs = (e : Entry) → Has es e ↔ Has fs e
 
--- No source of numbers refused.
-abbrev pub IsUnnumbered : MergeFault → Type 0
-IsUnnumbered OutOfMemory = Unit {0}
-IsUnnumbered (ReadFailed number fault) = Unit {0}
-IsUnnumbered (PutFailed number fault) = Unit {0}
-IsUnnumbered (UnknownTicket ticket) = ⊥
-IsUnnumbered NumbersSpent = ⊥
+-- No source of numbers refused; and an output that could not be put has this number.
+abbrev pub IsOfOneOutput : ℕ → MergeFault → Type 0
+IsOfOneOutput number OutOfMemory = Unit {0}
+IsOfOneOutput number (ReadFailed input fault) = Unit {0}
+IsOfOneOutput number (PutFailed output fault) = output ≡ number
+IsOfOneOutput number (UnknownTicket ticket) = ⊥
+IsOfOneOutput number NumbersSpent = ⊥
 
 -- The shelf was told to put nothing; or what the builder makes of some entries with these sizes,
 -- under this number.

@@ -15,8 +15,8 @@ ghost use Rattle.lsm_iterators.specs.Runs.{ReadsNoOther};
 ghost use Rattle.lsm_version.specs.Versions.{IsWhole, files_of};
 ghost use Rattle.lsm_merge.specs.Causes.{HasCause, NamesRefused};
 ghost use Rattle.lsm_merge.specs.Dropping.{Follows, IsUpTo};
-ghost use Rattle.lsm_merge.specs.Gathering.{HasEachOf, IsInTheMaking, IsUnnumbered, PutsAtMost};
-ghost use Rattle.lsm_merge.specs.Gathering.{TakesIn};
+ghost use Rattle.lsm_merge.specs.Gathering.{HasEachOf, IsInTheMaking, IsOfOneOutput};
+ghost use Rattle.lsm_merge.specs.Gathering.{PutsAtMost, TakesIn};
 ghost use Rattle.lsm_merge.specs.InputOrder.{HasTwins, StandInOrder};
 ghost use Rattle.lsm_merge.specs.Inputs.{AreInputs, IsOrderFault, IsReadable, input_numbers};
 ghost use Rattle.lsm_merge.specs.Inputs.{numbers_of};
@@ -58,7 +58,7 @@ fn begin_with<N: Naming, S: Shelf>(
         → HasCause inputs e shelf.old shelf.new) }
     ensures refused { IfErr result (NamesRefused (S.refuses N.place) sizes) }
     ensures sound { S.honest → IfErr result IsReadable }
-    ensures numbers { IfErr result IsUnnumbered }
+    ensures numbers { IfErr result (IsOfOneOutput number) }
     ensures order { IfErr result (λ e. IsOrderFault e → ⊥) }
 {
     let Some(key) = stream.key() else {
@@ -90,7 +90,7 @@ fn take_in<N: Naming, S: Shelf>(
         → HasCause inputs e shelf.old shelf.new) }
     ensures refused { IfErr result (NamesRefused (S.refuses N.place) output.old.options) }
     ensures sound { S.honest → IfErr result IsReadable }
-    ensures numbers { IfErr result IsUnnumbered }
+    ensures numbers { IfErr result (IsOfOneOutput output.old.number) }
     ensures order { IfErr result (λ e. IsOrderFault e → (p : Placed) (rest : List Placed)
         → stream.old.left.placed ≡ p ∷ rest → Follows stream.old.before p.1 → ⊥) }
 {
@@ -124,7 +124,7 @@ fn put_gathered<N: Naming, S: Shelf, R: Wait>(
     ensures refused { IfErr result (NamesRefused (S.refuses N.place) output.options) }
     ensures stands { OnErr result
         (PutsAtMost output.number output.options shelf.old shelf.new) }
-    ensures numbers { IfErr result IsUnnumbered }
+    ensures numbers { IfErr result (IsOfOneOutput output.number) }
     ensures order { IfErr result (λ e. IsOrderFault e → ⊥) }
     ensures sound { IfErr result IsReadable }
 {
@@ -145,7 +145,7 @@ fn no_entry<N: Naming, S: Shelf>(registry: &Registry<N, S>, job: &Job<N, S>) -> 
     requires { 0 < length job.now.upper }
     ensures cause { (t u : Told) → HasCause (input_numbers job.now) result t u }
     ensures refused { (options : TableOptions) → NamesRefused (S.refuses N.place) options result }
-    ensures numbers { IsUnnumbered result }
+    ensures numbers { (number : ℕ) → IsOfOneOutput number result }
     ensures order { IsOrderFault result → ⊥ }
 {
     let first = registry.record(&job.upper()[0]).number();
@@ -169,7 +169,7 @@ fn begin_gathered<N: Naming, S: Shelf>(
         HasCause (input_numbers job.now) e shelf.old shelf.new) }
     ensures refused { IfErr result (NamesRefused (S.refuses N.place) job.now.table) }
     ensures sound { S.honest → IfErr result IsReadable }
-    ensures numbers { IfErr result IsUnnumbered }
+    ensures numbers { IfErr result (IsOfOneOutput number) }
     ensures order { IfErr result (λ e. IsOrderFault e → ⊥) }
 {
     // What holds of the job is told by this call.
@@ -202,7 +202,7 @@ fn gather_inputs<N: Naming, S: Shelf, R: Wait>(
         HasCause (input_numbers job.now) e shelf.old shelf.new) }
     ensures refused { IfErr result (NamesRefused (S.refuses N.place) job.now.table) }
     ensures sound { S.honest → IfErr result IsReadable }
-    ensures numbers { IfErr result IsUnnumbered }
+    ensures numbers { IfErr result (IsOfOneOutput number) }
     ensures order { S.honest → StandInOrder job.now → IfErr result (λ e. IsOrderFault e
         → HasTwins (all_entries (job_of job.now).inputs)) }
     ensures stands { OnErr result (PutsAtMost number job.now.table shelf.old shelf.new) }
@@ -249,7 +249,7 @@ pub fn gather<N: Naming, S: Shelf, R: Wait>(
         HasCause (numbers_of tables.now) e shelf.old shelf.new) }
     ensures refused { IfErr result (NamesRefused (S.refuses N.place) sizes) }
     ensures sound { S.honest → IfErr result IsReadable }
-    ensures numbers { IfErr result IsUnnumbered }
+    ensures numbers { IfErr result (IsOfOneOutput number) }
     ensures order { S.honest → IfErr result (λ e. IsOrderFault e
         → HasTwins (all_entries (files_of 0 tables.now))) }
     ensures stands { OnErr result (PutsAtMost number sizes shelf.old shelf.new) }

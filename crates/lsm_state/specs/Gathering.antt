@@ -18,7 +18,7 @@ use Rattle.lsm_picker.specs.Gathering as picker
 use Rattle.lsm_slots.specs.Slots.{Slotted}
 use Rattle.lsm_journal.specs.Difference.{Difference}
 use Rattle.lsm_merge.specs.Causes.{HasCause, NamesRefused}
-use Rattle.lsm_merge.specs.Gathering.{HasEachOf, IsUnnumbered, PutsAtMost}
+use Rattle.lsm_merge.specs.Gathering.{HasEachOf, IsOfOneOutput, PutsAtMost}
 use Rattle.lsm_merge.specs.InputOrder.{HasTwins}
 use Rattle.lsm_merge.specs.Inputs.{IsOrderFault, IsReadable, numbers_of}
 use Rattle.lsm_merge.specs.Work.{IsBuilt}
@@ -84,8 +84,10 @@ pub record MayGather (h : Held) (least : ℕ) : Type 0 where
 -- went.
 pub record Gathers (Honest : Type 0) (old new : Held) (number : ℕ) (was is : Told) : Type 0 where
   pub number_is : number ≡ old.next
+  pub going_on : old.halted ≡ false
+  pub numbers : HasNumbers old
   pub least : ℕ
-  pub may : MayGather old least
+  pub rule : IsToGather old least
   pub slots : Slotted
   pub sought : Sought old.slots slots
   pub table : Table
@@ -114,19 +116,25 @@ IsGathering honest old new = machine.Gathers honest (plain old) (plain new)
 
 -- Why it is refused before anything is tried: the state is halted; or memory was refused; or files
 -- are to be gathered, and a number would pass 2^64 - 2.
-abbrev pub IsGatherRefusedAtOnce : Held → StateFault → Type 0
-IsGatherRefusedAtOnce h Halted = h.halted ≡ true
-IsGatherRefusedAtOnce h OutOfMemory = h.halted ≡ false
-IsGatherRefusedAtOnce h NumbersSpent = (h.halted ≡ false) × ((least : ℕ) × IsToGather h least)
-    × (2 ^ 64 ≤ h.next + numbers_needed h)
+abbrev pub IsGatherRefusedAtOnce : Held → GatherFault → Type 0
+IsGatherRefusedAtOnce h (State Halted) = h.halted ≡ true
+IsGatherRefusedAtOnce h (State OutOfMemory) = h.halted ≡ false
+IsGatherRefusedAtOnce h (State NumbersSpent) = (h.halted ≡ false)
+    × ((least : ℕ) × IsToGather h least) × (2 ^ 64 ≤ h.next + numbers_needed h)
 IsGatherRefusedAtOnce h e = ⊥
 
--- The tables were not merged, which has its cause; the shelf was told to put one table at most.
+-- no slot: looks were made, and nothing else was done
+abbrev pub GatherLacksSlot : Held → Held → GatherFault → Told → Told → Type 0
+GatherLacksSlot old new (State e) was is = LacksSlot old new e was is
+GatherLacksSlot old new (Merge e) was is = ⊥
+
+-- The tables were not merged, which has its cause; the shelf was told to put one table at most, and
+-- that under this number.
 pub record IsUngathered (Honest : Type 0) (gone : List Table) (sizes : TableOptions) (number : ℕ)
     (e : MergeFault) (was is : Told) : Type 0 where
   pub cause : HasCause (numbers_of gone) e was is
   pub told : PutsAtMost number sizes was is
-  pub unnumbered : IsUnnumbered e
+  pub one : IsOfOneOutput number e
   pub readable : Honest → IsReadable e
   pub order : Honest → IsOrderFault e → HasTwins (all_entries (files_of 0 gone))
 
@@ -152,19 +160,15 @@ abbrev pub IsRefusedIn : Type 0 → Held → Held → ℕ → GatherFault → To
 IsRefusedIn Honest old new least e was is = FailsToMerge Honest old new least e was is
     ⊎ FailsToBringIn Honest old new least e was is
 
--- at once, and all is as before; or no slot was found, and looks were made
-abbrev pub IsEarlyGatherRefusal : Held → Held → GatherFault → Told → Told → Type 0
-IsEarlyGatherRefusal old new (State e) was is =
-    (IsGatherRefusedAtOnce old e × (new ≡ old) × (is ≡ was))
-    ⊎ (((least : ℕ) × MayGather old least) × LacksSlot old new e was is)
-IsEarlyGatherRefusal old new (Merge e) was is = ⊥
-
--- Why a gather is refused, and what it leaves. What can be tested first comes first; then a slot is
--- looked for; then, where one is free and an id is left, the files are merged.
+-- Why a gather is refused, and what it leaves. What can be tested first comes first, and leaves all
+-- as it was; then a slot is looked for; then, where one is free and an id is left, the files are
+-- merged.
 abbrev pub IsGatherRefusal : Type 0 → Held → Held → GatherFault → Told → Told → Type 0
-IsGatherRefusal Honest old new e was is = IsEarlyGatherRefusal old new e was is
-    ⊎ ((least : ℕ) × MayGather old least × Sought old.slots new.slots × HasSlot new.slots
-    × IsRefusedIn Honest old new least e was is)
+IsGatherRefusal Honest old new e was is =
+    (IsGatherRefusedAtOnce old e × (new ≡ old) × (is ≡ was))
+    ⊎ ((least : ℕ) × MayGather old least × (GatherLacksSlot old new e was is
+    ⊎ (Sought old.slots new.slots × HasSlot new.slots
+    × IsRefusedIn Honest old new least e was is)))
 
 -- ---- which call the shelf refused
 

@@ -7,6 +7,7 @@ use Rattle.lsm_codec.specs.Lists.{Has}
 use Rattle.lsm_model.specs.Files.{all_entries}
 use Rattle.lsm_model.specs.Plain.{Reserves, floor_of}
 use Rattle.lsm_picker.specs.Choice.{HasNoChoice, IsChoice}
+use Rattle.lsm_picker.specs.Gathering as picker
 use Rattle.lsm_picker.specs.Joining.{IsJoined, IsSettled, Span}
 use Rattle.lsm_picker.specs.RangesBelow.{AreRangesBelow}
 use Rattle.lsm_picker.specs.Reservations.{IsClear, IsHeldUp, IsLeastConflict}
@@ -111,8 +112,8 @@ IsRangeRefusal honest h level from to NumbersSpent =
 IsRangeRefusal honest h level from to OutOfMemory = (h.halted ≡ false) × (level ≤ 5)
 IsRangeRefusal honest h level from to e = ⊥
 
--- ---- what workers reserve: the choice below level 0, then small files, then the choice (this
--- project's rule)
+-- ---- what workers reserve: the choice below level 0, then a run of files that are joined, then the
+-- choice, of level 0 only where that is ready (this project's rule)
 
 -- the choice is of level 0, or there is none
 abbrev pub HasNoneBelow : Held → Type 0
@@ -131,19 +132,28 @@ abbrev pub HasToWait : Held → Span → Type 0
 HasToWait h s = (tables_over h.slots.version s.level s.from s.to ≡ [])
     ⊎ ((p : TablePlan) × IsRangePlan h s.level s.from s.to p × IsHeldUp p (reserved_jobs h.live))
 
--- Nothing can be joined: no file wants to be, or those that do have to wait.
+-- Nothing can be joined: there is no run, or the files of the first one have to wait.
 abbrev pub HasNoJoining : Held → Type 0
 HasNoJoining h = IsSettled h.slots.version h.options.target_size
     ⊎ ((s : Span) × IsJoined h.slots.version h.options.target_size s × HasToWait h s)
 
+-- level 0 is compacted: it has four files that are not small, or eleven files
+abbrev pub IsReady : Held → Type 0
+IsReady h = picker.IsReady h.slots.version (reserved_jobs h.live) h.options.target_size
+
+-- there is no choice, or it is of level 0, which is not ready
+abbrev pub HasNoneReady : Held → Type 0
+HasNoneReady h = HasNoChoice h.slots.version (reserved_jobs h.live)
+    ⊎ ((p : TablePlan) × IsChosen h p × (p.level ≡ 0) × (IsReady h → ⊥))
+
 -- The chosen plan where it is below level 0; else that of the files that are joined; else the
--- chosen one.
+-- chosen one, where level 0 is ready.
 abbrev pub IsNext : Held → TablePlan → Type 0
 IsNext h p = (IsChosen h p × (1 ≤ p.level)) ⊎ (HasNoneBelow h × IsJoining h p)
-    ⊎ (HasNoJoining h × IsChosen h p)
+    ⊎ (HasNoJoining h × IsChosen h p × IsReady h)
 
 abbrev pub HasNoNext : Held → Type 0
-HasNoNext h = HasNoJoining h × HasNoChoice h.slots.version (reserved_jobs h.live)
+HasNoNext h = HasNoJoining h × HasNoneReady h
 
 -- Why there is no next job: the state is halted; or there is one, but its ticket would be
 -- 2^64 - 1; or memory was refused.

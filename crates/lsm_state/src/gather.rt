@@ -17,6 +17,7 @@ ghost use Rattle.lsm_state.specs.Gathering.{IsGathering, IsRefusedIn, IsUngather
 ghost use Rattle.lsm_state.specs.Held.{plain};
 ghost use Rattle.lsm_state.specs.Installing.{SameAnswers};
 ghost use Rattle.lsm_state.specs.Options.{sizes_of};
+ghost use Rattle.lsm_state.specs.declared.gather_fault.GatherFault.TheVariants as gather;
 
 use crate::gather_fault::GatherFault;
 use crate::install_change::push_deleted;
@@ -79,7 +80,7 @@ impl<N: Boarded, S: Shelf> State<N, S> {
         ensures may { IfOk result (λ r. MatchOption r (HasNoneToGather self.now) (λ n.
             MayGather self.now n)) }
         ensures open { OnOk result (self.now.halted ≡ false) }
-        ensures refused { IfErr result (IsGatherRefusedAtOnce self.now) }
+        ensures refused { IfErr result (λ e. IsGatherRefusedAtOnce self.now (gather.State e)) }
     {
         if self.halted {
             return Err(StateFault::Halted);
@@ -153,13 +154,14 @@ impl<N: Boarded, S: Shelf> State<N, S> {
         changed_files();
         changed_tables();
         whole_tables_fit();
-        let last = self.last();
+        let before = self.last();
         let version = self.slots.version();
         // What holds of the version is told by this call.
         let _last = version.last();
-        let gone = newest_of(alloc, &self.registry, version.level(0), least)?;
-        let table = self.put_gathered(rt, alloc, shelf, &gone)?;
-        let change = change_to(alloc, &self.registry, &gone, table, last)?;
+        let tables = newest_of(alloc, &self.registry, version.level(0), least)?;
+        let gone = tables.as_slice();
+        let table = self.put_gathered(rt, alloc, shelf, gone)?;
+        let change = change_to(alloc, &self.registry, gone, table, before)?;
         let nothing = History::empty();
         self.change_version(rt, alloc, shelf, &change, slot, None, &nothing)?;
         Ok(())

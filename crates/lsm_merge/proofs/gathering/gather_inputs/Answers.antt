@@ -8,7 +8,7 @@ use Rattle.lsm_table.specs.declared.table_options.TableOptions.{TableOptions}
 use Rattle.lsm_model.specs.Files.{all_entries}
 use Rattle.lsm_version.specs.Versions.{IsWhole}
 use Rattle.lsm_merge.specs.Causes.{HasCause, NamesRefused}
-use Rattle.lsm_merge.specs.Gathering.{HasEachOf, PutsAtMost}
+use Rattle.lsm_merge.specs.Gathering.{HasEachOf, IsOfOneOutput, PutsAtMost}
 use Rattle.lsm_merge.specs.InputOrder.{HasTwins}
 use Rattle.lsm_merge.specs.Inputs.{IsOrderFault, input_numbers}
 use Rattle.lsm_merge.specs.Work.{IsBuilt, job_of}
@@ -88,3 +88,11 @@ returns-in_err-take_in-clause-order g c = λ honest stand.
 pub returns-in_err-take_in-clause-stands : goal.returns-in_err-take_in-clause-stands
 returns-in_err-take_in-clause-stands g c =
     err_if _ (inl (becomes_then c.args.shelf.now c.entries.shelf c.take_in.new.shelf (c.entries.invariant).told c.take_in.ensures.told))
+
+pub returns-then-is_at_end-clause-numbers : goal.returns-then-is_at_end-clause-numbers
+returns-then-is_at_end-clause-numbers g c = subst (λ (n : ℕ). IfErr c.put_gathered.result (IsOfOneOutput n)) (c.entries.invariant).number_is c.put_gathered.ensures.numbers
+
+pub returns-in_err-take_in-clause-numbers : goal.returns-in_err-take_in-clause-numbers
+returns-in_err-take_in-clause-numbers g c =
+    err_is (IsOfOneOutput c.args.number) c.from_residual-in_err-take_in.result c.in_err-take_in.field-0.0 c.from_residual-in_err-take_in.ensures.1
+    (subst (λ (n : ℕ). IsOfOneOutput n c.in_err-take_in.field-0.0) (c.entries.invariant).number_is c.in_err-take_in.ensures.numbers)

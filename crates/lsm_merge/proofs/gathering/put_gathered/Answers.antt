@@ -1,13 +1,14 @@
-use Rattle.std.proofs.Common.{◌≡◌, ℕ, List, sym, ◌∙◌, ap, subst, inl}
+use Rattle.std.specs.Prelude.{IfErr}
+use Rattle.std.proofs.Common.{◌≡◌, ℕ, List, [], sym, ◌∙◌, ap, subst, inl}
 use Rattle.lsm_shelf.specs.Told.{Becomes, putting}
 use Rattle.lsm_shelf.proofs.CallerLemmas.{becomes_same}
 use Rattle.lsm_table.specs.HeldTable.{entries_in}
 use Rattle.lsm_table.specs.Table.{IsTable}
 use Rattle.lsm_table.specs.TableBuilding.{table_bytes}
-use Rattle.lsm_merge.proofs.GatherLaws.{puts_at_most, unnumbered_why}
+use Rattle.lsm_merge.proofs.GatherLaws.{one_build, one_why, puts_at_most}
 use Rattle.lsm_merge.proofs.PlaceLaws.{err_is}
 use Rattle.lsm_merge.proofs.PutLaws.{err_if, whole_of}
-use Rattle.lsm_merge.specs.Gathering.{IsUnnumbered}
+use Rattle.lsm_merge.specs.Gathering.{IsOfOneOutput}
 use Rattle.lsm_merge.proofs.gathering.put_gathered.Goals as goal
 
 pub returns-clause-whole : goal.returns-clause-whole
@@ -42,4 +43,6 @@ returns-in_err-table-clause-stands g c =
 
 pub returns-in_err-table-clause-numbers : goal.returns-in_err-table-clause-numbers
 returns-in_err-table-clause-numbers g c =
-    err_is IsUnnumbered c.from_residual.result c.in_err-table.field-0.0 c.from_residual.ensures.1 (unnumbered_why c.in_err-table.field-0.0 c.in_err-table.ensures.why)
+    subst (λ (n : ℕ). IfErr c.from_residual.result (IsOfOneOutput n)) c.number-number.ensures
+    (err_is (IsOfOneOutput c.number-number.result) c.from_residual.result c.in_err-table.field-0.0 c.from_residual.ensures.1
+    (one_why c.number-number.result c.new-put.result.items c.put_image.new.put.items c.in_err-table.field-0.0 (c.in_err-table.ensures.leaves []) c.in_err-table.ensures.why))

@@ -1,12 +1,13 @@
-use Rattle.std.proofs.Common.{sym, ◌∙◌}
+use Rattle.std.proofs.Common.{[], sym, ◌∙◌}
 use Rattle.lsm_codec.specs.Entries.{Entry}
 use Rattle.lsm_codec.specs.KeyRef.{key_of}
 use Rattle.lsm_block.specs.Block.{entry_of}
 use Rattle.lsm_merge.specs.Dropping.{Follows}
-use Rattle.lsm_merge.specs.Gathering.{IsUnnumbered}
+use Rattle.lsm_merge.specs.Gathering.{IsOfOneOutput}
+use Rattle.lsm_merge.specs.Inputs.{IsOfReading}
 use Rattle.lsm_merge.proofs.Dropped.{follows_says}
-use Rattle.lsm_merge.proofs.GatherLaws.{took, unnumbered_why}
-use Rattle.lsm_merge.proofs.PlaceLaws.{ascends_after, err_is}
+use Rattle.lsm_merge.proofs.GatherLaws.{one_reading, one_why, took}
+use Rattle.lsm_merge.proofs.PlaceLaws.{ascends_after, err_is, if_err}
 use Rattle.lsm_merge.proofs.gathering.take_in.Goals as goal
 
 pub grow-requires : goal.grow-requires
@@ -17,7 +18,8 @@ grow-requires g c =
 
 pub returns-in_err-grow-clause-numbers : goal.returns-in_err-grow-clause-numbers
 returns-in_err-grow-clause-numbers g c =
-    err_is IsUnnumbered c.from_residual.result c.in_err-grow.field-0.0 c.from_residual.ensures.1 (unnumbered_why c.in_err-grow.field-0.0 c.in_err-grow.ensures.why)
+    err_is (IsOfOneOutput c.args.output.now.number) c.from_residual.result c.in_err-grow.field-0.0 c.from_residual.ensures.1
+    (one_why c.args.output.now.number [] [] c.in_err-grow.field-0.0 (c.in_err-grow.ensures.leaves [] []) c.in_err-grow.ensures.why)
 
 pub returns-clause-ok : goal.returns-clause-ok
 returns-clause-ok g c = λ p rest is.
@@ -26,3 +28,6 @@ returns-clause-ok g c = λ p rest is.
 
 pub returns-clause-refused : goal.returns-clause-refused
 returns-clause-refused g c = c.pass.ensures.refused c.args.output.now.options
+
+pub returns-clause-numbers : goal.returns-clause-numbers
+returns-clause-numbers g c = if_err IsOfReading (IsOfOneOutput c.args.output.now.number) c.pass.result (λ e k. one_reading c.args.output.now.number e k) c.pass.ensures.kind
