@@ -26,7 +26,7 @@ use Rattle.lsm_journal.specs.Difference.{Difference, changed_by}
 use Rattle.lsm_journal.specs.Sending.{Sends}
 use Rattle.lsm_version.specs.Versions.{Levels}
 use Rattle.lsm_state.specs.Changing.{IsChangeRefusal, IsSlotRefusal}
-use Rattle.lsm_state.specs.Gathering.{FailsToBringIn, FailsToMerge, Gathers, IsGatherRefusal, IsGatherRefusedAtOnce, IsRefusedIn, gathered}
+use Rattle.lsm_state.specs.Gathering.{FailsToBringIn, FailsToMerge, Gathers, HasNoneToGather, IsGatherRefusal, IsGatherRefusedAtOnce, IsRefusedIn, gathered}
 use Rattle.lsm_state.specs.Held.{Held}
 use Rattle.lsm_state.specs.Ingesting.{with_number}
 use Rattle.lsm_state.specs.Options.{sizes_of}
@@ -38,8 +38,9 @@ use Rattle.lsm_state.specs.declared.state_fault.StateFault.TheVariants as state
 use Rattle.lsm_store.specs.Picking.{IsPickedUnder}
 use Rattle.lsm_store.specs.WorkerFault.{of_gather}
 use Rattle.lsm_store.specs.Workers.{IsOfInstalling, IsOfTurn}
-use Rattle.lsm_store.specs.Working.{AreReturned, FailsToGather, GathersUnder, Given, IsCompaction, IsCounted, IsCountedIf, IsDone, IsLast, IsPutOrSent, IsRefusedBy, IsReturned, IsStoppedBy, IsTaken, IsTurn, IsUndone, IsWorked, OnlyPutsAndSends, Turns, compactions, given_each, given_one}
+use Rattle.lsm_store.specs.Working.{AreReturned, FindsNoneToGather, GathersUnder, Given, IsCompaction, IsCounted, IsCountedIf, IsDone, IsLast, IsPutOrSent, IsRefusedBy, IsReturned, IsStoppedBy, IsTaken, IsTurn, IsUndone, IsWorked, OnlyPutsAndSends, Turns, compactions, given_each, given_one}
 use Rattle.lsm_store.specs.declared.picks.Picks.{Picks}
+use Rattle.lsm_store.specs.declared.picks.Picks.TheVariants.{Joining}
 use Rattle.lsm_store.specs.declared.turn.Turn.{Turn}
 use Rattle.lsm_store.specs.declared.turn.Turn.TheVariants.{Gathered, Compacted}
 use Rattle.lsm_store.specs.declared.worker_end.WorkerEnd.{WorkerEnd}
@@ -403,9 +404,17 @@ merge_of_turn Honest old new e was is (inr (least, may, inl lacks)) = absurd lac
 merge_of_turn Honest old new e was is (inr (least, may, inr (sought, slot, inl merge))) = merge.1.readable
 merge_of_turn Honest old new e was is (inr (least, may, inr (sought, slot, inr change))) = absurd change
 
-pub of_turn : (Honest : Type 0) (Refused : Asked → ShelfFault → Type 0) (keeps : Held → Type 0) (picks : Picks) (e : GatherFault) (was is : Told) → FailsToGather Honest Refused keeps picks e was is → IsOfTurn Honest (of_gather e)
-of_turn Honest Refused keeps picks (gather.State e) was is f = state_of_turn Honest f.old f.new e was is f.refusal
-of_turn Honest Refused keeps picks (gather.Merge e) was is f = merge_of_turn Honest f.old f.new e was is f.refusal
+pub of_turn : (Honest : Type 0) (old new : Held) (e : GatherFault) (was is : Told) → IsGatherRefusal Honest old new e was is → IsOfTurn Honest (of_gather e)
+of_turn Honest old new (gather.State e) was is refusal = state_of_turn Honest old new e was is refusal
+of_turn Honest old new (gather.Merge e) was is refusal = merge_of_turn Honest old new e was is refusal
+
+-- ---- looks for files to gather
+
+pub looked_under : (Honest : Type 0) (keeps : Held → Type 0) (old new : Held) (was is : Told) (did : Bool) → ∥ keeps old ∥₁
+    → MatchBool did ((n : ℕ) × Gathers Honest old new n was is) (HasNoneToGather old × (is ≡ was))
+    → MatchBool did (GathersUnder Honest keeps Joining was is) (FindsNoneToGather keeps Joining × (is ≡ was))
+looked_under Honest keeps old new was is true kept g = record { joining = refl; old = old; new = new; kept = kept; number = g.0; gathers = g.1 }
+looked_under Honest keeps old new was is false kept n = ((λ e. (old, kept, n.0)), n.1)
 
 -- ---- outcomes
 

@@ -1,17 +1,20 @@
 //! What a worker does in its thread.
 
-ghost use Rattle.std.specs.Prelude.{◌≡◌, ℕ, IfErr, IfOk, MatchBool, MatchOption, OnOk};
+ghost use Rattle.std.specs.Prelude.{◌≡◌, ℕ, ◌-◌, ◌^◌, min, List, ◌∷◌, IfErr, IfOk, MatchBool};
+ghost use Rattle.std.specs.Prelude.{MatchOption, OnOk};
 ghost use Rattle.lsm_live.specs.Booked.{HasTicket, without};
 ghost use Rattle.lsm_state.specs.Gathering.{GatherRefused, Gathers, HasNoneToGather};
 ghost use Rattle.lsm_state.specs.Gathering.{IsGatherRefusal};
 ghost use Rattle.lsm_store.specs.Compacting.{IsCompactingStep, IsKeptByCompaction};
 ghost use Rattle.lsm_store.specs.Picking.{IsBooked, IsManual, IsPicked, IsPickedUnder};
 ghost use Rattle.lsm_store.specs.declared.picks.Picks.TheVariants.{Choice, Joining};
+ghost use Rattle.lsm_store.specs.declared.turn.Turn.{Turn};
+ghost use Rattle.lsm_store.specs.WorkerFault.{of_gather};
 ghost use Rattle.lsm_store.specs.Workers.{IsOfInstalling, IsOfReserving, IsOfTurn, IsWorkersEnd};
 ghost use Rattle.lsm_store.specs.Working.{FailsToGather, FindsNone, FindsNoJob, FindsNoneToGather};
 ghost use Rattle.lsm_store.specs.Working.{GathersUnder, IsCompaction, IsDone, IsStoppedBy, IsTaken};
 ghost use Rattle.lsm_store.specs.Working.{IsTurn, IsUndone, IsUntaken, IsWorked, LeavesOut};
-ghost use Rattle.lsm_store.specs.Working.{TakesIn, given_one};
+ghost use Rattle.lsm_store.specs.Working.{TakesIn, compactions, given_one};
 
 use crate::bell::Bell;
 use crate::gate::Gate;
@@ -66,6 +69,7 @@ fn gather_under_lock<N: Boarded, S: Shelf, K: Invariant, R: Wait>(
         (FindsNoneToGather K.keeps Joining × (shelf.new ≡ shelf.old))) }
     ensures fails { IfErr result (λ e.
         FailsToGather S.honest (S.refuses N.place) K.keeps Joining e shelf.old shelf.new) }
+    ensures refused { IfErr result (λ e. IsOfTurn S.honest (of_gather e)) }
 {
     gather_in(&mut store.lock(rt).state, rt, alloc, shelf)
 }
@@ -84,6 +88,7 @@ fn gather<N: Boarded, S: Shelf, K: Invariant, R: Wait>(
         (FindsNoneToGather K.keeps picks.now × (shelf.new ≡ shelf.old))) }
     ensures fails { IfErr result (λ e.
         FailsToGather S.honest (S.refuses N.place) K.keeps picks.now e shelf.old shelf.new) }
+    ensures refused { IfErr result (λ e. IsOfTurn S.honest (of_gather e)) }
 {
     match picks {
         Picks::Joining => gather_under_lock(rt, alloc, store, shelf),
@@ -334,6 +339,18 @@ fn turn<N: Boarded, S: Shelf, K: Invariant, G: Gate, R: Wait>(
     }
 }
 
+/// So many results are installed after a turn more.
+#[tactic(auto, using(crate::proofs::WorkingLaws::one_turn_more))]
+fn counted(installed: u64, did: Turn) -> u64
+    ensures more { (turns : List Turn) → installed ≡ min (compactions turns) (2 ^ 64 - 1)
+        → result ≡ min (compactions (did ∷ turns)) (2 ^ 64 - 1) }
+{
+    match did {
+        Turn::Gathered => installed,
+        Turn::Compacted => installed.saturating_add(1),
+    }
+}
+
 /// The registry of the store's tables.
 fn registry_of<N: Boarded, S: Shelf, K: Invariant, R: Wait>(
     rt: &R,
@@ -378,9 +395,8 @@ pub(crate) fn work<N: Boarded, S: Shelf, K: Invariant, G: Gate, R: Wait>(
         match turn(
             rt, alloc, store, &registry, service, shelf, gate, worker, picks,
         ) {
-            Ok(Some(Turn::Gathered)) => bell.installed(rt),
-            Ok(Some(Turn::Compacted)) => {
-                installed = installed.saturating_add(1);
+            Ok(Some(did)) => {
+                installed = counted(installed, did);
                 bell.installed(rt);
             }
             Ok(None) => {
