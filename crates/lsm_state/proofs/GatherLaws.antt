@@ -93,7 +93,7 @@ numbers_left h x n same limit = go (is_at_limit h.journal) refl n
     next = ap (λ (z : Held). z.next) same
 
     go : (b : Bool) → is_at_limit h.journal ≡ b → h.next + (if b then 2 else 1) < 2 ^ 64 → x.next + 1 < 2 ^ 64
-    go true e k = omega arith
+    go true e k = (let more = next in omega (arith, more, k))
     go false e k = absurd (cc (at, e))
 
 -- no live job has a gathered table as an input
@@ -212,7 +212,7 @@ gather_event law fit honest h least t c next seven rule is i more = record {
               let x = any_says (λ (G : File). G.number == F.number) a.job.inputs is in
               let input : Has (job_of b.0.work).inputs x.0 = subst (λ (l : Live). Has l.job.inputs x.0) (sym b.2) x.1 in
               absurd (free_of h least u.0 b.0 x.0 rule u.1 b.1 input (eqb-true x.0.number F.number x.2 ∙ sym (ap (λ (X : File). X.number) u.2))))
-          | inr no ↦ no
+          | inr other ↦ other
         ]
 
 -- the state whose number is spent, after the change

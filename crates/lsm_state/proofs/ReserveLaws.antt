@@ -27,7 +27,7 @@ use Rattle.lsm_live.specs.Planned.{IsWorkOf}
 use Rattle.lsm_live.specs.Reserving.{reserved_jobs}
 use Rattle.lsm_live.proofs.CallerLemmas.{live_has, live_says, lives_added, reserved_has}
 use Rattle.lsm_state.specs.Held.{HasInputs, Held, IsLawfulState, plain}
-use Rattle.lsm_state.specs.Reserving.{HasOrderedInputs, IsChosen, IsClosedPlan, IsOfMoment, IsPlanAt, IsRangePlan, IsRangeRefusal, IsReserveRefusal, IsReserving, plan_in, reserved, HasNoJoining, HasNoNext, HasNoneBelow, IsReady, HasToWait, IsJoining, IsNext, IsNextRefusal, IsPlanRefusal}
+use Rattle.lsm_state.specs.Reserving.{HasOrderedInputs, IsChosen, IsClosedPlan, IsOfMoment, IsPlanAt, IsRangePlan, IsRangeRefusal, IsReserveRefusal, IsReserving, plan_in, reserved, HasNoJoining, HasNoNext, IsReady, Moves, WaitsForJoining, HasToWait, IsJoining, IsNext, IsNextRefusal, IsPlanRefusal}
 use Rattle.lsm_state.specs.declared.state_fault.StateFault.{StateFault}
 use Rattle.lsm_state.specs.declared.state_fault.StateFault.TheVariants.{OutOfMemory, Shelf, Read, BadLevel, EmptyBatch, KeyOrder, TooLarge, LevelZeroFull, SequencesSpent, Halted, UnknownSnapshot, Conflict, UnknownTicket, NumbersSpent, Stale, SlotsHeld, VersionsSpent, PinsSpent}
 use Rattle.lsm_state.proofs.StateLaws.{agreed, stepped}
@@ -260,16 +260,19 @@ pub next_unchosen : (h : Held) (o : Option TablePlan) → HasNoChoice h.slots.ve
 next_unchosen h None none m = (m, inl none)
 next_unchosen h (Some p) none m = inr (inl (inl none, m))
 
--- where the choice is of level 0, what is joined is next, or else the choice
-pub next_joined : (h : Held) (chosen p : TablePlan) → IsChosen h chosen → chosen.level ≡ 0 → IsJoining h p → IsNext h p
-next_joined h chosen p c low j = inr (inl (inr (chosen, c, low), j))
+pub match_none : {A : Type 0} (o : Option A) (P : Type 0) (Q : A → Type 0) → ((x : A) → o ≡ Some x → ⊥) → MatchOption o P Q → P
+match_none None P Q f m = m
+match_none (Some x) P Q f m = absurd (f x refl)
+
+-- where the choice waits, what is joined is next, or else the choice, where level 0 is ready
+pub next_joined : (h : Held) (chosen p : TablePlan) → WaitsForJoining h chosen → IsJoining h p → IsNext h p
+next_joined h chosen p w j = inr (inl (inr (chosen, w), j))
 
 pub next_chosen : (h : Held) (p : TablePlan) → HasNoJoining h → IsChosen h p → IsReady h → IsNext h p
 next_chosen h p none c ready = inr (inr (none, c, ready))
 
--- where that is not ready, nothing is
-pub next_waits : (h : Held) (chosen : TablePlan) → HasNoJoining h → IsChosen h chosen → chosen.level ≡ 0 → (IsReady h → ⊥) → HasNoNext h
-next_waits h chosen none c low waits = (none, inr (chosen, c, low, waits))
+pub next_waits : (h : Held) (chosen : TablePlan) → HasNoJoining h → WaitsForJoining h chosen → (IsReady h → ⊥) → HasNoNext h
+next_waits h chosen none w waits = (none, inr (chosen, w, waits))
 
 pub joined_low : (v : Levels) (target_size : ℕ) (s : Span) → IsJoined v target_size s → s.level ≤ 5
 joined_low v target_size s j = j.inside

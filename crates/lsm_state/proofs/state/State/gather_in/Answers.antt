@@ -27,21 +27,21 @@ pub put_gathered-requires-clause-some : goal.put_gathered-requires-clause-some
 put_gathered-requires-clause-some g c κs within =
     let h : Held = c.args.self.now in
     let v : c.version-version.result.now ≡ h.slots.version = c.version-version.ensures.version ∙ ap (λ (z : Held). z.slots.version) c.self.view_is in
-    let gone : c.as_slice-gone.result.now ≡ gathered h c.args.least = c.as_slice-gone.ensures ∙ c.in_ok-tables.ensures ∙ ap (λ (ts : List Table). newest c.args.least ts) (c.level.ensures ∙ ap (λ (l : Levels). level_in l.tables 0) v) in
+    let gone : c.as_slice-gone.result.now ≡ gathered h c.args.least = c.as_slice-gone.ensures.value ∙ c.in_ok-tables.ensures ∙ ap (λ (ts : List Table). newest c.args.least ts) (c.level.ensures ∙ ap (λ (l : Levels). level_in l.tables 0) v) in
     subst (λ (ts : List Table). 0 < length ts) (sym gone) (two_at_least h c.args.least c.requires.may.rule)
 
 pub put_gathered-requires-clause-whole : goal.put_gathered-requires-clause-whole
 put_gathered-requires-clause-whole g c κs within =
     let h : Held = c.args.self.now in
     let v : c.version-version.result.now ≡ h.slots.version = c.version-version.ensures.version ∙ ap (λ (z : Held). z.slots.version) c.self.view_is in
-    let gone : c.as_slice-gone.result.now ≡ gathered h c.args.least = c.as_slice-gone.ensures ∙ c.in_ok-tables.ensures ∙ ap (λ (ts : List Table). newest c.args.least ts) (c.level.ensures ∙ ap (λ (l : Levels). level_in l.tables 0) v) in
+    let gone : c.as_slice-gone.result.now ≡ gathered h c.args.least = c.as_slice-gone.ensures.value ∙ c.in_ok-tables.ensures ∙ ap (λ (ts : List Table). newest c.args.least ts) (c.level.ensures ∙ ap (λ (l : Levels). level_in l.tables 0) v) in
     λ honest t k. whole_newest c.args.least h.slots.version t (subst IsSound v (c.last-last.ensures.sound honest)) (subst (λ (ts : List Table). Has ts t) gone k)
 
 pub change_version-requires-clause-suits : goal.change_version-requires-clause-suits
 change_version-requires-clause-suits g c κs within =
     let h : Held = c.args.self.now in
     let v : c.version-version.result.now ≡ h.slots.version = c.version-version.ensures.version ∙ ap (λ (z : Held). z.slots.version) c.self.view_is in
-    let gone : c.as_slice-gone.result.now ≡ gathered h c.args.least = c.as_slice-gone.ensures ∙ c.in_ok-tables.ensures ∙ ap (λ (ts : List Table). newest c.args.least ts) (c.level.ensures ∙ ap (λ (l : Levels). level_in l.tables 0) v) in
+    let gone : c.as_slice-gone.result.now ≡ gathered h c.args.least = c.as_slice-gone.ensures.value ∙ c.in_ok-tables.ensures ∙ ap (λ (ts : List Table). newest c.args.least ts) (c.level.ensures ∙ ap (λ (l : Levels). level_in l.tables 0) v) in
     let t : Table = c.in_ok-table.table in
     let x : Held = c.put_gathered.new.self in
     let same = c.put_gathered.ensures.rest in
@@ -54,7 +54,7 @@ pub change_version-requires-clause-whole : goal.change_version-requires-clause-w
 change_version-requires-clause-whole g c κs within =
     let h : Held = c.args.self.now in
     let v : c.version-version.result.now ≡ h.slots.version = c.version-version.ensures.version ∙ ap (λ (z : Held). z.slots.version) c.self.view_is in
-    let gone : c.as_slice-gone.result.now ≡ gathered h c.args.least = c.as_slice-gone.ensures ∙ c.in_ok-tables.ensures ∙ ap (λ (ts : List Table). newest c.args.least ts) (c.level.ensures ∙ ap (λ (l : Levels). level_in l.tables 0) v) in
+    let gone : c.as_slice-gone.result.now ≡ gathered h c.args.least = c.as_slice-gone.ensures.value ∙ c.in_ok-tables.ensures ∙ ap (λ (ts : List Table). newest c.args.least ts) (c.level.ensures ∙ ap (λ (l : Levels). level_in l.tables 0) v) in
     let t : Table = c.in_ok-table.table in
     let x : Held = c.put_gathered.new.self in
     let same = c.put_gathered.ensures.rest in
@@ -67,7 +67,7 @@ pub change_version-requires-clause-law : goal.change_version-requires-clause-law
 change_version-requires-clause-law g c κs within =
     let h : Held = c.args.self.now in
     let v : c.version-version.result.now ≡ h.slots.version = c.version-version.ensures.version ∙ ap (λ (z : Held). z.slots.version) c.self.view_is in
-    let gone : c.as_slice-gone.result.now ≡ gathered h c.args.least = c.as_slice-gone.ensures ∙ c.in_ok-tables.ensures ∙ ap (λ (ts : List Table). newest c.args.least ts) (c.level.ensures ∙ ap (λ (l : Levels). level_in l.tables 0) v) in
+    let gone : c.as_slice-gone.result.now ≡ gathered h c.args.least = c.as_slice-gone.ensures.value ∙ c.in_ok-tables.ensures ∙ ap (λ (ts : List Table). newest c.args.least ts) (c.level.ensures ∙ ap (λ (l : Levels). level_in l.tables 0) v) in
     let t : Table = c.in_ok-table.table in
     let x : Held = c.put_gathered.new.self in
     let same = c.put_gathered.ensures.rest in
@@ -80,7 +80,7 @@ pub change_version-requires-clause-inputs : goal.change_version-requires-clause-
 change_version-requires-clause-inputs g c κs within =
     let h : Held = c.args.self.now in
     let v : c.version-version.result.now ≡ h.slots.version = c.version-version.ensures.version ∙ ap (λ (z : Held). z.slots.version) c.self.view_is in
-    let gone : c.as_slice-gone.result.now ≡ gathered h c.args.least = c.as_slice-gone.ensures ∙ c.in_ok-tables.ensures ∙ ap (λ (ts : List Table). newest c.args.least ts) (c.level.ensures ∙ ap (λ (l : Levels). level_in l.tables 0) v) in
+    let gone : c.as_slice-gone.result.now ≡ gathered h c.args.least = c.as_slice-gone.ensures.value ∙ c.in_ok-tables.ensures ∙ ap (λ (ts : List Table). newest c.args.least ts) (c.level.ensures ∙ ap (λ (l : Levels). level_in l.tables 0) v) in
     let t : Table = c.in_ok-table.table in
     let x : Held = c.put_gathered.new.self in
     let same = c.put_gathered.ensures.rest in
@@ -93,7 +93,7 @@ pub change_version-requires-clause-agrees : goal.change_version-requires-clause-
 change_version-requires-clause-agrees g c κs within =
     let h : Held = c.args.self.now in
     let v : c.version-version.result.now ≡ h.slots.version = c.version-version.ensures.version ∙ ap (λ (z : Held). z.slots.version) c.self.view_is in
-    let gone : c.as_slice-gone.result.now ≡ gathered h c.args.least = c.as_slice-gone.ensures ∙ c.in_ok-tables.ensures ∙ ap (λ (ts : List Table). newest c.args.least ts) (c.level.ensures ∙ ap (λ (l : Levels). level_in l.tables 0) v) in
+    let gone : c.as_slice-gone.result.now ≡ gathered h c.args.least = c.as_slice-gone.ensures.value ∙ c.in_ok-tables.ensures ∙ ap (λ (ts : List Table). newest c.args.least ts) (c.level.ensures ∙ ap (λ (l : Levels). level_in l.tables 0) v) in
     let t : Table = c.in_ok-table.table in
     let x : Held = c.put_gathered.new.self in
     let same = c.put_gathered.ensures.rest in
@@ -110,7 +110,7 @@ pub returns-clause-ok : goal.returns-clause-ok
 returns-clause-ok g c =
     let h : Held = c.args.self.now in
     let v : c.version-version.result.now ≡ h.slots.version = c.version-version.ensures.version ∙ ap (λ (z : Held). z.slots.version) c.self.view_is in
-    let gone : c.as_slice-gone.result.now ≡ gathered h c.args.least = c.as_slice-gone.ensures ∙ c.in_ok-tables.ensures ∙ ap (λ (ts : List Table). newest c.args.least ts) (c.level.ensures ∙ ap (λ (l : Levels). level_in l.tables 0) v) in
+    let gone : c.as_slice-gone.result.now ≡ gathered h c.args.least = c.as_slice-gone.ensures.value ∙ c.in_ok-tables.ensures ∙ ap (λ (ts : List Table). newest c.args.least ts) (c.level.ensures ∙ ap (λ (l : Levels). level_in l.tables 0) v) in
     let t : Table = c.in_ok-table.table in
     let x : Held = c.put_gathered.new.self in
     let same = c.put_gathered.ensures.rest in
@@ -135,7 +135,7 @@ pub returns-clause-event : goal.returns-clause-event
 returns-clause-event g c =
     let h : Held = c.args.self.now in
     let v : c.version-version.result.now ≡ h.slots.version = c.version-version.ensures.version ∙ ap (λ (z : Held). z.slots.version) c.self.view_is in
-    let gone : c.as_slice-gone.result.now ≡ gathered h c.args.least = c.as_slice-gone.ensures ∙ c.in_ok-tables.ensures ∙ ap (λ (ts : List Table). newest c.args.least ts) (c.level.ensures ∙ ap (λ (l : Levels). level_in l.tables 0) v) in
+    let gone : c.as_slice-gone.result.now ≡ gathered h c.args.least = c.as_slice-gone.ensures.value ∙ c.in_ok-tables.ensures ∙ ap (λ (ts : List Table). newest c.args.least ts) (c.level.ensures ∙ ap (λ (l : Levels). level_in l.tables 0) v) in
     let t : Table = c.in_ok-table.table in
     let x : Held = c.put_gathered.new.self in
     let same = c.put_gathered.ensures.rest in
@@ -190,7 +190,7 @@ pub returns-in_err-table-clause-refused : goal.returns-in_err-table-clause-refus
 returns-in_err-table-clause-refused g c =
     let h : Held = c.args.self.now in
     let v : c.version-version.result.now ≡ h.slots.version = c.version-version.ensures.version ∙ ap (λ (z : Held). z.slots.version) c.self.view_is in
-    let gone : c.as_slice-gone.result.now ≡ gathered h c.args.least = c.as_slice-gone.ensures ∙ c.in_ok-tables.ensures ∙ ap (λ (ts : List Table). newest c.args.least ts) (c.level.ensures ∙ ap (λ (l : Levels). level_in l.tables 0) v) in
+    let gone : c.as_slice-gone.result.now ≡ gathered h c.args.least = c.as_slice-gone.ensures.value ∙ c.in_ok-tables.ensures ∙ ap (λ (ts : List Table). newest c.args.least ts) (c.level.ensures ∙ ap (λ (l : Levels). level_in l.tables 0) v) in
     let x : Held = c.put_gathered.new.self in
     let was : Told = c.args.shelf.now in
     let is : Told = c.put_gathered.new.shelf in
@@ -204,7 +204,7 @@ pub returns-in_err-change-clause-refused : goal.returns-in_err-change-clause-ref
 returns-in_err-change-clause-refused g c =
     let h : Held = c.args.self.now in
     let v : c.version-version.result.now ≡ h.slots.version = c.version-version.ensures.version ∙ ap (λ (z : Held). z.slots.version) c.self.view_is in
-    let gone : c.as_slice-gone.result.now ≡ gathered h c.args.least = c.as_slice-gone.ensures ∙ c.in_ok-tables.ensures ∙ ap (λ (ts : List Table). newest c.args.least ts) (c.level.ensures ∙ ap (λ (l : Levels). level_in l.tables 0) v) in
+    let gone : c.as_slice-gone.result.now ≡ gathered h c.args.least = c.as_slice-gone.ensures.value ∙ c.in_ok-tables.ensures ∙ ap (λ (ts : List Table). newest c.args.least ts) (c.level.ensures ∙ ap (λ (l : Levels). level_in l.tables 0) v) in
     let t : Table = c.in_ok-table.table in
     let x : Held = c.put_gathered.new.self in
     let same = c.put_gathered.ensures.rest in
@@ -218,7 +218,7 @@ pub returns-in_err-change_version-clause-refused : goal.returns-in_err-change_ve
 returns-in_err-change_version-clause-refused g c =
     let h : Held = c.args.self.now in
     let v : c.version-version.result.now ≡ h.slots.version = c.version-version.ensures.version ∙ ap (λ (z : Held). z.slots.version) c.self.view_is in
-    let gone : c.as_slice-gone.result.now ≡ gathered h c.args.least = c.as_slice-gone.ensures ∙ c.in_ok-tables.ensures ∙ ap (λ (ts : List Table). newest c.args.least ts) (c.level.ensures ∙ ap (λ (l : Levels). level_in l.tables 0) v) in
+    let gone : c.as_slice-gone.result.now ≡ gathered h c.args.least = c.as_slice-gone.ensures.value ∙ c.in_ok-tables.ensures ∙ ap (λ (ts : List Table). newest c.args.least ts) (c.level.ensures ∙ ap (λ (l : Levels). level_in l.tables 0) v) in
     let t : Table = c.in_ok-table.table in
     let x : Held = c.put_gathered.new.self in
     let same = c.put_gathered.ensures.rest in
@@ -248,7 +248,7 @@ pub returns-in_err-change_version-clause-asked : goal.returns-in_err-change_vers
 returns-in_err-change_version-clause-asked g c =
     let h : Held = c.args.self.now in
     let v : c.version-version.result.now ≡ h.slots.version = c.version-version.ensures.version ∙ ap (λ (z : Held). z.slots.version) c.self.view_is in
-    let gone : c.as_slice-gone.result.now ≡ gathered h c.args.least = c.as_slice-gone.ensures ∙ c.in_ok-tables.ensures ∙ ap (λ (ts : List Table). newest c.args.least ts) (c.level.ensures ∙ ap (λ (l : Levels). level_in l.tables 0) v) in
+    let gone : c.as_slice-gone.result.now ≡ gathered h c.args.least = c.as_slice-gone.ensures.value ∙ c.in_ok-tables.ensures ∙ ap (λ (ts : List Table). newest c.args.least ts) (c.level.ensures ∙ ap (λ (l : Levels). level_in l.tables 0) v) in
     let t : Table = c.in_ok-table.table in
     let x : Held = c.put_gathered.new.self in
     let same = c.put_gathered.ensures.rest in
