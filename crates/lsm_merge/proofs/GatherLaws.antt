@@ -20,7 +20,6 @@ use Rattle.lsm_model.specs.Streams.{IsAscending, IsMerge}
 use Rattle.lsm_iterators.specs.Heads.{after_first, first_of, key_in, no_more, value_in}
 use Rattle.lsm_iterators.specs.Runs.{Left, ReadsNoOther}
 use Rattle.lsm_version.specs.Versions.{IsWhole, files_of}
-use Rattle.lsm_merge.specs.declared.merge_fault.InputFault.TheVariants.{Read, OutOfOrder}
 use Rattle.lsm_merge.specs.declared.merge_fault.MergeFault.{MergeFault}
 use Rattle.lsm_merge.specs.declared.merge_fault.MergeFault.TheVariants.{OutOfMemory, ReadFailed, PutFailed, UnknownTicket, NumbersSpent}
 use Rattle.lsm_merge.specs.Causes.{AnswersOf, IsUnasked, Leaves}

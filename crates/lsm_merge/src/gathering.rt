@@ -32,8 +32,9 @@ use crate::outputs::grow;
 use crate::putting::put_image;
 use crate::stream::Stream;
 use lsm_codec::Bytes;
-use lsm_table::{NamedShelf, Naming, ReadFault, Registry, Shelf, TableFault, TableOptions, TableRef};
-use lsm_table::entries_are;
+use lsm_table::{
+    NamedShelf, Naming, ReadFault, Registry, Shelf, TableFault, TableOptions, TableRef, entries_are,
+};
 use lsm_version::tables_are_whole;
 use std::alloc::Global;
 use std::sync::Wait;

@@ -1,8 +1,7 @@
 -- What a gather leaves of the law of a state, and that it is the machine's event.
-use Rattle.std.proofs.Common.{◌≡◌, ℕ, zero, suc, ◌+◌, ◌<◌, ◌≤◌, ◌==◌, Bool, true, false, not, Option, None, List, [], ◌∷◌, ◌++◌, length, map, refl, sym, ◌∙◌, ap, subst, inl, inr, arith, ◌⊎◌, ◌↔◌, All, nat_le}
-use Rattle.std.specs.Prelude.{Result, Ok, Err, IfErr, IfOk, IfSome, OnErr, ◌^◌, if◌then◌else◌}
+use Rattle.std.proofs.Common.{◌≡◌, ℕ, suc, ◌+◌, ◌<◌, ◌≤◌, ◌==◌, Bool, true, false, not, None, List, [], ◌∷◌, ◌++◌, length, map, refl, sym, ◌∙◌, ap, subst, inl, inr, arith, ◌⊎◌, ◌↔◌, All, nat_le}
+use Rattle.std.specs.Prelude.{Result, Ok, Err, IfErr, ◌^◌, if◌then◌else◌}
 use Rattle.std.specs.List.{filter, list_any}
-use Rattle.std.specs.List.Sorted.{IsPermutation}
 use Rattle.std.proofs.lemmas.Bool.{and_parts, cases_Bool, both_ways, eqb-true, eq-eqb, leb-true, leb-false}
 use Rattle.std.proofs.lemmas.List.Elements.{All-from_recursion}
 use Rattle.std.proofs.lemmas.List.Sorted.{IsPermutation-sym}
@@ -19,20 +18,20 @@ use Rattle.lsm_table.specs.Registry.{Table}
 use Rattle.lsm_table.specs.declared.table_options.TableOptions.{TableOptions}
 use Rattle.lsm_manifest.specs.EditFit.{FitsDeleted}
 use Rattle.lsm_manifest.specs.Replay.{Deletion}
-use Rattle.lsm_model.specs.Files.{File, Fits, all_entries}
+use Rattle.lsm_model.specs.Files.{File, all_entries}
 use Rattle.lsm_model.specs.Jobs.{is_input}
 use Rattle.lsm_model.specs.Law.{Law}
 use Rattle.lsm_model.specs.Plain.{IsReadable, Live, Plain, Spends, is_among}
 use Rattle.lsm_model.specs.Plain as machine
 use Rattle.lsm_model.specs.Runs.{Agrees, Gather}
-use Rattle.lsm_version.specs.Changes.{added_files, changed}
+use Rattle.lsm_version.specs.Changes.{added_files}
 use Rattle.lsm_version.specs.Versions.{IsSound, IsWhole, Levels, file_of, files, files_of, level_in}
 use Rattle.lsm_version.proofs.CallerLemmas.{file_in, files_has, has_files, level_of_files, of_level}
 use Rattle.lsm_picker.specs.Gathering.{newest}
 use Rattle.lsm_picker.specs.Gathering as picker
 use Rattle.lsm_picker.specs.Reservations.{Reserved, has_input, is_taken, reserved_of}
-use Rattle.lsm_merge.specs.Work.{Work, job_of}
-use Rattle.lsm_live.specs.Booked.{Booked, live_of, lives_of}
+use Rattle.lsm_merge.specs.Work.{job_of}
+use Rattle.lsm_live.specs.Booked.{Booked, lives_of}
 use Rattle.lsm_live.specs.Reserving.{reserved_jobs}
 use Rattle.lsm_live.proofs.CallerLemmas.{live_says, reserved_has}
 use Rattle.lsm_slots.specs.Slots.{Slotted}
@@ -40,7 +39,7 @@ use Rattle.lsm_journal.specs.HeldManifest.{is_at_limit}
 use Rattle.lsm_journal.specs.Difference.{Difference, Suits, changed_by, deleted_numbers}
 use Rattle.lsm_state.specs.Asked.{ChangeRefused, OnShelf}
 use Rattle.lsm_state.specs.Changing.{ChangesVersion, HasSlot, IsChangeRefusal, Sought, plain_after}
-use Rattle.lsm_state.specs.Gathering.{FailsToBringIn, FailsToMerge, GatherRefused, Gathers, IsGatherChange, IsGatherRefusal, IsGathered, IsGatheredIn, IsGathering, IsRefusedIn, IsToGather, IsUngathered, MayGather, gathered}
+use Rattle.lsm_state.specs.Gathering.{GatherRefused, Gathers, IsGatherChange, IsGatherRefusal, IsGathered, IsGatheredIn, IsGathering, IsRefusedIn, IsToGather, IsUngathered, MayGather, gathered}
 use Rattle.lsm_state.specs.Held.{HasInputs, Held, IsLawfulState, plain}
 use Rattle.lsm_state.specs.Ingesting.{HasNumbers, with_number, with_slots}
 use Rattle.lsm_state.specs.Installing.{SameAnswers, deleted_at}
@@ -156,9 +155,10 @@ gather_event law fit honest h least t c next seven rule is i more = record {
   files = files (changed_by c v);
   next = next;
   is = refl;
-  were = λ F k. (let u = files_has 0 gone F k in
-      (of_level v.tables 0 F (subst (λ (G : File). Has (files_of 0 (level_in v.tables 0)) G) u.2 (has_files 0 (level_in v.tables 0) u.0 (newest_says least (level_in v.tables 0) u.0 u.1).0)),
-      level_of_files 0 gone F k));
+  were = λ F k. (let u = files_has 0 gone F k in (
+    of_level v.tables 0 F (subst (λ (G : File). Has (files_of 0 (level_in v.tables 0)) G) u.2 (has_files 0 (level_in v.tables 0) u.0 (newest_says least (level_in v.tables 0) u.0 u.1).0)),
+    level_of_files 0 gone F k,
+  ));
   newest = λ F G k level other g. older F G k level other g;
   unused = λ a F k g. unused a F k g;
   level = refl;

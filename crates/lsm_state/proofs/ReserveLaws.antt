@@ -16,7 +16,7 @@ use Rattle.lsm_version.specs.FileNumbers.{AreDistinct}
 use Rattle.lsm_version.specs.Versions.{AreInOrder, IsSound, IsWhole, Levels, file_of, files, numbers_in}
 use Rattle.lsm_picker.specs.Choice.{HasNoChoice, IsChoice}
 use Rattle.lsm_picker.specs.Gathering as picker
-use Rattle.lsm_picker.specs.Joining.{IsJoined, IsSettled, Span}
+use Rattle.lsm_picker.specs.Joining.{IsJoined, Span}
 use Rattle.lsm_picker.specs.Reservations.{IsClear, IsLeastConflict, Reserved, conflicts, reserved_of}
 use Rattle.lsm_picker.specs.TablePlans.{IsPlanFrom, StandsIn, TablePlan, files_over, plan_of}
 use Rattle.lsm_picker.specs.TablePlans as planned
@@ -27,7 +27,7 @@ use Rattle.lsm_live.specs.Planned.{IsWorkOf}
 use Rattle.lsm_live.specs.Reserving.{reserved_jobs}
 use Rattle.lsm_live.proofs.CallerLemmas.{live_has, live_says, lives_added, reserved_has}
 use Rattle.lsm_state.specs.Held.{HasInputs, Held, IsLawfulState, plain}
-use Rattle.lsm_state.specs.Reserving.{HasOrderedInputs, IsChosen, IsClosedPlan, IsOfMoment, IsPlanAt, IsRangePlan, IsRangeRefusal, IsReserveRefusal, IsReserving, plan_in, reserved, HasNoJoining, HasNoNext, IsReady, Moves, WaitsForJoining, HasToWait, IsJoining, IsNext, IsNextRefusal, IsPlanRefusal}
+use Rattle.lsm_state.specs.Reserving.{HasOrderedInputs, IsChosen, IsClosedPlan, IsOfMoment, IsPlanAt, IsRangePlan, IsRangeRefusal, IsReserveRefusal, IsReserving, plan_in, reserved, HasNoJoining, HasNoNext, IsReady, WaitsForJoining, IsJoining, IsNext, IsNextRefusal, IsPlanRefusal}
 use Rattle.lsm_state.specs.declared.state_fault.StateFault.{StateFault}
 use Rattle.lsm_state.specs.declared.state_fault.StateFault.TheVariants.{OutOfMemory, Shelf, Read, BadLevel, EmptyBatch, KeyOrder, TooLarge, LevelZeroFull, SequencesSpent, Halted, UnknownSnapshot, Conflict, UnknownTicket, NumbersSpent, Stale, SlotsHeld, VersionsSpent, PinsSpent}
 use Rattle.lsm_state.proofs.StateLaws.{agreed, stepped}

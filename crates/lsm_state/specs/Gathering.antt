@@ -2,7 +2,6 @@
 -- rule; LevelDB gathers what comes in memory, before it writes a table).
 use Rattle.std.specs.Prelude.{◌≡◌, ℕ, suc, ◌+◌, ◌^◌, ◌≤◌, ◌⊎◌, false, true, List, [], ◌∷◌, None}
 use Rattle.std.specs.List.Sorted.{IsPermutation}
-use Rattle.lsm_codec.specs.Entries.{Entry}
 use Rattle.lsm_shelf.specs.Asked.{Asked}
 use Rattle.lsm_shelf.specs.Told.{Told, Becomes, putting}
 use Rattle.lsm_shelf.specs.Refusals.{IsWantOr}
@@ -34,7 +33,6 @@ use Rattle.lsm_state.specs.Installing.{deleted_at}
 use Rattle.lsm_state.specs.Options.{sizes_of}
 use Rattle.lsm_state.specs.declared.gather_fault.GatherFault.{GatherFault}
 use Rattle.lsm_state.specs.declared.gather_fault.GatherFault.TheVariants.{Merge, State}
-use Rattle.lsm_state.specs.declared.state_fault.StateFault.{StateFault}
 use Rattle.lsm_state.specs.declared.state_fault.StateFault.TheVariants.{Halted, NumbersSpent}
 use Rattle.lsm_state.specs.declared.state_fault.StateFault.TheVariants.{OutOfMemory, Shelf}
 

@@ -87,8 +87,7 @@ impl<N: Boarded, S: Shelf> State<N, S> {
         }
         let live = self.live.reservations(alloc, &self.registry)?;
         let target_size = self.options.target_size;
-        let Some(least) = to_gather(&self.registry, self.slots.version(), &live, target_size)
-        else {
+        let Some(least) = to_gather(&self.registry, self.slots.version(), &live, target_size) else {
             return Ok(None);
         };
         if self.next > u64::MAX - self.numbers_needed() {

@@ -1,4 +1,4 @@
-use Rattle.std.proofs.Common.{◌≡◌, sym, ◌∙◌}
+use Rattle.std.proofs.Common.{sym, ◌∙◌}
 use Rattle.lsm_codec.proofs.CallerLemmas.{has_left}
 use Rattle.lsm_merge.specs.Causes.{HasCause, NamesRefused}
 use Rattle.lsm_merge.specs.Gathering.{IsOfOneOutput}

@@ -5,7 +5,7 @@ use Rattle.lsm_shelf.proofs.CallerLemmas.{becomes_same}
 use Rattle.lsm_table.specs.HeldTable.{entries_in}
 use Rattle.lsm_table.specs.Table.{IsTable}
 use Rattle.lsm_table.specs.TableBuilding.{table_bytes}
-use Rattle.lsm_merge.proofs.GatherLaws.{one_build, one_why, puts_at_most}
+use Rattle.lsm_merge.proofs.GatherLaws.{one_why, puts_at_most}
 use Rattle.lsm_merge.proofs.PlaceLaws.{err_is}
 use Rattle.lsm_merge.proofs.PutLaws.{err_if, whole_of}
 use Rattle.lsm_merge.specs.Gathering.{IsOfOneOutput}

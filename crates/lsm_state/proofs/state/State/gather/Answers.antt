@@ -1,5 +1,4 @@
-use Rattle.std.proofs.Common.{◌≡◌, ℕ, ◌∙◌, refl, sym, ap, subst, inl, inr, arith}
-use Rattle.std.specs.Prelude.{List}
+use Rattle.std.proofs.Common.{ℕ, ◌∙◌, refl, ap, inl, inr, arith}
 use Rattle.lsm_shelf.specs.Asked.{Asked}
 use Rattle.lsm_shelf.specs.declared.shelf_fault.ShelfFault.{ShelfFault}
 use Rattle.lsm_shelf.specs.Told.{Told}
@@ -7,7 +6,7 @@ use Rattle.lsm_state.specs.Changing.{HasSlot, IsSlotRefusal}
 use Rattle.lsm_state.specs.Gathering.{GatherRefused, HasNoneToGather, IsGatherRefusal, IsGatherRefusedAtOnce, MayGather}
 use Rattle.lsm_state.specs.Held.{Held, plain}
 use Rattle.lsm_state.specs.declared.gather_fault.GatherFault.{GatherFault}
-use Rattle.lsm_state.specs.declared.gather_fault.GatherFault.TheVariants.{Merge, State}
+use Rattle.lsm_state.specs.declared.gather_fault.GatherFault.TheVariants.{State}
 use Rattle.lsm_state.specs.declared.state_fault.StateFault.{StateFault}
 use Rattle.lsm_state.proofs.GatherLaws.{answers_gathered, asked_looked, fault_is, gathering_looked, gathers_looked, may_looked, refused_looked, spends_looked, state_asked}
 use Rattle.lsm_state.proofs.IngestLaws.{slots_spend}
@@ -141,4 +140,3 @@ returns-in_err-gather_in-clause-asked g c =
     let e : GatherFault = c.in_err-gather_in.field-0.0 in
     fault_is (GatherRefused Refused h) c.from_residual-in_err-gather_in.result e c.from_residual-in_err-gather_in.ensures.1
     (asked_looked Refused h m e c.find_slot.ensures.rest (c.find_slot.ensures.sought).looked.version c.in_err-gather_in.ensures.asked)
-

@@ -1,7 +1,7 @@
-use Rattle.std.proofs.Common.{◌≡◌, ℕ, suc, ◌<◌, length, None, ◌++◌, ◌∙◌, refl, sym, ap, subst, inl, inr, List, []}
+use Rattle.std.proofs.Common.{◌≡◌, ℕ, ◌<◌, length, None, ◌++◌, ◌∙◌, refl, sym, ap, subst, inl, inr, List, []}
 use Rattle.lsm_codec.specs.Entries.{Entry}
 use Rattle.lsm_codec.specs.Lists.{Has}
-use Rattle.lsm_shelf.specs.Told.{Becomes, Told, putting}
+use Rattle.lsm_shelf.specs.Told.{Told}
 use Rattle.lsm_shelf.proofs.CallerLemmas.{becomes_same}
 use Rattle.lsm_table.specs.Registry.{Table}
 use Rattle.lsm_version.specs.Versions.{IsSound, Levels, level_in}
@@ -10,7 +10,6 @@ use Rattle.lsm_journal.specs.Difference.{Difference}
 use Rattle.lsm_state.specs.Changing.{ChangesVersion, IsChangeRefusal}
 use Rattle.lsm_state.specs.Gathering.{GatherRefused, IsGatherChange, IsGathered, IsRefusedIn, IsUngathered, gathered}
 use Rattle.lsm_state.specs.Held.{Held}
-use Rattle.lsm_state.specs.Ingesting.{with_number}
 use Rattle.lsm_state.specs.Options.{sizes_of}
 use Rattle.lsm_state.specs.declared.gather_fault.GatherFault.{GatherFault}
 use Rattle.lsm_state.specs.declared.gather_fault.GatherFault.TheVariants.{Merge, State}
@@ -258,4 +257,3 @@ returns-in_err-change_version-clause-asked g c =
     let e = c.in_err-change_version.field-0.0 in
     fault_is (GatherRefused (g.S.Shelf.refuses g.N.Naming.place) h) c.from_residual-in_err-change_version.result (State e) c.from_residual-in_err-change_version.ensures.1
     (asked_change (g.S.Shelf.refuses g.N.Naming.place) h x c.args.least t d e i same c.in_err-change_version.ensures.asked)
-

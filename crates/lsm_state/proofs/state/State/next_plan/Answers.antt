@@ -1,4 +1,3 @@
-use Rattle.std.proofs.Common.{◌≡◌}
 use Rattle.lsm_picker.specs.Choice.{HasNoChoice}
 use Rattle.lsm_picker.specs.TablePlans.{TablePlan}
 use Rattle.lsm_live.specs.Reserving.{reserved_jobs}

@@ -1,4 +1,4 @@
-use Rattle.std.proofs.Common.{◌≡◌, ℕ, suc, ◌+◌, ◌≤◌, false, sym, ◌∙◌, ap, subst, arith}
+use Rattle.std.proofs.Common.{◌≡◌, ◌+◌, ◌≤◌, false, ◌∙◌, ap, arith}
 use Rattle.lsm_state.specs.Held.{Held}
 use Rattle.lsm_state.proofs.ChangeLaws.{lawful_spent}
 use Rattle.lsm_state.proofs.state.State.put_gathered.Goals as goal
