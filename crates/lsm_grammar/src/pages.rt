@@ -223,18 +223,20 @@ const LEVELS: Page = Page {
     arguments: &[FOLDER, TEXT, FILES, SVG, STRICT],
     about: "Shows the levels of a folder, and what is due next",
     text: "Reads the file CURRENT of the LevelDB folder DIR and the manifest that it names,
-and nothing else: no table is opened. So it answers also where tables are
-compressed, damaged or lost, and just as fast where they are huge. Nothing is
-written in DIR. A line on standard error names each write-ahead log (`N.log`)
-that is not read.
+and the sizes of the files there: no table is opened. So it answers also where
+tables are compressed, damaged or lost, and just as fast where they are huge.
+Nothing is written in DIR. A line on standard error names each write-ahead log
+(`N.log`) that is not read.
 
 Prints a line a level, `level L files F bytes B score S` for the levels 0 to 6,
 by what the manifest says. The score is how full a level is, in hundredths: of
 level 0 its files over 4, and of the levels 1 to 5 their bytes over 10 MiB for
 level 1, and over ten times as many for each deeper one. From 1.00 on a level is
-too large. The last two lines are `last S rest R`, the last sequence and how many
-bytes at the manifest's end hold no whole record, and `due none`, or
-`due level L inputs N N ..` with the tables that the next compaction takes.
+too large. Then `tables N bytes B least L mean M` sums up the tables, and
+`folder tables T manifests M others O bytes B` the files of DIR. The last two
+lines are `last S rest R`, the last sequence and how many bytes at the manifest's
+end hold no whole record, and `due none`, or `due level L inputs N N ..` with the
+tables that the next compaction takes.
 
 --files prints a line for each file too, `LEVEL NUMBER SIZE SMALLEST LARGEST` as
 `list` does: keys are `KEY@SEQ+` for a value and `KEY@SEQ-` for a deletion, and
