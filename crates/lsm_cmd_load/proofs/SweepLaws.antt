@@ -15,4 +15,5 @@ pub still_idle : (was is : Held) → Looked was.slots is.slots → is ≡ record
 still_idle was is looked rest idle =
     let live : is.live ≡ was.live = ap (λ (h : Held). h.live) rest in
     let version : is.slots.version ≡ was.slots.version = looked.version in
-    rw (live, version) idle
+    let options : is.options ≡ was.options = ap (λ (h : Held). h.options) rest in
+    rw (live, version, options) idle
