@@ -1,6 +1,6 @@
 -- Which logs of a folder are copied, and how they are read (LevelDB's `DBImpl::Recover` of
 -- `db/db_impl.cc`).
-use Rattle.std.specs.Prelude.{◌≡◌, ◌⊎◌, ◌↔◌, ℕ, ◌<◌, List, ◌∷◌, ◌++◌, Ok, Err, All, codes, map}
+use Rattle.std.specs.Prelude.{◌≡◌, ◌⊎◌, ◌↔◌, ℕ, ◌+◌, ◌<◌, List, ◌∷◌, ◌++◌, Ok, Err, All, codes, map}
 use Rattle.std.specs.Prelude.{reverse, string_bytes}
 use Rattle.std.specs.List.{flat_map, sum_by}
 use Rattle.std.specs.List.Sorted.{IsStrictlyIncreasing}
@@ -31,6 +31,10 @@ IsLogAmong log prev files n = (file : FolderFile) × Has files file × IsLogOf l
 -- the numbers of these logs
 abbrev pub AreNumbers : (log prev : ℕ) → List FolderFile → List ℕ → Type 0
 AreNumbers log prev files numbers = (n : ℕ) → Has numbers n ↔ IsLogAmong log prev files n
+
+-- The second list has, beside the numbers of the first, that of the file, if it is such a log.
+abbrev pub AddsNumber : (log prev : ℕ) → FolderFile → List ℕ → List ℕ → Type 0
+AddsNumber log prev file old new = (n : ℕ) → Has new n ↔ (Has old n ⊎ IsLogOf log prev file n)
 
 -- the numbers of these logs, ascending, each once
 pub record AreLogs (log prev : ℕ) (files : List FolderFile) (numbers : List ℕ) : Type 0 where
@@ -66,23 +70,37 @@ pub record AreRead (numbers : List ℕ) (batches : List WriteBatch) (rest : ℕ)
   pub rests : rest ≡ sum_by (λ l. l.rest) reads
   pub calls : new ≡ reverse (map call_of reads) ++ old
 
+-- The folder was asked for the log of this number, and for nothing else. Its batches came behind
+-- those before, and so many bytes of its end to the others that hold no whole record.
+pub record ReadsNext (number : ℕ) (before after : List WriteBatch) (rest sum : ℕ)
+    (old new : List Call) : Type 0 where
+  pub log : LogRead
+  pub numbered : log.number ≡ number
+  pub is : IsSpelled log
+  pub more : after ≡ before ++ log.batches
+  pub sums : sum ≡ rest + log.rest
+  pub call : new ≡ call_of log ∷ old
+
 -- ---- refusals
 
--- The folder did not give the log of this number; or its bytes are none behind these batches.
-abbrev pub IsLogRefusal : List WriteBatch → ℕ → CopyFault → List Call → List Call → Type 0
-IsLogRefusal before number fault old new =
-    ((e : FolderFault) × (fault ≡ UnreadLog number (missing_of e))
+-- the folder gave the log of this number, which has these bytes
+abbrev pub IsGiven : ℕ → List ℕ → List Call → List Call → Type 0
+IsGiven number bytes old new = new ≡ loaded (log_name number) (Ok bytes) ∷ old
+
+-- memory ran out, or the folder did not give it
+abbrev pub IsUngiven : ℕ → CopyFault → List Call → List Call → Type 0
+IsUngiven number fault old new = (fault ≡ OutOfMemory)
+    ⊎ ((e : FolderFault) × (fault ≡ UnreadLog number (missing_of e))
     × (new ≡ loaded (log_name number) (Err e) ∷ old))
-    ⊎ ((bytes : List ℕ) × (e : WriteLogFault) × (fault ≡ BadLog number e)
-    × (new ≡ loaded (log_name number) (Ok bytes) ∷ old) × IsReadRefusal before bytes e)
 
--- memory ran out, or it was refused so
+-- So it was; or its bytes are no log behind these batches.
 abbrev pub IsLogStop : List WriteBatch → ℕ → CopyFault → List Call → List Call → Type 0
-IsLogStop before number fault old new =
-    (fault ≡ OutOfMemory) ⊎ IsLogRefusal before number fault old new
+IsLogStop before number fault old new = IsUngiven number fault old new
+    ⊎ ((bytes : List ℕ) × (e : WriteLogFault) × (fault ≡ BadLog number e)
+    × IsGiven number bytes old new × IsReadRefusal before bytes e)
 
--- The first of the logs were read, and the next one was not.
-pub record StopsReading (numbers : List ℕ) (fault : CopyFault) (old new : List Call) : Type 0 where
+-- The first of the logs were read, and the next one was not, for such a fault.
+pub record AreUnread (numbers : List ℕ) (fault : CopyFault) (old new : List Call) : Type 0 where
   pub front : List ℕ
   pub one : ℕ
   pub back : List ℕ
@@ -91,8 +109,4 @@ pub record StopsReading (numbers : List ℕ) (fault : CopyFault) (old new : List
   pub rest : ℕ
   pub mid : List Call
   pub read : AreRead front batches rest old mid
-  pub refused : IsLogRefusal batches one fault mid new
-
--- memory ran out, or they were not all read
-abbrev pub AreUnread : List ℕ → CopyFault → List Call → List Call → Type 0
-AreUnread numbers fault old new = (fault ≡ OutOfMemory) ⊎ StopsReading numbers fault old new
+  pub refused : IsLogStop batches one fault mid new

@@ -1,35 +1,15 @@
 //! Which logs of a folder are copied.
 
-ghost use Rattle.std.specs.Prelude.{◌≡◌, ◌≢◌, ◌↔◌, ◌<◌, ℕ, IfOk, MatchBool, MatchOption};
+ghost use Rattle.std.specs.Prelude.{◌≡◌, ◌↔◌, ℕ, IfOk, MatchOption, OnOk};
 ghost use Rattle.std.specs.Prelude.{string_bytes};
 ghost use Rattle.std.specs.List.Sorted.{IsStrictlyIncreasing};
 ghost use Rattle.lsm_codec.specs.Lists.{Has};
 ghost use Rattle.lsm_storage.specs.FileNames.{padded};
-ghost use Rattle.lsm_directory.specs.Logs.{IsLogName, IsReached};
-ghost use Rattle.lsm_cmd_import.specs.Logs.{AreLogs, AreNumbers, IsLogOf, log_name};
+ghost use Rattle.lsm_cmd_import.specs.Logs.{AddsNumber, AreLogs, AreNumbers, IsLogOf, log_name};
 
-use lsm_directory::{FileKind, FolderFile};
+use lsm_directory::{FolderFile, first_unread};
 use std::alloc::{AllocError, Global};
-
-/// Whether LevelDB reads the log of this number.
-fn is_reached(number: u64, log: u64, prev_log: u64) -> bool
-    ensures { MatchBool result (IsReached log prev_log number)
-        ((number < log) × (number ≢ prev_log)) }
-{
-    log <= number || number == prev_log
-}
-
-/// The number in the name of a log.
-fn number_in(name: &str) -> Option<u64>
-    ensures { MatchOption result
-        ((n : ℕ) → IsLogName name.now n → ⊥)
-        (λ m. IsLogName name.now m × ((n : ℕ) → IsLogName name.now n → n ≡ m)) }
-{
-    match FileKind::of(name) {
-        FileKind::Log(number) => Some(number),
-        _ => None,
-    }
-}
+use std::slice;
 
 /// The number of a file that is a log, is not empty, and that LevelDB reads when it opens the
 /// folder.
@@ -39,17 +19,25 @@ fn number_read(file: &FolderFile, log: u64, prev_log: u64) -> Option<u64>
         (λ m. IsLogOf log prev_log file.now m
         × ((n : ℕ) → IsLogOf log prev_log file.now n → n ≡ m)) }
 {
-    if file.size == 0 {
-        return None;
-    }
-    match number_in(file.name.as_str()) {
-        None => None,
+    first_unread(slice::from_ref(file), log, prev_log)
+}
+
+/// Adds the number of a file if it is such a log.
+fn add_number(
+    numbers: &mut Vec<u64>,
+    file: &FolderFile,
+    log: u64,
+    prev_log: u64,
+) -> Result<(), AllocError>
+    ensures { OnOk result
+        (AddsNumber log prev_log file.now numbers.old.items numbers.new.items) }
+{
+    match number_read(file, log, prev_log) {
         Some(number) => {
-            if is_reached(number, log, prev_log) {
-                return Some(number);
-            }
-            None
+            numbers.push(number)?;
+            Ok(())
         }
+        None => Ok(()),
     }
 }
 
@@ -64,9 +52,7 @@ fn numbers_read(
 {
     let mut numbers: Vec<u64> = Vec::new(alloc);
     for file in files {
-        if let Some(number) = number_read(file, log, prev_log) {
-            numbers.push(number)?;
-        }
+        add_number(&mut numbers, file, log, prev_log)?;
     }
     Ok(numbers)
 }
@@ -92,7 +78,10 @@ pub(crate) fn logs_read(
     ensures { IfOk result (λ v. AreLogs log prev_log files.now v.items) }
 {
     let numbers = numbers_read(alloc, files, log, prev_log)?;
-    ascending(numbers)
+    match ascending(numbers) {
+        Ok(numbers) => Ok(numbers),
+        Err(fault) => Err(fault),
+    }
 }
 
 /// The number in decimal, with zeros in front to at least six digits.

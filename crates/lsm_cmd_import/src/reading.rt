@@ -1,7 +1,6 @@
 //! What is read of the source beside its tables: its manifest, and its logs one after another.
 
-ghost use Rattle.std.specs.Prelude.{◌≡◌, ◌≢◌, ◌∷◌, ◌++◌, ℕ, List, IfErr, IfOk, Ok};
-ghost use Rattle.lsm_folder.specs.Calls.{loaded};
+ghost use Rattle.std.specs.Prelude.{◌≡◌, ◌+◌, [], IfErr, IfOk};
 ghost use Rattle.lsm_storage.specs.FolderFault.{missing_of};
 ghost use Rattle.lsm_manifest.specs.Shape.{IsShape};
 ghost use Rattle.lsm_manifest.specs.WholeEdit.{FitsShape};
@@ -9,10 +8,9 @@ ghost use Rattle.lsm_journal.specs.Recovering.{IsRecoverRefusal};
 ghost use Rattle.lsm_journal.specs.declared.recover_fault.RecoverFault.{RecoverFault};
 ghost use Rattle.lsm_opening.specs.Tidying.{OnlyReads};
 ghost use Rattle.lsm_directory.specs.declared.faults.directory_fault.DirectoryFault.TheVariants.{Manifest};
-ghost use Rattle.lsm_wal.specs.WriteLog.{IsWriteLog};
-ghost use Rattle.lsm_wal.specs.declared.write_batch.WriteBatch.{WriteBatch as Given};
 ghost use Rattle.lsm_cmd_import.specs.Imported.{ReadsManifest};
-ghost use Rattle.lsm_cmd_import.specs.Logs.{AreRead, AreUnread, IsLogStop, log_name};
+ghost use Rattle.lsm_cmd_import.specs.Logs.{AreRead, AreUnread, IsGiven, IsLogStop, IsUngiven};
+ghost use Rattle.lsm_cmd_import.specs.Logs.{ReadsNext};
 ghost use Rattle.lsm_cmd_import.specs.Source.{HasShape, IsNoSource, IsSource};
 ghost use Rattle.lsm_cmd_import.specs.declared.copy_fault.CopyFault.TheVariants.{Source};
 
@@ -20,7 +18,7 @@ use crate::copy_fault::CopyFault;
 use crate::log_files::{log_file, logs_read};
 use lsm_directory::{DirectoryFault, FolderFile};
 use lsm_folder::{FolderCalls, FolderFault};
-use lsm_journal::{Journal, Recovered};
+use lsm_journal::Journal;
 use lsm_manifest::{Shape, replayed_shapes};
 use lsm_table::{NamedShelf, Naming, Shelf, ShelfFault};
 use lsm_wal::WriteLogs;
@@ -38,6 +36,27 @@ fn missing(fault: FolderFault) -> ShelfFault
     }
 }
 
+/// The bytes of the log of a number.
+fn load_log<C: FolderCalls, R: Wait>(
+    rt: &R,
+    alloc: Global,
+    folder: &mut C,
+    number: u64,
+) -> Result<Vec<u8>, CopyFault>
+    ensures given { IfOk result (λ v.
+        IsGiven number v.items (C.calls folder.old) (C.calls folder.new)) }
+    ensures refused { IfErr result (λ e.
+        IsUngiven number e (C.calls folder.old) (C.calls folder.new)) }
+    ensures reads { OnlyReads (C.calls folder.old) (C.calls folder.new) }
+    ensures place { C.place folder.new ≡ C.place folder.old }
+{
+    let name = log_file(alloc, number)?;
+    match folder.load(rt, alloc, name.as_str()) {
+        Ok((_mark, bytes)) => Ok(bytes),
+        Err(fault) => Err(CopyFault::UnreadLog(number, missing(fault))),
+    }
+}
+
 /// Reads the log of a number behind those before, and answers how many bytes at its end hold no
 /// whole record.
 fn read_log<C: FolderCalls, R: Wait>(
@@ -47,19 +66,14 @@ fn read_log<C: FolderCalls, R: Wait>(
     logs: &mut WriteLogs,
     number: u64,
 ) -> Result<u64, CopyFault>
-    ensures read { IfOk result (λ rest. (bytes : List ℕ) × (batches : List Given)
-        × IsWriteLog bytes batches rest × (logs.new ≡ logs.old ++ batches)
-        × (C.calls folder.new ≡ loaded (log_name number) (Ok bytes) ∷ C.calls folder.old)) }
+    ensures read { IfOk result (λ rest. ReadsNext number logs.old logs.new 0 rest
+        (C.calls folder.old) (C.calls folder.new)) }
     ensures refused { IfErr result (λ e.
         IsLogStop logs.old number e (C.calls folder.old) (C.calls folder.new)) }
     ensures reads { OnlyReads (C.calls folder.old) (C.calls folder.new) }
     ensures place { C.place folder.new ≡ C.place folder.old }
 {
-    let name = log_file(alloc, number)?;
-    let bytes = match folder.load(rt, alloc, name.as_str()) {
-        Ok((_mark, bytes)) => bytes,
-        Err(fault) => return Err(CopyFault::UnreadLog(number, missing(fault))),
-    };
+    let bytes = load_log(rt, alloc, folder, number)?;
     match logs.read(alloc, &bytes) {
         Ok(rest) => Ok(rest),
         Err(fault) => Err(CopyFault::BadLog(number, fault)),
@@ -74,6 +88,28 @@ fn sum_of(rest: u64, more: u64) -> Result<u64, AllocError>
         Some(sum) => Ok(sum),
         None => Err(AllocError),
     }
+}
+
+/// Reads the log of a number behind those before, and answers how many bytes at the ends of all hold
+/// no whole record.
+fn read_next<C: FolderCalls, R: Wait>(
+    rt: &R,
+    alloc: Global,
+    folder: &mut C,
+    logs: &mut WriteLogs,
+    rest: u64,
+    number: u64,
+) -> Result<u64, CopyFault>
+    ensures read { IfOk result (λ sum. ReadsNext number logs.old logs.new rest sum
+        (C.calls folder.old) (C.calls folder.new)) }
+    ensures refused { IfErr result (λ e.
+        IsLogStop logs.old number e (C.calls folder.old) (C.calls folder.new)) }
+    ensures reads { OnlyReads (C.calls folder.old) (C.calls folder.new) }
+    ensures place { C.place folder.new ≡ C.place folder.old }
+{
+    let more = read_log(rt, alloc, folder, logs, number)?;
+    let sum = sum_of(rest, more)?;
+    Ok(sum)
 }
 
 /// Reads the logs of these numbers, one behind another, behind none, and answers how many bytes at
@@ -95,8 +131,7 @@ fn read_logs<C: FolderCalls, R: Wait>(
 {
     let mut rest: u64 = 0;
     for number in numbers {
-        let more = read_log(rt, alloc, folder, logs, *number)?;
-        rest = sum_of(rest, more)?;
+        rest = read_next(rt, alloc, folder, logs, rest, *number)?;
     }
     Ok(rest)
 }
@@ -117,7 +152,7 @@ fn read_shape<N: Naming, S: Shelf, R: Wait>(
     replayed_shapes();
     // A journal that nothing is sent through has no use for its limit.
     match Journal::recover(rt, alloc, source, u64::MAX) {
-        Ok(Recovered { shape, rest, .. }) => Ok((shape, rest)),
+        Ok(found) => Ok((found.shape, found.rest)),
         Err(fault) => Err(CopyFault::Source(DirectoryFault::Manifest(fault))),
     }
 }

@@ -470,10 +470,25 @@ Device` one batch more than is said may be in.",
 const IMPORT: Page = Page {
     name: "import",
     arguments: &[SOURCE, TARGET],
-    about: "Copies the database of a folder to another, whatever wrote it",
-    text: "Copies the database of the LevelDB folder SRC into the folder DST, with what no
-other command reads: what stands in write-ahead logs (`N.log`) that are not
-flushed, and tables that Snappy has compressed.",
+    about: "Copies a database, with its compressed tables and its logs",
+    text: "Copies the database of the LevelDB folder SRC to the folder DST, which has to be
+there and to have none, and prints `tables T logs L entries E rest B`: how many
+tables the copy has, of how many logs it has the writes, how many entries its
+tables have, and how many bytes at the ends of the manifest and of the logs of
+SRC hold no whole record, as a kill may leave them. SRC is only read.
+
+What no other command reads comes along: tables that Snappy has compressed become
+plain ones, under their numbers and at their levels; and of each key in the
+write-ahead logs that are not flushed, `N.log`, the last write comes in, as one
+table more at level 0. Bytes that hold no whole record are left out.
+
+A table or a log that is damaged is refused, and named. Where DST has a database
+it is `refused 53 IsThere`, where another program has one of the folders open
+`refused 52 Locked`. Until the last step DST has no database; the tables that a
+refused copy has put there stay.
+
+Exit status: 0 copied, 1 refused, 2 bad command line. After a `write fault` the
+copy is there; after `refused 9 Device` it may be.",
     example: "Example: mkdir copy && lsm import db copy",
 };
 
