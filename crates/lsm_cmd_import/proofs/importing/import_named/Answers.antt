@@ -18,8 +18,7 @@ returns-in_err-tables-clause-refused g c =
     let r = c.in_ok-shape.field-0 in
     rw (p.1, p.2) (record {
       why =
-          inr
-          (
+          inr (
             r.shape,
             r.logs,
             r.count,
