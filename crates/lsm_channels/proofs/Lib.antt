@@ -11,5 +11,3 @@ mod AnswerLaws
 mod OptionLaws
 mod PairLaws
 mod WriteLaws
-mod WorkLaws
-mod ForkLaws

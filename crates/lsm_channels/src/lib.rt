@@ -34,7 +34,6 @@ mod channel;
 mod channel_thread;
 mod opened;
 mod serving;
-mod unserved;
 mod wires;
 
 // A database is opened.

@@ -1,10 +1,5 @@
 //! Why no database is served.
 
-ghost use Rattle.std.specs.Prelude.{◌≡◌};
-ghost use Rattle.lsm_channels.specs.OpeningFault.{name_of, name_of_directory, name_of_folder};
-ghost use Rattle.lsm_channels.specs.OpeningFault.{number_of, number_of_directory};
-ghost use Rattle.lsm_channels.specs.OpeningFault.{number_of_folder};
-
 use lsm_directory::DirectoryFault;
 use lsm_opening::WriterFault;
 
@@ -22,10 +17,7 @@ pub(crate) enum OpeningFault {
 }
 
 /// The number and the name of a refusal of a folder.
-fn of_directory(fault: &DirectoryFault) -> (u8, &'static str)
-    ensures number { result.0 ≡ number_of_directory fault.now }
-    ensures name { result.1.now ≡ name_of_directory fault.now }
-{
+fn of_directory(fault: &DirectoryFault) -> (u8, &'static str) {
     match fault {
         DirectoryFault::Shelf(fault) => (fault.number(), fault.name()),
         DirectoryFault::Manifest(fault) => (fault.number(), fault.name()),
@@ -42,10 +34,7 @@ fn of_directory(fault: &DirectoryFault) -> (u8, &'static str)
 }
 
 /// The number and the name of a refusal of a database.
-fn of_folder(fault: &WriterFault) -> (u8, &'static str)
-    ensures number { result.0 ≡ number_of_folder fault.now }
-    ensures name { result.1.now ≡ name_of_folder fault.now }
-{
+fn of_folder(fault: &WriterFault) -> (u8, &'static str) {
     match fault {
         WriterFault::Directory(fault) => of_directory(fault),
         WriterFault::LostCurrent(_) => (10, "Missing"),
@@ -62,10 +51,7 @@ fn of_folder(fault: &WriterFault) -> (u8, &'static str)
 impl OpeningFault {
     /// The number and the name by which it is answered: those in docs/FORMATS.md, or above 200
     /// those of an opening.
-    pub(crate) fn refusal(&self) -> (u8, &'static str)
-        ensures number { result.0 ≡ number_of self.now }
-        ensures name { result.1.now ≡ name_of self.now }
-    {
+    pub(crate) fn refusal(&self) -> (u8, &'static str) {
         match self {
             OpeningFault::BadOpening => (201, "BadOpening"),
             OpeningFault::NoDatabase => (202, "NoDatabase"),
