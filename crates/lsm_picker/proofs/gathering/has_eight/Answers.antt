@@ -11,11 +11,11 @@ returns-then-all_may_gather g c = (
       let ts = c.args.tables.now in
       let number = c.number-number.ensures ∙ c.record.ensures.number in
       let all = c.all_may_gather.ensures.0 c.if-all_may_gather.true in
-      let eight : 8 ≤ length (newest c.number-number.result ts) = omega (arith, c.newest_count.ensures.count, c.if-newest_count-ge8.true) in (
+      let eight : 8 ≤ length (newest c.from.result ts) = omega (arith, c.newest_count.ensures.count, c.if-newest_count-ge8.true) in (
         x,
         item_has ts c.loop-table.table-index x c.loop-table-test.true c.table-item.is,
         subst (AllMayGather c.args.target_size c.args.live.now ts) number all,
-        subst (λ (n : ℕ). 8 ≤ length (newest n ts)) number eight,
+        subst (λ (n : ℕ). 8 ≤ length (newest n ts)) (c.from.ensures ∙ number) eight,
       ),
   λ has. refl,
 )
@@ -32,6 +32,6 @@ loop-table-preserved g c =
           let off = w.if-all_may_gather.false in
           absurd (cc (yes, off))
       | else-newest_count-ge8-via-else-newest_count-ge8 w ↦
-          let here : 8 ≤ length (newest c.number-number.result ts) = subst (λ (n : ℕ). 8 ≤ length (newest n ts)) (sym number) eight in
+          let here : 8 ≤ length (newest c.from.result ts) = subst (λ (n : ℕ). 8 ≤ length (newest n ts)) (sym (c.from.ensures ∙ number)) eight in
           absurd (omega (arith, here, c.newest_count.ensures.count, w.if-newest_count-ge8.false))
     ])
