@@ -3,7 +3,7 @@ _lsm() {
   local current=${COMP_WORDS[COMP_CWORD]} command= options= places= place=0 index word kind
   COMPREPLY=()
   if ((COMP_CWORD == 1)); then
-    COMPREPLY=($(compgen -W 'mktable dump manifest script check list levels get scan ingest put delete load compact clean shell bench help --help --version' -- "$current"))
+    COMPREPLY=($(compgen -W 'mktable dump manifest script check list levels get scan ingest put delete load import compact clean shell bench help --help --version' -- "$current"))
     return
   fi
   command=${COMP_WORDS[1]}
@@ -21,6 +21,7 @@ _lsm() {
     put) options='--text --begin --beside-log --help' places='DIR KEY VALUE' ;;
     delete) options='--text --begin --beside-log --help' places='DIR KEY' ;;
     load) options='--text --begin --beside-log --workers --from-line --progress --help' places='DIR FILE' ;;
+    import) options='--help' places='SRC DST' ;;
     compact) options='--all --from --to --text --workers --accept-rest --progress --help' places='DIR' ;;
     clean) options='--accept-rest --help' places='DIR' ;;
     shell) options='--text --begin --beside-log --workers --bail --help' places='DIR' ;;
@@ -50,9 +51,9 @@ _lsm() {
   # command stays one where a folder has its name.
   kind=$(set -- $places; shift "$place" 2> /dev/null && echo "${1-}")
   case $kind in
-    DIR) compopt -o filenames 2> /dev/null; mapfile -t COMPREPLY < <(compgen -d -- "$current") ;;
+    DIR | SRC | DST) compopt -o filenames 2> /dev/null; mapfile -t COMPREPLY < <(compgen -d -- "$current") ;;
     FILE) compopt -o filenames 2> /dev/null; mapfile -t COMPREPLY < <(compgen -f -- "$current") ;;
-    COMMAND) COMPREPLY=($(compgen -W 'mktable dump manifest script check list levels get scan ingest put delete load compact clean shell bench help' -- "$current")) ;;
+    COMMAND) COMPREPLY=($(compgen -W 'mktable dump manifest script check list levels get scan ingest put delete load import compact clean shell bench help' -- "$current")) ;;
     *) COMPREPLY=($(compgen -W "$options" -- "$current")) ;;
   esac
 }

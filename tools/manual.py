@@ -11,6 +11,8 @@ import subprocess
 import sys
 from dataclasses import dataclass
 
+FOLDERS = ["DIR", "SRC", "DST"]
+
 
 @dataclass
 class Argument:
@@ -205,7 +207,7 @@ _lsm() {{
   # command stays one where a folder has its name.
   kind=$(set -- $places; shift "$place" 2> /dev/null && echo "${{1-}}")
   case $kind in
-    DIR) compopt -o filenames 2> /dev/null; mapfile -t COMPREPLY < <(compgen -d -- "$current") ;;
+    DIR | SRC | DST) compopt -o filenames 2> /dev/null; mapfile -t COMPREPLY < <(compgen -d -- "$current") ;;
     FILE) compopt -o filenames 2> /dev/null; mapfile -t COMPREPLY < <(compgen -f -- "$current") ;;
     COMMAND) COMPREPLY=($(compgen -W '{names}' -- "$current")) ;;
     *) COMPREPLY=($(compgen -W "$options" -- "$current")) ;;
@@ -226,7 +228,7 @@ def spoken(text: str) -> str:
 
 
 def zsh(commands: list[Command]) -> str:
-    kinds = {"DIR": "_files -/", "FILE": "_files", "COMMAND": "_lsm_commands"}
+    kinds = {**dict.fromkeys(FOLDERS, "_files -/"), "FILE": "_files", "COMMAND": "_lsm_commands"}
     names = "\n".join(f"    {quoted(f'{spoken(c.name)}:{spoken(c.about)}')}" for c in commands)
     cases = []
     for command in commands:
@@ -308,7 +310,8 @@ def fish(commands: list[Command]) -> str:
     valued = sorted({f"--{o.name}" for c in commands for o in c.options if o.value})
     made = [FISH.rstrip().replace("VALUED", " ".join(valued))]
     names = " ".join(command.name for command in commands)
-    kinds = {"FILE": "-F", "DIR": "-a '(__fish_complete_directories)'", "COMMAND": f"-a '{names}'"}
+    folders = dict.fromkeys(FOLDERS, "-a '(__fish_complete_directories)'")
+    kinds = {"FILE": "-F", **folders, "COMMAND": f"-a '{names}'"}
     for command in commands:
         about = fish_quoted(command.about)
         made.append(f"complete -c lsm -n '__lsm_is' -a {command.name} -d {about}")

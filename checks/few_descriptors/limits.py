@@ -60,8 +60,8 @@ def internal(key, sequence):
     return key + (sequence << 8 | 1).to_bytes(8, "little")
 
 
-def table(pairs):
-    """A table of one block. No entry shares its key's beginning with the one before."""
+def table(pairs, each=0):
+    """A table of data blocks of so many entries each, or of one block. No entry shares its key's beginning with the one before."""
     file = b""
 
     def block(entries):
@@ -72,8 +72,10 @@ def table(pairs):
         file += data + b"\0" + masked_crc(data + b"\0")
         return handle
 
-    inner, meta = block(pairs), block([])
-    index = block([(pairs[-1][0], inner)])
+    each = each or len(pairs)
+    parts = [pairs[at : at + each] for at in range(0, len(pairs), each)]
+    named = [(part[-1][0], block(part)) for part in parts]
+    meta, index = block([]), block(named)
     return file + (meta + index).ljust(40, b"\0") + bytes.fromhex("57fb808b247547db")
 
 

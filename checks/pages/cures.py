@@ -18,8 +18,8 @@ Without LevelDB:
 With LevelDB, which is its library, by its C interface; the module plyvel of the lines is the one
 below:
 
-- Compressed tables: the block of shell lines of that part of COMMANDS is run, over a folder that
-  LevelDB compressed; `lsm` refuses that one and reads the new one.
+- `lsm import`: the block of shell lines of that part of COMMANDS is run, over a folder that LevelDB
+  compressed, with a log; `lsm` refuses that one and reads the new one.
 - A log that is not flushed: `lsm put` is refused; once LevelDB has opened the folder without
   compression, all is read, and the put comes in.
 - A lost manifest: after LevelDB's `RepairDB` all is read.
@@ -200,12 +200,12 @@ def examples(folder):
 
 
 def compressed(folder):
-    part = (TOP / "docs" / "COMMANDS.md").read_text().split("## Compressed tables", 1)[1]
+    part = (TOP / "docs" / "COMMANDS.md").read_text().split("## lsm import", 1)[1]
     cure = re.search(r"^```text\n(.*?)^```", part, re.S | re.M)[1]
     fill(folder, "old", PAIRS, "db.compact_range()\n")
     judge("refused 16 Compressed" in printed("./lsm check old", folder), "a compressed folder is not refused")
     said = printed(cure, folder)
-    judge(printed("./lsm scan new --count", folder) == str(PAIRS), f"the lines of `Compressed tables` do not cure: {said}")
+    judge(printed("./lsm scan new --count", folder) == str(PAIRS), f"the lines of `lsm import` do not cure: {said}")
 
 
 def logged(folder):

@@ -131,6 +131,11 @@ class Making:
         with open(self.path(name), "wb") as file:
             file.write(data)
 
+    def record(self, name, data):
+        """One record more, of these bytes in hex, in a log."""
+        with open(self.path(name), "ab") as file:
+            file.write(files.record(bytes.fromhex(data)))
+
     def fragment(self, kind):
         """A manifest whose one fragment has this type, where its record begins."""
         self.bytes("MANIFEST-000001", files.manifest([["next=2"]], int(kind)))

@@ -1,18 +1,17 @@
 -- What is left behind lines that were loaded beside workers (this project's rule).
 use Rattle.std.specs.Prelude.{◌≡◌, ◌⊎◌, ⊤, List, ◌∷◌, ◌++◌, All, None, Some, Result, Ok, Err}
 use Rattle.lsm_history.specs.History.{IsLater}
-use Rattle.lsm_picker.specs.Choice.{HasNoChoice}
-use Rattle.lsm_live.specs.Reserving.{reserved_jobs}
 use Rattle.lsm_state.specs.Held.{Held}
+use Rattle.lsm_state.specs.Reserving.{HasNoNext}
 use Rattle.lsm_store.specs.declared.worker_end.WorkerEnd.{WorkerEnd}
 use Rattle.lsm_store.specs.declared.worker_fault.WorkerFault.{WorkerFault}
 use Rattle.lsm_bulk_load.specs.Marks.{Marked}
 use Rattle.lsm_bulk_load.specs.declared.load_fault.LoadFault.{LoadFault}
 use Rattle.lsm_bulk_load.specs.declared.load_fault.LoadFault.TheVariants.{Other, Worker, Due}
 
--- Nothing is due: there is no compaction to choose beside the live jobs.
+-- Nothing is due: there is no next compaction of a worker beside the live jobs.
 abbrev pub IsIdle : Held → Type 0
-IsIdle h = HasNoChoice h.slots.version (reserved_jobs h.live)
+IsIdle h = HasNoNext h
 
 -- A job was looked for, and what was reserved was given up again: no more may have changed than the
 -- live jobs and the next ticket.

@@ -45,7 +45,7 @@ fn give_up<N: Boarded, S: Shelf>(state: &mut State<N, S>, ticket: u64)
     }
 }
 
-/// Whether there is nothing to compact. What is chosen is given up again.
+/// Whether a worker would find nothing to compact. What is reserved is given up again.
 #[tactic(auto, using(crate::proofs::EndingLaws::looked_none, crate::proofs::EndingLaws::looked_mark))]
 fn nothing_is_due<N: Boarded, S: Shelf>(
     alloc: Global,
@@ -56,7 +56,7 @@ fn nothing_is_due<N: Boarded, S: Shelf>(
     ensures looked { IsLooked state.old state.new }
     ensures same { marked_in state.new ≡ marked_in state.old }
 {
-    match state.reserve(alloc) {
+    match state.reserve_next(alloc) {
         Ok(None) => Ok(()),
         Ok(Some(job)) => {
             give_up(state, job.ticket());

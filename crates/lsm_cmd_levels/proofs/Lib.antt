@@ -1,4 +1,6 @@
 mod LoopLaws
+mod TotalLaws
+mod ListingLaws
 mod SpanLaws
 mod DueLaws
 mod DrawingLaws

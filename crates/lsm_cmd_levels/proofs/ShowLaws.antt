@@ -19,13 +19,15 @@ use Rattle.lsm_text.specs.Printing.{Begins}
 use Rattle.lsm_text.specs.declared.form.Form.{Form}
 use Rattle.lsm_directory.specs.Folders.{IsShelfAt, told_by}
 use Rattle.lsm_directory.specs.Logs.{IsFirstUnread, NoneUnread}
-use Rattle.lsm_directory.specs.Looking.{TellsLogs}
 use Rattle.lsm_directory.specs.Rest.{IsLeftOut, LeavesNothingOut}
 use Rattle.lsm_directory.specs.declared.faults.directory_fault.DirectoryFault.{DirectoryFault}
 use Rattle.lsm_directory.specs.declared.faults.directory_fault.DirectoryFault.TheVariants as why
 use Rattle.lsm_directory.specs.declared.folder.folder_file.FolderFile.{FolderFile}
 use Rattle.lsm_cmd_levels.specs.Dues.{IsDueNext}
 use Rattle.lsm_cmd_levels.specs.declared.due.Due.{Due}
+use Rattle.lsm_cmd_levels.specs.declared.totals.Totals.{Totals}
+use Rattle.lsm_cmd_levels.specs.Listing.{TellsFiles}
+use Rattle.lsm_cmd_levels.specs.Totals.{AreTotals}
 use Rattle.lsm_cmd_levels.specs.Layout.{FailsToLayOut, IsLaidOut, IsLayoutFault, IsNotNamed, IsShown, IsUnshown, LaysOutAt, Names, ReadsManifest, Shows, text_of}
 use Rattle.lsm_requests.specs.declared.levels_line.LevelsLine.{LevelsLine}
 use Rattle.lsm_requests.specs.declared.levels_output.LevelsOutput.{LevelsOutput}
@@ -33,30 +35,33 @@ use Rattle.lsm_requests.specs.declared.levels_output.LevelsOutput.{LevelsOutput}
 -- ---- a shelf
 
 module _ (form : Form) (output : LevelsOutput) where
-  pub shown_as : (s : Shape) (rest : ℕ) (due : Option Due) (text : List ℕ) → IsDueNext s due → text ≡ text_of form output s rest due → IsShown form output s rest text
-  shown_as s rest due text next is = (due, next, is)
+  pub shown_as : (s : Shape) (rest : ℕ) (files : List FolderFile) (due : Option Due) (totals : Totals) (text : List ℕ) → IsDueNext s due → AreTotals s files totals
+      → text ≡ text_of form output s rest due totals → IsShown form output s rest files text
+  shown_as s rest files due totals text next sums is = record { due = due; totals = totals; next = next; sums = sums; is = is }
 
-  pub shows_text : (s : Shape) (rest : ℕ) (text : List ℕ) (old new : Option (List ℕ)) → IsShown form output s rest text → Appends old new text → Shows form output s rest old new
-  shows_text s rest text old new is printed = (text, is, printed)
+  pub shows_text : (s : Shape) (rest : ℕ) (files : List FolderFile) (text : List ℕ) (old new : Option (List ℕ)) → IsShown form output s rest files text → Appends old new text
+      → Shows form output s rest files old new
+  shows_text s rest files text old new is printed = (text, is, printed)
 
-  pub stops_text : (s : Shape) (rest : ℕ) (text : List ℕ) (old new : Option (List ℕ)) → IsShown form output s rest text → Begins old new text → IsUnshown form output s rest why.Write old new
-  stops_text s rest text old new is begun = (text, is, begun)
+  pub stops_text : (s : Shape) (rest : ℕ) (files : List FolderFile) (text : List ℕ) (old new : Option (List ℕ)) → IsShown form output s rest files text → Begins old new text
+      → IsUnshown form output s rest files why.Write old new
+  stops_text s rest files text old new is begun = (text, is, begun)
 
   pub laid_out : {T : Type 0} (r : Result T DirectoryFault) (strict : Bool) (others : List FolderFile) (was is : Told) (s : Shape) (rest : ℕ) (old new said_old said_new : Option (List ℕ))
-      → Names was is s rest → OnOk r (IsTrue strict → LeavesNothingOut rest s.log s.prev_log others) → OnOk r (Shows form output s rest old new) → (rest ≡ 0 → NoneUnread s.log s.prev_log others → Keeps said_old said_new)
+      → Names was is s rest → OnOk r (IsTrue strict → LeavesNothingOut rest s.log s.prev_log others) → OnOk r (Shows form output s rest others old new) → (rest ≡ 0 → NoneUnread s.log s.prev_log others → Keeps said_old said_new)
       → OnOk r (IsLaidOut form output strict others was is old new said_old said_new)
   laid_out (Ok x) strict others was is s rest old new said_old said_new named whole shown quiet = record { shape = s; rest = rest; named = named; whole = whole; shown = shown; quiet = quiet }
   laid_out (Err e) strict others was is s rest old new said_old said_new named whole shown quiet = tt
 
   pub not_shown : {T : Type 0} (r : Result T DirectoryFault) (Refused : Asked → ShelfFault → Type 0) (strict : Bool) (others : List FolderFile) (was is : Told) (s : Shape) (rest : ℕ) (old new : Option (List ℕ))
-      → Names was is s rest → IfErr r (λ e. (IsTrue strict × IsLeftOut rest s.log s.prev_log others e × Keeps old new) ⊎ IsUnshown form output s rest e old new)
+      → Names was is s rest → IfErr r (λ e. (IsTrue strict × IsLeftOut rest s.log s.prev_log others e × Keeps old new) ⊎ IsUnshown form output s rest others e old new)
       → IfErr r (λ e. IsLayoutFault Refused form output strict others e was is old new)
   not_shown (Ok x) Refused strict others was is s rest old new named fault = tt
   not_shown (Err e) Refused strict others was is s rest old new named fault = inr (s, rest, named, fault)
 
   -- a refusal of what is left out, before anything is written
   pub not_left_out : (strict : Bool) (others : List FolderFile) (s : Shape) (rest : ℕ) (e : DirectoryFault) (old : Option (List ℕ)) → IsTrue strict × IsLeftOut rest s.log s.prev_log others e
-      → (IsTrue strict × IsLeftOut rest s.log s.prev_log others e × Keeps old old) ⊎ IsUnshown form output s rest e old old
+      → (IsTrue strict × IsLeftOut rest s.log s.prev_log others e × Keeps old old) ⊎ IsUnshown form output s rest others e old old
   not_left_out strict others s rest e old l = inl (l.0, l.1, Keeps-refl old)
 
   pub not_named : (e : DirectoryFault) (Refused : Asked → ShelfFault → Type 0) (strict : Bool) (others : List FolderFile) (was is : Told) (old : Option (List ℕ)) → IsNotNamed Refused e was is
@@ -94,23 +99,23 @@ noted log prev files n first none =
 
 module _ {C M : Type 0} (folders : Ghosts C M) where
   pub lays_out : {T : Type 0} (r : Result T DirectoryFault) (line : LevelsLine) (others : List FolderFile) (begun ended : FileShelf C M) (old new said_old said_new : Option (List ℕ))
-      → IsShelfAt folders line.path.now (TellsLogs others) begun
+      → IsShelfAt folders line.path.now (TellsFiles others) begun
       → OnOk r (IsLaidOut line.form line.output line.strict others (told_by folders begun) (told_by folders ended) old new said_old said_new)
       → OnOk r (LaysOutAt folders line old new said_old said_new)
-  lays_out (Ok x) line others begun ended old new said_old said_new on done = record { others = others; begun = begun; on = on; ended = ended; done = done }
+  lays_out (Ok x) line others begun ended old new said_old said_new on done = record { files = others; begun = begun; on = on; ended = ended; done = done }
   lays_out (Err e) line others begun ended old new said_old said_new on done = tt
 
   pub fails : {T : Type 0} (r : Result T DirectoryFault) (line : LevelsLine) (others : List FolderFile) (begun ended : FileShelf C M) (old new : Option (List ℕ))
-      → IsShelfAt folders line.path.now (TellsLogs others) begun
+      → IsShelfAt folders line.path.now (TellsFiles others) begun
       → IfErr r (λ e. IsLayoutFault MayRefuse line.form line.output line.strict others e (told_by folders begun) (told_by folders ended) old new)
       → ReadsManifest (told_by folders begun) (told_by folders ended) → IfErr r (λ e. FailsToLayOut folders line e old new)
   fails (Ok x) line others begun ended old new on says reads = tt
-  fails (Err e) line others begun ended old new on says reads = inr record { others = others; begun = begun; on = on; ended = ended; says = says; reads = reads }
+  fails (Err e) line others begun ended old new on says reads = inr record { files = others; begun = begun; on = on; ended = ended; says = says; reads = reads }
 
   pub laid_on : {T F : Type 0} (r : Result T F) (status : ℕ) (line : LevelsLine) (old new said told last : Option (List ℕ)) → OnErr r (status ≡ 1)
       → OnOk r (LaysOutAt folders line old new said told) → (status ≡ 0 → Keeps told last) → status ≡ 0 → LaysOutAt folders line old new said last
   laid_on (Ok x) status line old new said told last err done kept zero = record {
-    others = done.others;
+    files = done.files;
     begun = done.begun;
     on = done.on;
     ended = done.ended;

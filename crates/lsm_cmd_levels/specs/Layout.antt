@@ -17,7 +17,6 @@ use Rattle.lsm_text.specs.declared.form.Form.{Form}
 use Rattle.lsm_directory.specs.Folders.{IsShelfAt, told_by}
 use Rattle.lsm_directory.specs.Holding.{IsFolderFault}
 use Rattle.lsm_directory.specs.Logs.{NoneUnread}
-use Rattle.lsm_directory.specs.Looking.{TellsLogs}
 use Rattle.lsm_directory.specs.Rest.{IsLeftOut, LeavesNothingOut}
 use Rattle.lsm_directory.specs.declared.faults.directory_fault.DirectoryFault.{DirectoryFault}
 use Rattle.lsm_directory.specs.declared.faults.directory_fault.DirectoryFault.TheVariants as why
@@ -25,43 +24,52 @@ use Rattle.lsm_directory.specs.declared.folder.folder_file.FolderFile.{FolderFil
 use Rattle.lsm_cmd_levels.specs.Drawing.{picture_text}
 use Rattle.lsm_cmd_levels.specs.Dues.{IsDueNext}
 use Rattle.lsm_cmd_levels.specs.Lines.{files_text, levels_text}
+use Rattle.lsm_cmd_levels.specs.Listing.{TellsFiles}
+use Rattle.lsm_cmd_levels.specs.Totals.{AreTotals}
 use Rattle.lsm_cmd_levels.specs.declared.due.Due.{Due}
+use Rattle.lsm_cmd_levels.specs.declared.totals.Totals.{Totals}
 use Rattle.lsm_requests.specs.declared.levels_line.LevelsLine.{LevelsLine}
 use Rattle.lsm_requests.specs.declared.levels_output.LevelsOutput.{LevelsOutput}
 use Rattle.lsm_requests.specs.declared.levels_output.LevelsOutput.TheVariants.{Levels, Files, Svg}
 
 -- ---- what is shown
 
-abbrev pub text_of : Form → LevelsOutput → Shape → ℕ → Option Due → List ℕ
-text_of form Levels s rest due = levels_text s rest due
-text_of form Files s rest due = files_text form s rest due
-text_of form Svg s rest due = picture_text form s rest due
+abbrev pub text_of : Form → LevelsOutput → Shape → ℕ → Option Due → Totals → List ℕ
+text_of form Levels s rest due totals = levels_text s rest due totals
+text_of form Files s rest due totals = files_text form s rest due totals
+text_of form Svg s rest due totals = picture_text form s rest due
 
 -- The text shows the shape, with the compaction that is due next in it, and so many bytes at the
--- manifest's end that hold no whole record.
-abbrev pub IsShown : Form → LevelsOutput → Shape → ℕ → List ℕ → Type 0
-IsShown form output s rest text =
-    (due : Option Due) × IsDueNext s due × (text ≡ text_of form output s rest due)
+-- manifest's end that hold no whole record; and what the tables of the shape and these files of the
+-- folder come to.
+pub record IsShown (form : Form) (output : LevelsOutput) (s : Shape) (rest : ℕ)
+    (files : List FolderFile) (text : List ℕ) : Type 0 where
+  pub due : Option Due
+  pub totals : Totals
+  pub next : IsDueNext s due
+  pub sums : AreTotals s files totals
+  pub is : text ≡ text_of form output s rest due totals
 
-abbrev pub Shows : Form → LevelsOutput → Shape → ℕ → Option (List ℕ) → Option (List ℕ) → Type 0
-Shows form output s rest old new =
-    (text : List ℕ) × IsShown form output s rest text × Appends old new text
+abbrev pub Shows : Form → LevelsOutput → Shape → ℕ → List FolderFile → Option (List ℕ)
+    → Option (List ℕ) → Type 0
+Shows form output s rest files old new =
+    (text : List ℕ) × IsShown form output s rest files text × Appends old new text
 
 -- Memory was refused, and nothing was written; or a write failed, and a beginning of the text was.
-abbrev pub IsUnshown : Form → LevelsOutput → Shape → ℕ → DirectoryFault → Option (List ℕ)
-    → Option (List ℕ) → Type 0
-IsUnshown form output s rest why.OutOfMemory old new = Keeps old new
-IsUnshown form output s rest why.Write old new =
-    (text : List ℕ) × IsShown form output s rest text × Begins old new text
-IsUnshown form output s rest (why.Manifest fault) old new = ⊥
-IsUnshown form output s rest (why.Shelf fault) old new = ⊥
-IsUnshown form output s rest (why.Tables fault) old new = ⊥
-IsUnshown form output s rest (why.Read fault) old new = ⊥
-IsUnshown form output s rest why.NumbersSpent old new = ⊥
-IsUnshown form output s rest why.Locked old new = ⊥
-IsUnshown form output s rest (why.UnflushedLog number) old new = ⊥
-IsUnshown form output s rest (why.TornManifest torn) old new = ⊥
-IsUnshown form output s rest why.Absent old new = ⊥
+abbrev pub IsUnshown : Form → LevelsOutput → Shape → ℕ → List FolderFile → DirectoryFault
+    → Option (List ℕ) → Option (List ℕ) → Type 0
+IsUnshown form output s rest files why.OutOfMemory old new = Keeps old new
+IsUnshown form output s rest files why.Write old new =
+    (text : List ℕ) × IsShown form output s rest files text × Begins old new text
+IsUnshown form output s rest files (why.Manifest fault) old new = ⊥
+IsUnshown form output s rest files (why.Shelf fault) old new = ⊥
+IsUnshown form output s rest files (why.Tables fault) old new = ⊥
+IsUnshown form output s rest files (why.Read fault) old new = ⊥
+IsUnshown form output s rest files why.NumbersSpent old new = ⊥
+IsUnshown form output s rest files why.Locked old new = ⊥
+IsUnshown form output s rest files (why.UnflushedLog number) old new = ⊥
+IsUnshown form output s rest files (why.TornManifest torn) old new = ⊥
+IsUnshown form output s rest files why.Absent old new = ⊥
 
 -- ---- a shelf
 
@@ -86,28 +94,29 @@ IsNotNamed Refused (why.UnflushedLog number) was is = ⊥
 IsNotNamed Refused (why.TornManifest rest) was is = ⊥
 IsNotNamed Refused why.Absent was is = ⊥
 
--- That shape was shown, and nothing is left out where that is asked for; and where the manifest
--- ends with a whole record and there is no log to note, standard error is as it was.
+-- That shape was shown with these files of the folder, and nothing is left out where that is asked
+-- for; and where the manifest ends with a whole record and there is no log to note, standard error
+-- is as it was.
 pub record IsLaidOut (form : Form) (output : LevelsOutput) (strict : Bool)
-    (others : List FolderFile) (was is : Told) (old new said_old said_new : Option (List ℕ))
+    (files : List FolderFile) (was is : Told) (old new said_old said_new : Option (List ℕ))
     : Type 0 where
   pub shape : Shape
   pub rest : ℕ
   pub named : Names was is shape rest
-  pub whole : IsTrue strict → LeavesNothingOut rest shape.log shape.prev_log others
-  pub shown : Shows form output shape rest old new
-  pub quiet : rest ≡ 0 → NoneUnread shape.log shape.prev_log others → Keeps said_old said_new
+  pub whole : IsTrue strict → LeavesNothingOut rest shape.log shape.prev_log files
+  pub shown : Shows form output shape rest files old new
+  pub quiet : rest ≡ 0 → NoneUnread shape.log shape.prev_log files → Keeps said_old said_new
 
 -- What a fault says: the manifest could not be read, and nothing was written; or it was read, and
 -- something is left out that is not to be, and nothing was written, or its shape could not be
 -- shown.
 abbrev pub IsLayoutFault : (Asked → ShelfFault → Type 0) → Form → LevelsOutput → Bool
     → List FolderFile → DirectoryFault → Told → Told → Option (List ℕ) → Option (List ℕ) → Type 0
-IsLayoutFault Refused form output strict others fault was is old new =
+IsLayoutFault Refused form output strict files fault was is old new =
     (IsNotNamed Refused fault was is × Keeps old new)
     ⊎ ((s : Shape) × (rest : ℕ) × Names was is s rest
-    × ((IsTrue strict × IsLeftOut rest s.log s.prev_log others fault × Keeps old new)
-    ⊎ IsUnshown form output s rest fault old new))
+    × ((IsTrue strict × IsLeftOut rest s.log s.prev_log files fault × Keeps old new)
+    ⊎ IsUnshown form output s rest files fault old new))
 
 -- Between these moments the shelf was asked for its manifest at most.
 abbrev pub ReadsManifest : Told → Told → Type 0
@@ -117,25 +126,25 @@ ReadsManifest was is = Becomes was is
 -- ---- a folder
 
 module _ {C M : Type 0} (folders : Ghosts C M) where
-  -- These files were found beside the tables of the folder at the path, and no lock was asked for.
+  -- These files with their sizes were found in the folder at the path, and no lock was asked for.
   -- On a shelf of it the command was done.
   pub record LaysOutAt (line : LevelsLine) (old new said_old said_new : Option (List ℕ))
       : Type 0 where
-    pub others : List FolderFile
+    pub files : List FolderFile
     pub begun : FileShelf C M
-    pub on : IsShelfAt folders line.path.now (TellsLogs others) begun
+    pub on : IsShelfAt folders line.path.now (TellsFiles files) begun
     pub ended : FileShelf C M
-    pub done : IsLaidOut line.form line.output line.strict others (told_by folders begun)
+    pub done : IsLaidOut line.form line.output line.strict files (told_by folders begun)
         (told_by folders ended) old new said_old said_new
 
   -- That was so, and on the shelf this fault was met.
   pub record FailsAt (line : LevelsLine) (fault : DirectoryFault) (old new : Option (List ℕ))
       : Type 0 where
-    pub others : List FolderFile
+    pub files : List FolderFile
     pub begun : FileShelf C M
-    pub on : IsShelfAt folders line.path.now (TellsLogs others) begun
+    pub on : IsShelfAt folders line.path.now (TellsFiles files) begun
     pub ended : FileShelf C M
-    pub says : IsLayoutFault MayRefuse line.form line.output line.strict others fault
+    pub says : IsLayoutFault MayRefuse line.form line.output line.strict files fault
         (told_by folders begun) (told_by folders ended) old new
     pub reads : ReadsManifest (told_by folders begun) (told_by folders ended)
 

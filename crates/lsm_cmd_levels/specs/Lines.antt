@@ -8,7 +8,10 @@ use Rattle.lsm_text.specs.ManifestPrinting.{key_word_in}
 use Rattle.lsm_text.specs.declared.form.Form.{Form}
 use Rattle.lsm_cmd_levels.specs.Dues.{is_taken}
 use Rattle.lsm_cmd_levels.specs.Sums.{bytes_of, files_at, hundredths, weight}
+use Rattle.lsm_cmd_levels.specs.Totals.{mean, table_bytes, table_count}
 use Rattle.lsm_cmd_levels.specs.declared.due.Due.{Due}
+use Rattle.lsm_cmd_levels.specs.declared.folder_sums.FolderSums.{FolderSums}
+use Rattle.lsm_cmd_levels.specs.declared.totals.Totals.{Totals}
 
 -- the texts of the first n levels
 unfoldable pub level_texts : (ℕ → List ℕ) → ℕ → List ℕ
@@ -56,6 +59,27 @@ level_line level fs = level_words level fs ++ (10 ∷ [])
 unfoldable pub level_lines : Form → ℕ → List FileMeta → List ℕ
 level_lines form level fs = level_line level fs ++ flat_map (file_line form level) fs
 
+-- ---- sums
+
+-- ` least L mean M`: sizes, where there is a table
+unfoldable pub spread_words : Shape → Option ℕ → List ℕ
+spread_words s None = []
+spread_words s (Some n) = labelled (codes " least ") n ++ labelled (codes " mean ") (mean s)
+
+-- `tables N bytes B least L mean M`, of the tables that the manifest names; or `tables 0 bytes 0`
+unfoldable pub tables_line : Shape → Option ℕ → List ℕ
+tables_line s least =
+    labelled (codes "tables ") (table_count s)
+    ++ (labelled (codes " bytes ") (table_bytes s) ++ (spread_words s least ++ (10 ∷ [])))
+
+-- `folder tables T manifests M others O bytes B`: the folder's files, and the bytes of all
+unfoldable pub folder_line : FolderSums → List ℕ
+folder_line sums =
+    labelled (codes "folder tables ") sums.tables
+    ++ (labelled (codes " manifests ") sums.manifests
+    ++ (labelled (codes " others ") sums.others
+    ++ (labelled (codes " bytes ") sums.bytes ++ (10 ∷ []))))
+
 -- ---- what is due
 
 -- a space and the number of a file that is taken
@@ -84,15 +108,17 @@ due_line s due = due_words due ++ (input_words s due ++ (10 ∷ []))
 unfoldable pub last_words : Shape → ℕ → List ℕ
 last_words s rest = labelled (codes "last ") s.last ++ labelled (codes " rest ") rest
 
--- the last two lines
-unfoldable pub end_lines : Shape → ℕ → Option Due → List ℕ
-end_lines s rest due = last_words s rest ++ (10 ∷ due_line s due)
+-- the last four lines
+unfoldable pub end_lines : Shape → ℕ → Option Due → Totals → List ℕ
+end_lines s rest due totals = tables_line s totals.least
+    ++ (folder_line totals.folder ++ (last_words s rest ++ (10 ∷ due_line s due)))
 
 -- ---- the texts
 
-unfoldable pub levels_text : Shape → ℕ → Option Due → List ℕ
-levels_text s rest due = level_texts (λ n. level_line n (files_at s n)) 7 ++ end_lines s rest due
+unfoldable pub levels_text : Shape → ℕ → Option Due → Totals → List ℕ
+levels_text s rest due totals = level_texts (λ n. level_line n (files_at s n)) 7
+    ++ end_lines s rest due totals
 
-unfoldable pub files_text : Form → Shape → ℕ → Option Due → List ℕ
-files_text form s rest due = level_texts (λ n. level_lines form n (files_at s n)) 7
-    ++ end_lines s rest due
+unfoldable pub files_text : Form → Shape → ℕ → Option Due → Totals → List ℕ
+files_text form s rest due totals = level_texts (λ n. level_lines form n (files_at s n)) 7
+    ++ end_lines s rest due totals

@@ -1,12 +1,11 @@
 //! Where keys are on a picture.
 
-ghost use Rattle.std.specs.Prelude.{◌≡◌, IfOk, cond};
+ghost use Rattle.std.specs.Prelude.{◌≡◌, IfOk};
 ghost use Rattle.std.specs.List.{sum_by};
 ghost use Rattle.lsm_cmd_levels.specs.Axis.{across, before, begin_of, end_of, room, up_to};
-ghost use Rattle.lsm_cmd_levels.specs.Sums.{bytes_of};
 
 use crate::span::user_of;
-use crate::sums::{bytes_of, product_of, sum_of};
+use crate::sums::{all_bytes, counted, product_of, sum_of};
 use lsm_codec::List;
 use lsm_manifest::{FileMeta, Shape};
 use lsm_model::is_at_most;
@@ -14,13 +13,6 @@ use std::alloc::AllocError;
 
 /// How wide a picture is.
 const WIDTH: u128 = 100_000;
-
-/// A number, or nothing.
-fn counted(counts: bool, n: u64) -> u128
-    ensures { result ≡ cond counts n 0 }
-{
-    if counts { u128::from(n) } else { 0 }
-}
 
 /// The room of the ends of a file that are before a key.
 fn before(key: &[u8], file: &FileMeta) -> Result<u128, AllocError>
@@ -111,18 +103,6 @@ pub(crate) fn end_of(shape: &Shape, key: &[u8]) -> Result<u128, AllocError>
     ensures { IfOk result (λ n. n ≡ end_of shape.now key.now) }
 {
     up_to_all(key, &shape.levels)
-}
-
-/// The bytes of all files.
-#[tactic(auto, using(crate::proofs::LoopLaws::sum_more, crate::proofs::LoopLaws::sum_all))]
-fn all_bytes(levels: &[List<FileMeta>]) -> Result<u128, AllocError>
-    ensures { IfOk result (λ n. n ≡ sum_by bytes_of levels.now) }
-{
-    let mut sum = 0;
-    for files in levels {
-        sum = sum_of(sum, bytes_of(files.as_slice())?)?;
-    }
-    Ok(sum)
 }
 
 /// The room of all ends, at least 1.

@@ -3,13 +3,15 @@
 ghost use Rattle.std.specs.Prelude.{◌≡◌, ◌++◌, ◌<◌, IfOk, OnOk, codes, decimal};
 ghost use Rattle.std.specs.List.{flat_map};
 ghost use Rattle.lsm_cmd_levels.specs.Lines.{due_line, due_words, end_lines, file_line, files_text};
-ghost use Rattle.lsm_cmd_levels.specs.Lines.{input_words};
+ghost use Rattle.lsm_cmd_levels.specs.Lines.{folder_line, input_words, spread_words, tables_line};
 ghost use Rattle.lsm_cmd_levels.specs.Lines.{labelled, last_words, level_line, level_lines};
 ghost use Rattle.lsm_cmd_levels.specs.Lines.{level_words, levels_text, number_word, score_words};
 ghost use Rattle.lsm_cmd_levels.specs.Lines.{taken_word, taken_words, two_decimals};
 
 use crate::due::{Due, is_taken};
-use crate::sums::{WHOLE, bytes_of, files_at, product_of, weight};
+use crate::folder_sums::FolderSums;
+use crate::sums::{WHOLE, all_bytes, all_files, bytes_of, files_at, product_of, weight};
+use crate::totals::Totals;
 use lsm_manifest::{FileMeta, Shape};
 use lsm_text::Form;
 use std::alloc::{AllocError, Global};
@@ -141,6 +143,44 @@ fn push_level_files(
     push_files(out, form, level, files)
 }
 
+/// Appends the least and the mean size of the tables of a shape, where it has one.
+#[tactic(auto, unfolding(crate::specs::Lines::spread_words))]
+fn push_spread(out: &mut Vec<u8>, shape: &Shape, least: Option<u64>) -> Result<(), AllocError>
+    ensures { OnOk result (out.new.items ≡ out.old.items ++ spread_words shape.now least) }
+{
+    let Some(least) = least else {
+        return Ok(());
+    };
+    let mean = all_bytes(&shape.levels)? / all_files(&shape.levels)?.max(1);
+    push_labelled(out, b" least ", u128::from(least))?;
+    push_labelled(out, b" mean ", mean)
+}
+
+/// Appends the line of the tables.
+#[tactic(auto, unfolding(crate::specs::Lines::tables_line))]
+fn push_tables(out: &mut Vec<u8>, shape: &Shape, least: Option<u64>) -> Result<(), AllocError>
+    ensures { OnOk result (out.new.items ≡ out.old.items ++ tables_line shape.now least) }
+{
+    push_labelled(out, b"tables ", all_files(&shape.levels)?)?;
+    push_labelled(out, b" bytes ", all_bytes(&shape.levels)?)?;
+    push_spread(out, shape, least)?;
+    out.push(b'\n')?;
+    Ok(())
+}
+
+/// Appends the line of the folder.
+#[tactic(auto, unfolding(crate::specs::Lines::folder_line))]
+fn push_folder(out: &mut Vec<u8>, sums: FolderSums) -> Result<(), AllocError>
+    ensures { OnOk result (out.new.items ≡ out.old.items ++ folder_line sums) }
+{
+    push_labelled(out, b"folder tables ", sums.tables)?;
+    push_labelled(out, b" manifests ", sums.manifests)?;
+    push_labelled(out, b" others ", sums.others)?;
+    push_labelled(out, b" bytes ", sums.bytes)?;
+    out.push(b'\n')?;
+    Ok(())
+}
+
 /// Appends a space and the number of a file, if it is taken.
 #[tactic(auto, unfolding(crate::specs::Lines::taken_word))]
 fn push_taken_one(
@@ -230,40 +270,45 @@ pub(crate) fn push_last_words(out: &mut Vec<u8>, shape: &Shape, rest: u64) -> Re
     push_labelled(out, b" rest ", u128::from(rest))
 }
 
-/// Appends the last two lines.
+/// Appends the last four lines.
 #[tactic(auto, unfolding(crate::specs::Lines::end_lines))]
 fn push_end(
     out: &mut Vec<u8>,
     shape: &Shape,
     rest: u64,
     due: Option<Due<'_>>,
+    totals: Totals,
 ) -> Result<(), AllocError>
-    ensures { OnOk result (out.new.items ≡ out.old.items ++ end_lines shape.now rest due.entry) }
+    ensures { OnOk result
+        (out.new.items ≡ out.old.items ++ end_lines shape.now rest due.entry totals) }
 {
+    push_tables(out, shape, totals.least)?;
+    push_folder(out, totals.folder)?;
     push_last_words(out, shape, rest)?;
     out.push(b'\n')?;
     push_due(out, shape, due)
 }
 
-/// A line a level, and what is due.
+/// A line a level, the sums, and what is due.
 #[tactic(auto, unfolding(crate::specs::Lines::levels_text), using(crate::proofs::LoopLaws::level_more, crate::proofs::LoopLaws::levels_none))]
 pub(crate) fn levels_text(
     alloc: Global,
     shape: &Shape,
     rest: u64,
     due: Option<Due<'_>>,
+    totals: Totals,
 ) -> Result<Vec<u8>, AllocError>
-    ensures { IfOk result (λ text. text.items ≡ levels_text shape.now rest due.entry) }
+    ensures { IfOk result (λ text. text.items ≡ levels_text shape.now rest due.entry totals) }
 {
     let mut text = Vec::new(alloc);
     for level in 0..7 {
         push_level(&mut text, level, files_at(shape, level))?;
     }
-    push_end(&mut text, shape, rest, due)?;
+    push_end(&mut text, shape, rest, due, totals)?;
     Ok(text)
 }
 
-/// A line a level with those of its files, and what is due.
+/// A line a level with those of its files, the sums, and what is due.
 #[tactic(auto, unfolding(crate::specs::Lines::files_text), using(crate::proofs::LoopLaws::level_more, crate::proofs::LoopLaws::levels_none))]
 pub(crate) fn files_text(
     alloc: Global,
@@ -271,13 +316,14 @@ pub(crate) fn files_text(
     shape: &Shape,
     rest: u64,
     due: Option<Due<'_>>,
+    totals: Totals,
 ) -> Result<Vec<u8>, AllocError>
-    ensures { IfOk result (λ text. text.items ≡ files_text form shape.now rest due.entry) }
+    ensures { IfOk result (λ text. text.items ≡ files_text form shape.now rest due.entry totals) }
 {
     let mut text = Vec::new(alloc);
     for level in 0..7 {
         push_level_files(&mut text, form, level, files_at(shape, level))?;
     }
-    push_end(&mut text, shape, rest, due)?;
+    push_end(&mut text, shape, rest, due, totals)?;
     Ok(text)
 }

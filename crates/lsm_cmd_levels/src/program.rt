@@ -3,21 +3,20 @@
 ghost use Rattle.std.specs.Prelude.{◌≡◌, ◌≢◌, IfErr, IfOk, OnOk};
 ghost use Rattle.lsm_directory.specs.Folders.{IsShelfAt};
 ghost use Rattle.lsm_directory.specs.Holding.{IsFolderFault};
-ghost use Rattle.lsm_directory.specs.Looking.{TellsLogs};
 ghost use Rattle.lsm_directory.specs.declared.faults.directory_fault.DirectoryFault.{DirectoryFault};
 ghost use Rattle.lsm_cmd_levels.specs.Layout.{FailsToLayOut, LaysOutAt};
+ghost use Rattle.lsm_cmd_levels.specs.Listing.{TellsFiles};
 
+use crate::listing::folder_files;
 use crate::showing::lay_out;
-use lsm_directory::{
-    DirectoryFault, FolderFile, Known, Paths, log_files, open_at, refuse, status_of,
-};
+use lsm_directory::{DirectoryFault, FolderFile, Known, Paths, open_at, refuse, status_of};
 use lsm_folder::{FolderCalls, Reasons};
 use lsm_requests::LevelsLine;
 use lsm_storage::FileShelf;
 use std::io::Write;
 use std::sync::Wait;
 
-/// Opens the folder at a path to read: a shelf on it, and the files that `log_files` finds there.
+/// Opens the folder at a path to read: a shelf on it, and the files that it has, with their sizes.
 /// No lock is asked for: a manifest only grows, and `CURRENT` is replaced in one step, so what is
 /// read beside a program that writes has stood there.
 fn open_shelf<C: FolderCalls, P: Paths<C>, R: Wait>(
@@ -27,13 +26,13 @@ fn open_shelf<C: FolderCalls, P: Paths<C>, R: Wait>(
     reasons: &Reasons,
 ) -> Result<(FileShelf<C>, Vec<FolderFile>), DirectoryFault>
     ensures found { IfOk result (λ o.
-        IsShelfAt C.FolderCalls path.now (TellsLogs o.1.items) o.0) }
+        IsShelfAt C.FolderCalls path.now (TellsFiles o.1.items) o.0) }
     ensures fault { IfErr result IsFolderFault }
 {
     let mut folder = open_at(paths, path, reasons)?;
-    let files = log_files(rt, paths.alloc(), &mut folder)?;
+    let files = folder_files(rt, paths.alloc(), &mut folder)?;
 
-    // That a log is gone is no reason of a later refusal.
+    // That a file is gone, or has no size, is no reason of a later refusal.
     reasons.forget();
     Ok((FileShelf::over(folder), files))
 }
@@ -70,7 +69,8 @@ where
     done
 }
 
-/// Shows the levels of the folder at a path by its manifest alone, and answers the exit status: 0
+/// Shows the levels of the folder at a path by its manifest, and the sums of that and of the
+/// folder's names and sizes, and answers the exit status: 0
 /// where that is done, and 1 where it is refused. Each log that is not read is noted on `err`, and
 /// bytes at the manifest's end that are no whole record; with `--strict` it is refused by either. A
 /// fault is one line on `err`; what it
@@ -78,7 +78,7 @@ where
 /// Nothing is written in the folder, and no lock is asked for.
 ///
 /// The refusals of `Journal::recover`; `Shelf` of `Device` where it is no folder that can be
-/// opened; the refusals of `log_files`, as `Shelf`.
+/// opened, its files can't be listed, or the size of a log is refused.
 pub fn run_levels<C: FolderCalls + Send + Sync, P: Paths<C>, R: Wait, O: Write, E: Write>(
     rt: &R,
     paths: &P,

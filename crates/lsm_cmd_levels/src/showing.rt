@@ -10,6 +10,7 @@ ghost use Rattle.lsm_cmd_levels.specs.Layout.{Names, ReadsManifest, Shows, text_
 use crate::drawing::{Sheet, picture_text};
 use crate::due::{Due, due_next};
 use crate::lines::{files_text, levels_text};
+use crate::totals::Totals;
 use lsm_directory::{
     DirectoryFault, FolderFile, Wording, first_unread, push_logs, push_rest, refuse_left_out,
     write_output,
@@ -24,7 +25,8 @@ use std::io::{self, Write};
 use std::marker::Brand;
 use std::sync::Wait;
 
-/// What is shown of a shape, of what is due in it, and of so many bytes at its manifest's end.
+/// What is shown of a shape, of what is due in it, of so many bytes at its manifest's end, and of
+/// totals.
 fn text_with(
     alloc: Global,
     form: Form,
@@ -32,18 +34,21 @@ fn text_with(
     shape: &Shape,
     rest: u64,
     due: Option<Due<'_>>,
+    totals: Totals,
 ) -> Result<Vec<u8>, AllocError>
-    ensures { IfOk result (λ text. text.items ≡ text_of form output shape.now rest due.entry) }
+    ensures { IfOk result (λ text.
+        text.items ≡ text_of form output shape.now rest due.entry totals) }
 {
     match output {
-        LevelsOutput::Levels => levels_text(alloc, shape, rest, due),
-        LevelsOutput::Files => files_text(alloc, form, shape, rest, due),
+        LevelsOutput::Levels => levels_text(alloc, shape, rest, due, totals),
+        LevelsOutput::Files => files_text(alloc, form, shape, rest, due, totals),
         LevelsOutput::Svg => picture_text(alloc, Sheet { shape, due, form }, rest),
     }
 }
 
 /// What is shown of a shape whose manifest has so many bytes at its end that hold no whole record,
-/// with the compaction that is due in it. `AllocError` where a growth was refused.
+/// with the compaction that is due in it, and the sums of it and of a folder's files. `AllocError`
+/// where a growth was refused.
 #[tactic(auto, using(crate::proofs::ShowLaws::shown_as))]
 pub fn text_of(
     alloc: Global,
@@ -51,11 +56,13 @@ pub fn text_of(
     output: LevelsOutput,
     shape: &Shape,
     rest: u64,
+    files: &[FolderFile],
 ) -> Result<Vec<u8>, AllocError>
-    ensures { IfOk result (λ text. IsShown form output shape.now rest text.items) }
+    ensures { IfOk result (λ text. IsShown form output shape.now rest files.now text.items) }
 {
     let due = due_next(shape)?;
-    let text = text_with(alloc, form, output, shape, rest, due)?;
+    let totals = Totals::of(shape, files)?;
+    let text = text_with(alloc, form, output, shape, rest, due, totals)?;
     Ok(text)
 }
 
@@ -105,21 +112,22 @@ fn tell_notes<E: Write>(alloc: Global, files: &[FolderFile], recovered: &Recover
     }
 }
 
-/// Writes what is shown of a manifest.
+/// Writes what is shown of a manifest, and of a folder's files.
 #[tactic(auto, using(crate::proofs::ShowLaws::shows_text, crate::proofs::ShowLaws::stops_text))]
 fn show<O: Write>(
     alloc: Global,
     form: Form,
     output: LevelsOutput,
+    files: &[FolderFile],
     recovered: &Recovered,
     out: &mut O,
 ) -> Result<(), DirectoryFault>
-    ensures shown { OnOk result (Shows form output recovered.now.shape recovered.now.rest
+    ensures shown { OnOk result (Shows form output recovered.now.shape recovered.now.rest files.now
         (O.contents out.old) (O.contents out.new)) }
     ensures fault { IfErr result (λ e. IsUnshown form output recovered.now.shape
-        recovered.now.rest e (O.contents out.old) (O.contents out.new)) }
+        recovered.now.rest files.now e (O.contents out.old) (O.contents out.new)) }
 {
-    let text = match text_of(alloc, form, output, &recovered.shape, recovered.rest) {
+    let text = match text_of(alloc, form, output, &recovered.shape, recovered.rest, files) {
         Ok(text) => text,
         Err(_) => return Err(DirectoryFault::OutOfMemory),
     };
@@ -176,12 +184,12 @@ fn show_noted<O: Write, E: Write>(
 ) -> Result<(), DirectoryFault>
     ensures whole { OnOk result (IsTrue strict → LeavesNothingOut recovered.now.rest
         recovered.now.shape.log recovered.now.shape.prev_log files.now) }
-    ensures shown { OnOk result (Shows form output recovered.now.shape recovered.now.rest
+    ensures shown { OnOk result (Shows form output recovered.now.shape recovered.now.rest files.now
         (O.contents out.old) (O.contents out.new)) }
     ensures fault { IfErr result (λ e. (IsTrue strict × IsLeftOut recovered.now.rest
         recovered.now.shape.log recovered.now.shape.prev_log files.now e
         × Keeps (O.contents out.old) (O.contents out.new))
-        ⊎ IsUnshown form output recovered.now.shape recovered.now.rest e
+        ⊎ IsUnshown form output recovered.now.shape recovered.now.rest files.now e
         (O.contents out.old) (O.contents out.new)) }
     ensures quiet { recovered.now.rest ≡ 0
         → NoneUnread recovered.now.shape.log recovered.now.shape.prev_log files.now
@@ -190,15 +198,15 @@ fn show_noted<O: Write, E: Write>(
     let shape = &recovered.shape;
     refuse_left_out(strict, recovered.rest, files, shape.log, shape.prev_log)?;
     tell_notes(alloc, files, recovered, err);
-    match show(alloc, form, output, recovered, out) {
+    match show(alloc, form, output, files, recovered, out) {
         Ok(()) => Ok(()),
         Err(fault) => Err(fault),
     }
 }
 
 /// Reads the manifest that the directory of a shelf names, and writes what is shown of it on
-/// `out`; notes on `err` what is not read, or where it is strict is refused by that. The shelf is
-/// given back.
+/// `out`, with the sums of these files; notes on `err` what is not read, or where it is strict is
+/// refused by that. The shelf is given back.
 #[tactic(auto, using(crate::proofs::ShowLaws::laid_out, crate::proofs::ShowLaws::not_shown, crate::proofs::ShowLaws::not_named, crate::proofs::ShowLaws::named_reads, crate::proofs::ShowLaws::fault_reads))]
 pub fn lay_out<S: Shelf, R: Wait, O: Write, E: Write>(
     rt: &R,

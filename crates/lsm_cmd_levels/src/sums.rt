@@ -1,10 +1,12 @@
 //! What a level counts, by a shape alone. All sums are told in 128 bits, whatever sizes a manifest
 //! names; only more files than memory holds could come to more.
 
-ghost use Rattle.std.specs.Prelude.{◌≡◌, ◌+◌, ◌*◌, ◌≤◌, IfOk};
+ghost use Rattle.std.specs.Prelude.{◌≡◌, ◌+◌, ◌*◌, ◌≤◌, IfOk, cond, length};
+ghost use Rattle.std.specs.List.{sum_by};
 ghost use Rattle.lsm_cmd_levels.specs.Sums.{bytes_of, files_at, load, weight};
 ghost use Rattle.lsm_picker.specs.Scores.{scale};
 
+use lsm_codec::List;
 use lsm_manifest::{FileMeta, Shape};
 use std::alloc::AllocError;
 
@@ -23,6 +25,13 @@ pub(crate) fn product_of(a: u128, b: u128) -> Result<u128, AllocError>
     ensures { IfOk result (λ n. n ≡ a * b) }
 {
     a.checked_mul(b).ok_or(AllocError)
+}
+
+/// A number, or nothing.
+pub(crate) fn counted(counts: bool, n: u64) -> u128
+    ensures { result ≡ cond counts n 0 }
+{
+    if counts { u128::from(n) } else { 0 }
 }
 
 /// The files of a level.
@@ -45,6 +54,30 @@ pub(crate) fn bytes_of(files: &[FileMeta]) -> Result<u128, AllocError>
         bytes = sum_of(bytes, u128::from(file.size))?;
     }
     Ok(bytes)
+}
+
+/// The bytes of the files of these levels.
+#[tactic(auto, using(crate::proofs::LoopLaws::sum_more, crate::proofs::LoopLaws::sum_all))]
+pub(crate) fn all_bytes(levels: &[List<FileMeta>]) -> Result<u128, AllocError>
+    ensures { IfOk result (λ n. n ≡ sum_by bytes_of levels.now) }
+{
+    let mut sum = 0;
+    for files in levels {
+        sum = sum_of(sum, bytes_of(files.as_slice())?)?;
+    }
+    Ok(sum)
+}
+
+/// How many files these levels have.
+#[tactic(auto, using(crate::proofs::LoopLaws::sum_more, crate::proofs::LoopLaws::sum_all))]
+pub(crate) fn all_files(levels: &[List<FileMeta>]) -> Result<u128, AllocError>
+    ensures { IfOk result (λ n. n ≡ sum_by length levels.now) }
+{
+    let mut sum = 0;
+    for files in levels {
+        sum = sum_of(sum, files.as_slice().len() as u128)?;
+    }
+    Ok(sum)
 }
 
 /// What counts of a level's files: at level 0 their number, at the others their bytes.

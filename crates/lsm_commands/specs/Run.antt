@@ -14,6 +14,7 @@ use Rattle.lsm_requests.specs.declared.input.Input.TheVariants.{Standard}
 use Rattle.lsm_grammar.specs.declared.request.Request.{Request}
 use Rattle.lsm_grammar.specs.declared.request.Request.TheVariants.{Convert, Look, Levels}
 use Rattle.lsm_grammar.specs.declared.request.Request.TheVariants.{Write as WriteFolder, Load, Compact}
+use Rattle.lsm_grammar.specs.declared.request.Request.TheVariants.{Import}
 use Rattle.lsm_grammar.specs.declared.request.Request.TheVariants.{Script, Shell, Bench}
 use Rattle.lsm_grammar.specs.declared.writing_command.WritingCommand.{WritingCommand}
 use Rattle.lsm_grammar.specs.declared.writing_command.WritingCommand.TheVariants.{Ingest, WriteKey}
@@ -23,6 +24,8 @@ use Rattle.lsm_cmd_convert.specs.Converted.{IsConverted, IsUnconverted}
 use Rattle.lsm_cmd_convert.specs.Played.{IsPlayed, IsUnplayed}
 use Rattle.lsm_directory.specs.declared.faults.directory_fault.DirectoryFault.{DirectoryFault}
 use Rattle.lsm_opening.specs.declared.faults.writer_fault.WriterFault.{WriterFault}
+use Rattle.lsm_cmd_import.specs.Imported.{FailsToImport, ImportsAt}
+use Rattle.lsm_cmd_import.specs.declared.copy_fault.CopyFault.{CopyFault}
 use Rattle.lsm_cmd_levels.specs.Layout.{FailsToLayOut, LaysOutAt}
 use Rattle.lsm_cmd_load.specs.LoadedAt.{FailsToLoad, LoadsAt}
 use Rattle.lsm_cmd_read.specs.Looked.{FailsToLook, LooksAtGiven}
@@ -59,6 +62,8 @@ module _ {C M : Type 0} (folders : Ghosts C M) (marks : mark.Ghosts M) where
   IsDone text (Load line) old new said_old said_new =
       LoadsAt folders line.path.now line.options (text line.input) old new
       × (IsFalse line.options.progress → Keeps said_old said_new)
+  IsDone text (Import line) old new said_old said_new =
+      ImportsAt folders marks line old new × Keeps said_old said_new
   IsDone text (Compact line) old new said_old said_new =
       IsCompactedAt folders line old new × (IsFalse line.options.progress → Keeps said_old said_new)
   IsDone text (Script input) old new said_old said_new =
@@ -101,6 +106,8 @@ module _ {C M : Type 0} (folders : Ghosts C M) (marks : mark.Ghosts M) where
   IsUndone text (WriteFolder line) old new = IsUnwritten text line.path.now line.command old new
   IsUndone text (Load line) old new =
       FailsToLoad folders marks line.path.now line.options (text line.input) old new
+  IsUndone text (Import line) old new =
+      (fault : CopyFault) × FailsToImport folders marks line fault old new
   IsUndone text (Compact line) old new = IsUncompacted folders marks line old new
   IsUndone text (Script input) old new = IsUnplayed (text input) old new
   IsUndone text (Shell line) old new =

@@ -11,6 +11,7 @@ ghost use Rattle.lsm_requests.specs.Inputs.{text_in};
 use lsm_cmd_bench::run_bench;
 use lsm_cmd_compact::run_compact;
 use lsm_cmd_convert::{run_convert, run_script};
+use lsm_cmd_import::run_import;
 use lsm_cmd_levels::run_levels;
 use lsm_cmd_load::run_load;
 use lsm_cmd_read::run_look;
@@ -132,6 +133,7 @@ where
         Request::Levels(line) => run_levels(rt, paths, line, out, err),
         Request::Write(line) => run_writing(rt, paths, line, &mut input, out, err),
         Request::Load(line) => run_load(rt, paths, line, input, out, err),
+        Request::Import(line) => run_import(rt, paths, line, out, err),
         Request::Compact(line) => run_compact(rt, paths, line, out, err),
         Request::Script(found) => run_script(rt, paths, *found, input, out, err),
         Request::Shell(line) => run_shell(

@@ -22,7 +22,7 @@ use Rattle.lsm_state.specs.Held.{Held, plain}
 use Rattle.lsm_state.specs.Ingesting.{entries_of}
 use Rattle.lsm_crash.specs.Disk.{Disk}
 use Rattle.lsm_crash.specs.Known.{World}
-use Rattle.lsm_crash.specs.Database.{Answered, Asks, Builds, Collect, Deed, Follows, Ingest, Install, IsMade, IsState, Looks, Refused, Turn, Turns, Works}
+use Rattle.lsm_crash.specs.Database.{Answered, Asks, Builds, Collect, Deed, Follows, Gather, Ingest, Install, IsMade, IsState, Looks, Refused, Turn, Turns, Works}
 use Rattle.lsm_crash.specs.Lives.{Answers, brought}
 
 -- all that was ever ingested is read (a law of the plain machine)
@@ -142,12 +142,14 @@ module _ (honest : Type 0) (all : ReadsAll honest) (board : TableId) (fair : hon
         ];
       }
 
-  pub deed_reads : (old new : Held) (deed : Deed) (asks : List Asked) (es : List Entry) → IsState honest board old → Asks old new deed asks → Follows honest old new (Answered deed) → Answers old.slots.version es
+  pub deed_reads : (old new : Held) (deed : Deed) (asks : List Asked) (es : List Entry) → IsState honest board old → Asks honest old new deed asks → Follows honest old new (Answered deed) → Answers old.slots.version es
       → Answers new.slots.version (brought (Answered deed ∷ []) ++ es)
   deed_reads old new (Ingest ws r) asks es l t f a =
       subst (λ (ns : List Entry). Answers new.slots.version (ns ++ es)) (ap (λ n. entries_from n ws) (sym t.3.first)) (ingest old new (entries_of old ws) es l f a)
   deed_reads old new (Install done) asks es l t f a =
       quiet old new (event.Install done.work.ticket ∷ event.Spend ∷ []) es l refl f (ap (λ (p : Plain). p.last) f.2.2 ∙ (ap (λ (p : Plain). p.last) f.2.1.2 ∙ ap (λ (p : Plain). p.last) f.1.is)) a
+  deed_reads old new (Gather number) asks es l t f a =
+      quiet old new (event.Gather ∷ []) es l refl (plain new, f, refl) (ap (λ (p : Plain). p.last) f.is) a
   deed_reads old new (Collect removed) asks es l t f a = same_plain old new es f a
 
   turn_reads : (old new : Held) (turn : Turn) (w u : World) (d e : Disk) (es : List Entry) → IsState honest board old → Turns honest board old new turn w u d e → Follows honest old new turn → Answers old.slots.version es
@@ -160,6 +162,7 @@ module _ (honest : Type 0) (all : ReadsAll honest) (board : TableId) (fair : hon
   brought_more : (turn : Turn) (turns : List Turn) (es : List Entry) → brought (turn ∷ turns) ++ es ≡ brought turns ++ (brought (turn ∷ []) ++ es)
   brought_more (Answered (Ingest ws r)) turns es = append_assoc (brought turns) (entries_from r.first ws) es
   brought_more (Answered (Install done)) turns es = refl
+  brought_more (Answered (Gather number)) turns es = refl
   brought_more (Answered (Collect removed)) turns es = refl
   brought_more (Refused deed) turns es = refl
   brought_more (Builds number image) turns es = refl

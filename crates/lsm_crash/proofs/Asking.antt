@@ -13,6 +13,7 @@ use Rattle.lsm_merge.specs.Outputs.{going}
 use Rattle.lsm_merge.specs.Work.{Done, IsMade, Work, puts_by, puts_of}
 use Rattle.lsm_state.specs.Asked.{changes_by}
 use Rattle.lsm_state.specs.Collecting.{AreCollected, IsCollectRefusal, IsKeptNumber}
+use Rattle.lsm_state.specs.Gathering.{Gathers}
 use Rattle.lsm_state.specs.Held.{Held, IsLawfulState}
 use Rattle.lsm_state.specs.Ingesting.{Ingests, IsIngestRefusal, coming_in, last_of, table_bytes_of, with_number, with_slots}
 use Rattle.lsm_state.specs.Installing.{Installed, MayInstall}
@@ -59,6 +60,17 @@ pub ingest_asks : (old new : Held) (ws : List Write) (r : Ingested) (was is : To
 ingest_asks old new ws r was is i asks h =
     only_going asks (Put old.next i.table.image ∷ changes_by (with_number old i.slots) (coming_in i.table (last_of old ws)) ∷ []) was is h
     (ingest_made old new ws r was is i)
+
+pub gather_made : (honest : Type 0) (old new : Held) (number : ℕ) (was is : Told) (i : Gathers honest old new number was is)
+    → HasMade (Put old.next i.table.image ∷ changes_by (with_number old i.slots) i.change ∷ []) was is
+gather_made honest old new number was is i =
+    sent_made i.change (changed_by i.change i.slots.version) (suc old.next) new.next old.journal new.journal i.mid is i.changes.sends
+    ∙ ap (λ (m : List Asked). changes_by (with_number old i.slots) i.change ∷ m) i.put.made
+
+pub gather_asks : (honest : Type 0) (old new : Held) (number : ℕ) (was is : Told) (i : Gathers honest old new number was is) (asks : List Asked) → HasMade asks was is
+    → asks ≡ Put old.next i.table.image ∷ changes_by (with_number old i.slots) i.change ∷ []
+gather_asks honest old new number was is i asks h =
+    only_going asks (Put old.next i.table.image ∷ changes_by (with_number old i.slots) i.change ∷ []) was is h (gather_made honest old new number was is i)
 
 pub install_made : (old new : Held) (done : Done) (was is : Told) (i : Installed old new done was is)
     → HasMade (changes_by (with_slots old i.slots) i.change ∷ []) was is

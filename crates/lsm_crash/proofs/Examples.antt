@@ -17,9 +17,11 @@ use Rattle.lsm_live.proofs.CallerLemmas.{live_has}
 use Rattle.lsm_merge.specs.Work.{Done}
 use Rattle.lsm_state.specs.Asked.{changes_by}
 use Rattle.lsm_state.specs.Collecting.{IsCollectRefusal}
+use Rattle.lsm_state.specs.Gathering.{IsGatherRefusal}
 use Rattle.lsm_state.specs.Held.{Held}
 use Rattle.lsm_state.specs.Ingesting.{IsIngestRefusal, IsWelcome, Ingests, coming_in, last_of, table_bytes_of, with_number, with_slots}
 use Rattle.lsm_state.specs.Installing.{IsInstallRefusal}
+use Rattle.lsm_state.specs.declared.gather_fault.GatherFault.{GatherFault}
 use Rattle.lsm_state.specs.declared.ingest.Ingested.{Ingested}
 use Rattle.lsm_state.specs.declared.state_fault.StateFault.{StateFault}
 use Rattle.lsm_crash.specs.Disk.{Disk, Step, empty_disk, filled, with_file}
@@ -29,7 +31,7 @@ use Rattle.lsm_crash.specs.Known.{IsHeld, IsSettled, Known, World, known_of, not
 use Rattle.lsm_crash.specs.Operations.{Append, Operation, Put, Remove, Start, after, either, plan_of, started, starting}
 use Rattle.lsm_crash.specs.Among.{CutAmong, DoneAmong, FailsAmong, IsGap, counting, failed}
 use Rattle.lsm_crash.specs.States.{IsWorldOf}
-use Rattle.lsm_crash.specs.Database.{AllCut, AllDone, AllFail, Answered, Asks, Builds, Collect, Deed, Follows, HasMade, Ingest, Install, IsCut, IsDrawn, IsMade, IsReady, IsState, Looks, Opens, Refused, Refuses, Works, after_all, opened_world, operations, plans_of}
+use Rattle.lsm_crash.specs.Database.{AllCut, AllDone, AllFail, Answered, Asks, Builds, Collect, Deed, Follows, Gather, HasMade, Ingest, Install, IsCut, IsDrawn, IsMade, IsReady, IsState, Looks, Opens, Refused, Refuses, Works, after_all, opened_world, operations, plans_of}
 use Rattle.lsm_crash.specs.Lives.{Begins, Crashed, FromNothing, Lived, MakesCut, SmallAges, Struck, Worked}
 use Rattle.lsm_crash.proofs.Names.{table_current, table_manifest, table_temporary}
 use Rattle.lsm_crash.proofs.Disks.{none_is}
@@ -43,6 +45,7 @@ use Rattle.lsm_crash.proofs.Calls.{no_gap}
 use Rattle.lsm_crash.proofs.Instances.{crash_can, empty_vacant, put_can}
 use Rattle.lsm_crash.proofs.Asking.{collect_err_made, create_made, ingest_err_made, ingest_made, open_asks, open_made}
 use Rattle.lsm_crash.proofs.Forms.{recorded_comes}
+use Rattle.lsm_crash.proofs.Refusals.{gather_made_err}
 use Rattle.lsm_crash.proofs.Worlds.{TablesChange}
 use Rattle.lsm_crash.proofs.Making.{made_settled, made_world}
 use Rattle.lsm_crash.proofs.Opening.{opening_allowed, opening_done, opening_settled, opening_world}
@@ -92,8 +95,8 @@ state_comes : (honest : Type 0) (board : TableId) (h : Held) → IsState honest 
 state_comes honest board h l = recorded_comes l.0.journaled.0 h.journal h.slots.version h.next l.0.journaled.1
 
 -- the calls of an ingest
-asked : (old new : Held) (ws : List Write) (r : Ingested) (was is : Told) → IsWelcome old ws → Ingests old new ws r was is → (asks : List Asked) × Asks old new (Ingest ws r) asks
-asked old new ws r was is welcome i = (PutTable old.next i.table.image ∷ changes_by (with_number old i.slots) (coming_in i.table (last_of old ws)) ∷ [], (was, is, welcome, i, ingest_made old new ws r was is i))
+asked : (honest : Type 0) (old new : Held) (ws : List Write) (r : Ingested) (was is : Told) → IsWelcome old ws → Ingests old new ws r was is → (asks : List Asked) × Asks honest old new (Ingest ws r) asks
+asked honest old new ws r was is welcome i = (PutTable old.next i.table.image ∷ changes_by (with_number old i.slots) (coming_in i.table (last_of old ws)) ∷ [], (was, is, welcome, i, ingest_made old new ws r was is i))
 
 -- ---- each turn
 
@@ -141,7 +144,7 @@ module _ (honest : Type 0) (board : TableId) where
       )
 
   -- a refused call, where what was answered Ok before can be
-  refused_can : (old new : Held) (deed : Deed) (asks next : List Asked) (w : World) (d : Disk) → IsState honest board new → Refuses old new deed asks next → new.halted ≡ false → Follows honest old new (Refused deed) → Can w w.version asks d
+  refused_can : (old new : Held) (deed : Deed) (asks next : List Asked) (w : World) (d : Disk) → IsState honest board new → Refuses honest old new deed asks next → new.halted ≡ false → Follows honest old new (Refused deed) → Can w w.version asks d
       → (u : World) × (e : Disk) × Works honest board old new (Refused deed ∷ []) w u d e
   refused_can old new deed asks next w d l x going f can =
       let r = all_fail (operations w.version asks) (operations w.version next) w (after_all w (operations w.version asks)) d can.0 can.1 in
@@ -156,6 +159,15 @@ module _ (honest : Type 0) (board : TableId) where
         | inl none ↦ refused_can old new (Ingest ws answer) [] [] w d l (fault, was, is, x, none, inl refl) going f (d, (refl, no_gap w.tables d))
         | inr put ↦ refused_can old new (Ingest ws answer) (PutTable old.next image ∷ []) [] w d l (fault, was, is, x, put, inl refl) going f (p.0, (p.0, p.1, (refl, no_gap (after w (Put old.next image)).tables p.0)))
       ]
+
+  pub refused_gather : (old new : Held) (number : ℕ) (fault : GatherFault) (was is : Told) (w : World) (d : Disk) → IsState honest board new → IsSettled d w → IsWorldOf old w → d.names (table_name old.next) ≡ None
+      → IsGatherRefusal honest old new fault was is → new.halted ≡ false → Follows honest old new (Refused (Gather number)) → (u : World) × (e : Disk) × Works honest board old new (Refused (Gather number) ∷ []) w u d e
+  refused_gather old new number fault was is w d l i o free x going f = elim (gather_made_err honest old new fault was is x) [
+    | inl none ↦ refused_can old new (Gather number) [] [] w d l (fault, was, is, x, none, inl refl) going f (d, (refl, no_gap w.tables d))
+    | inr put ↦ (
+        let p = put_can (after w (Put old.next put.image)).tables old.next put.image d free in
+        refused_can old new (Gather number) (PutTable old.next put.image ∷ []) [] w d l (fault, was, is, x, put.made, inl refl) going f (p.0, (p.0, p.1, (refl, no_gap (after w (Put old.next put.image)).tables p.0))))
+  ]
 
   pub refused_install : (old new : Held) (done : Done) (fault : StateFault) (was is : Told) (w : World) (d : Disk) → IsState honest board new → IsInstallRefusal old new done fault was is → Becomes was is → new.halted ≡ false → Follows honest old new (Refused (Install done))
       → (u : World) × (e : Disk) × Works honest board old new (Refused (Install done) ∷ []) w u d e
@@ -174,7 +186,7 @@ module _ (honest : Type 0) (board : TableId) where
 
   -- ---- an ingest that is cut, in its first call of the folder or behind its last
 
-  pub cut_can : (old new : Held) (deed : Deed) (asks : List Asked) (w : World) (v : Version) (d : Disk) → IsState honest board new → Asks old new deed asks → IsReady honest deed w → ComesTo new.journal.bytes v → Follows honest old new (Answered deed)
+  pub cut_can : (old new : Held) (deed : Deed) (asks : List Asked) (w : World) (v : Version) (d : Disk) → IsState honest board new → Asks honest old new deed asks → IsReady honest deed w → ComesTo new.journal.bytes v → Follows honest old new (Answered deed)
       → (known : Known) × IsCut honest board old new deed w known d d
   cut_can old new deed asks w v d l a ready to f = (let r = all_first (operations v asks) w d in (r.0, (v, asks, l, a, ready, to, f, r.1)))
 
@@ -183,7 +195,7 @@ module _ (honest : Type 0) (board : TableId) where
       → (known : Known) × (all : Known) × (e : Disk) × IsCut honest board old new (Ingest ws r) w known d d × IsCut honest board old new (Ingest ws r) w all d e
   ingest_cut old new ws r was is w d l i o free welcome came f =
       let v = state_comes honest board new l in
-      let a = asked old new ws r was is welcome came in
+      let a = asked honest old new ws r was is welcome came in
       let can = deed_can honest board old new w v.0 d i o free (Ingest ws r) a.0 a.1 in
       let first = cut_can old new (Ingest ws r) a.0 w v.0 d l a.1 tt v.1 f in
       let last = all_last (operations v.0 a.0) w (after_all w (operations v.0 a.0)) d can.0 can.1 in
@@ -217,8 +229,8 @@ module _ (law : TablesChange) (honest : Type 0) (board : TableId) (limit : ℕ) 
       let v = state_comes honest board h l in
       let x = state_comes honest board now ln in
       let y = state_comes honest board new lx in
-      let a = asked h now ws r was is hw hi in
-      let b = asked now new xs s then so nw ni in
+      let a = asked honest h now ws r was is hw hi in
+      let b = asked honest now new xs s then so nw ni in
       let begun = begins_can honest limit h w d p first h.next made free (let f = p.begun.fits in omega arith) in
       let u = opened_world h v.0 w in
       let settled = opening_settled honest board limit h d w v.0 l.0 i p v.1 begun.0 (opening_done honest limit h d p first made w.tables begun.0 begun.1) in
@@ -288,7 +300,7 @@ module _ (honest : Type 0) (board : TableId) (h : Held) (m : IsMade h) (l : IsSt
       let i = made_settled honest board h v.0 l.0 m v.1 empty_disk start.0 empty_vacant start.1 in
       let o = made_world honest board h v.0 l.0 m v.1 in
       let s = state_comes honest board new ln in
-      let a = asked h new ws r was is welcome came in
+      let a = asked honest h new ws r was is welcome came in
       let works = works_can honest board h new w s.0 start.0 i o start.2 (Ingest ws r) a.0 ln a.1 tt s.1 f in
       let kept = works_keep law honest board (Answered (Ingest ws r) ∷ []) h new w works.0 start.0 works.1 l i o works.2 in
       let crash = crashed_can (known_of works.0) works.1 (settled_held works.1 works.0 kept.0) refl in (

@@ -23,7 +23,7 @@ use Rattle.lsm_slots.specs.Slots.{current_slot}
 use Rattle.lsm_state.specs.Asked.{changes_by}
 use Rattle.lsm_state.specs.Collecting.{IsKeptNumber, StoppedEarly, is_in, outside}
 use Rattle.lsm_state.specs.Held.{Held}
-use Rattle.lsm_state.specs.Ingesting.{IsIngestRefusal, IsWelcome, coming_in, last_of, table_bytes_of}
+use Rattle.lsm_state.specs.Ingesting.{HasNumbers, IsIngestRefusal, IsWelcome, coming_in, last_of, table_bytes_of}
 use Rattle.lsm_state.specs.declared.ingest.Ingested.{Ingested}
 use Rattle.lsm_state.specs.declared.state_fault.StateFault.{StateFault}
 use Rattle.lsm_state.proofs.CallerLemmas.{ingest_refused_made}
@@ -33,13 +33,13 @@ use Rattle.lsm_crash.specs.Known.{IsSettled, World, current_name}
 use Rattle.lsm_crash.specs.Operations.{Allows, Put, Remove, after}
 use Rattle.lsm_crash.specs.Among.{Avoids}
 use Rattle.lsm_crash.specs.States.{Describes, HasTables, IsWorldOf}
-use Rattle.lsm_crash.specs.Database.{AllFail, Collect, HasMade, Ingest, Install, IsNextOfIngest, IsState, Refuses, Stays, operations}
+use Rattle.lsm_crash.specs.Database.{AllFail, Collect, Gather, HasMade, Ingest, Install, IsNextOfGather, IsNextOfIngest, IsState, Refuses, Stays, operations}
 use Rattle.lsm_crash.proofs.Names.{manifest_current, manifests_apart, table_manifest, table_temporary, temporary_current, temporary_manifest}
 use Rattle.lsm_crash.proofs.Held.{IsClear, settled_gap}
 use Rattle.lsm_crash.proofs.Tables.{clear_folder, set_cases}
 use Rattle.lsm_crash.proofs.Runs.{AllClear, clear_cut, done_settled, fails_settled}
 use Rattle.lsm_crash.proofs.Forms.{named_table, recorded_describes}
-use Rattle.lsm_crash.proofs.Refusals.{change_spent, collect_stays, ingest_stays, install_stays, put_spent}
+use Rattle.lsm_crash.proofs.Refusals.{change_spent, collect_stays, gather_made_err, gather_stays, ingest_stays, install_stays, put_spent}
 use Rattle.lsm_crash.proofs.Asking.{only_going}
 use Rattle.lsm_crash.proofs.Worlds.{AreOut, Fewer, fewer_more, fewer_one, fewer_same, has_file, none_or, not_both, stays_world}
 
@@ -113,69 +113,107 @@ needs_one : (b : Bool) → 1 < (if b then 2 else 1) + 1
 needs_one true = omega arith
 needs_one false = omega arith
 
-module _ (old new : Held) (w u : World) (d e : Disk) (o : IsWorldOf old w) (i : IsSettled d w) (ws : List Write) where
+-- a table was put, or is being put, under the next number
+module _ (old new : Held) (w u : World) (d e : Disk) (o : IsWorldOf old w) (i : IsSettled d w) (image : List ℕ) where
   abbrev P : Asked
-  P = PutTable old.next (table_bytes_of old ws)
+  P = PutTable old.next image
 
-  put_may : Allows w (Put old.next (table_bytes_of old ws))
-  put_may = ((let a = o.fits in omega arith), none_or (w.tables old.next) (λ image k. (let lt = o.below old.next image k in omega arith)))
+  put_may : Allows w (Put old.next image)
+  put_may = ((let a = o.fits in omega arith), none_or (w.tables old.next) (λ bytes k. (let lt = o.below old.next bytes k in omega arith)))
 
   abbrev x : World
-  x = after w (Put old.next (table_bytes_of old ws))
+  x = after w (Put old.next image)
 
-  none_made : (next : List Asked) → IsNextOfIngest old ws [] next → AllFail w [] (operations w.version next) u d e → IsSettled e u × (u ≡ w)
-  none_made next (inl none) h = none_fails w u d e i (subst (λ xs. AllFail w [] (operations w.version xs) u d e) none h)
-  none_made next (inr (fault, is)) h =
-      let f = subst (λ xs. AllFail w [] (operations w.version xs) u d e) is h in
-      (subst (λ y. IsSettled e y) (sym f.1) (fails_settled d e w (Put old.next (table_bytes_of old ws)) i put_may f.0), f.1)
+  -- nothing was put, and the put was refused
+  put_refused : AllFail w [] (Put old.next image ∷ []) u d e → IsSettled e u × (u ≡ w)
+  put_refused f = (subst (λ y. IsSettled e y) (sym f.1) (fails_settled d e w (Put old.next image) i put_may f.0), f.1)
 
-  one_made : (next : List Asked) → IsWelcome old ws → IsNextOfIngest old ws (P ∷ []) next → AllFail w (Put old.next (table_bytes_of old ws) ∷ []) (operations w.version next) u d e → IsSettled e u × (u ≡ x)
-  one_made next welcome n (mid, done, h) =
-      let j = done_settled d mid w (Put old.next (table_bytes_of old ws)) i put_may done in
+  -- it was put, and the write of the manifest was refused, or nothing
+  one_made : (next : List Asked) → HasNumbers old → (next ≡ []) ⊎ ((c : Difference) × (next ≡ changes_by (record old { next = suc old.next }) c ∷ []))
+      → AllFail w (Put old.next image ∷ []) (operations w.version next) u d e → IsSettled e u × (u ≡ x)
+  one_made next numbers n (mid, done, h) =
+      let j = done_settled d mid w (Put old.next image) i put_may done in
       elim n [
         | inl none ↦ none_fails x u mid e j (subst (λ xs. AllFail x [] (operations w.version xs) u mid e) none h)
-        | inr (fault, (t, is)) ↦ change_fails (record old { next = suc old.next }) (coming_in t (last_of old ws)) w.version x u mid e j o.manifest (let a = o.own in omega arith)
-            (let a = welcome.numbers in let b = needs_one (is_at_limit old.journal) in omega arith) (subst (λ xs. AllFail x [] (operations w.version xs) u mid e) is h)
+        | inr (c, is) ↦ change_fails (record old { next = suc old.next }) c w.version x u mid e j o.manifest (let a = o.own in omega arith)
+            (let b = needs_one (is_at_limit old.journal) in omega arith) (subst (λ xs. AllFail x [] (operations w.version xs) u mid e) is h)
       ]
 
   old_has : HasTables x.tables old.slots.version
-  old_has level t k = elim (set_cases w.tables old.next (Some (table_bytes_of old ws)) t.number) [
+  old_has level t k = elim (set_cases w.tables old.next (Some image) t.number) [
     | inl same ↦ (let lt = o.below t.number t.image (o.tables level t k) in let is = same.0 in absurd (omega arith))
     | inr same ↦ same.1 ∙ o.tables level t k
   ]
 
-  x_below : (n : ℕ) (image : List ℕ) → x.tables n ≡ Some image → n < suc old.next
-  x_below n image k = elim (set_cases w.tables old.next (Some (table_bytes_of old ws)) n) [
+  x_below : (n : ℕ) (bytes : List ℕ) → x.tables n ≡ Some bytes → n < suc old.next
+  x_below n bytes k = elim (set_cases w.tables old.next (Some image) n) [
     | inl same ↦ (let is = same.0 in omega arith)
-    | inr same ↦ (let lt = o.below n image (sym same.1 ∙ k) in omega arith)
+    | inr same ↦ (let lt = o.below n bytes (sym same.1 ∙ k) in omega arith)
   ]
 
   same_stands : Stays old new → u ≡ w → IsWorldOf new u
-  same_stands s is = subst (λ y. IsWorldOf new y) (sym is) (stays_world old new w s o.manifest o.bytes o.tables (λ n image k. (let lt = o.below n image k in let le = s.next in omega arith)) o.own)
+  same_stands s is = subst (λ y. IsWorldOf new y) (sym is) (stays_world old new w s o.manifest o.bytes o.tables (λ n bytes k. (let lt = o.below n bytes k in let le = s.next in omega arith)) o.own)
 
   put_stands : Stays old new → old.next < new.next → u ≡ x → IsWorldOf new u
-  put_stands s spent is = subst (λ y. IsWorldOf new y) (sym is) (stays_world old new x s o.manifest o.bytes old_has (λ n image k. (let lt = x_below n image k in omega arith)) o.own)
+  put_stands s spent is = subst (λ y. IsWorldOf new y) (sym is) (stays_world old new x s o.manifest o.bytes old_has (λ n bytes k. (let lt = x_below n bytes k in omega arith)) o.own)
 
-  pub ingest_fails : (r : Ingested) (asks next : List Asked) → Refuses old new (Ingest ws r) asks next → new.halted ≡ false → AllFail w (operations w.version asks) (operations w.version next) u d e → IsSettled e u × IsWorldOf new u
-  ingest_fails r asks next (fault, was, is, refused, made, n) going h =
+module _ (honest : Type 0) (old new : Held) (w u : World) (d e : Disk) (o : IsWorldOf old w) (i : IsSettled d w) where
+  pub ingest_fails : (ws : List Write) (r : Ingested) (asks next : List Asked) → Refuses honest old new (Ingest ws r) asks next → new.halted ≡ false → AllFail w (operations w.version asks) (operations w.version next) u d e → IsSettled e u × IsWorldOf new u
+  ingest_fails ws r asks next (fault, was, is, refused, made, n) going h =
+      let image = table_bytes_of old ws in
       let s = ingest_stays old new ws fault was is refused o.fits going in
       elim (ingest_refused_made old new ws fault was is refused) [
         | inl none ↦ (
             let are : asks ≡ [] = only_going asks [] was is made none in
-            let f = none_made next (subst (λ xs. IsNextOfIngest old ws xs next) are n) (subst (λ xs. AllFail w (operations w.version xs) (operations w.version next) u d e) are h) in
-            (f.0, same_stands s f.1)
+            let g = subst (λ xs. AllFail w (operations w.version xs) (operations w.version next) u d e) are h in
+            let f : IsSettled e u × (u ≡ w) = elim (subst (λ xs. IsNextOfIngest old ws xs next) are n) [
+              | inl nothing ↦ none_fails w u d e i (subst (λ xs. AllFail w [] (operations w.version xs) u d e) nothing g)
+              | inr (why, put) ↦ put_refused old new w u d e o i image (subst (λ xs. AllFail w [] (operations w.version xs) u d e) put g)
+            ] in
+            (f.0, same_stands old new w u d e o i image s f.1)
             )
         | inr put ↦ (
-            let are : asks ≡ P ∷ [] = only_going asks (P ∷ []) was is made put in
-            let spent = put_is_spent old new ws fault was is P refused going put in
-            let f = one_made next spent.0 (subst (λ xs. IsNextOfIngest old ws xs next) are n) (subst (λ xs. AllFail w (operations w.version xs) (operations w.version next) u d e) are h) in
-            (f.0, put_stands s spent.1 f.1)
+            let are : asks ≡ PutTable old.next image ∷ [] = only_going asks (PutTable old.next image ∷ []) was is made put in
+            let spent = put_is_spent old new ws fault was is (PutTable old.next image) refused going put in
+            let after_put : (next ≡ []) ⊎ ((c : Difference) × (next ≡ changes_by (record old { next = suc old.next }) c ∷ [])) = elim (subst (λ xs. IsNextOfIngest old ws xs next) are n) [
+              | inl nothing ↦ inl nothing
+              | inr (why, (t, written)) ↦ inr (coming_in t (last_of old ws), written)
+            ] in
+            let f = one_made old new w u d e o i image next spent.0.numbers after_put (subst (λ xs. AllFail w (operations w.version xs) (operations w.version next) u d e) are h) in
+            (f.0, put_stands old new w u d e o i image s spent.1 f.1)
+            )
+      ]
+
+  -- ---- a gather
+
+  pub gather_fails : (number : ℕ) (asks next : List Asked) → Refuses honest old new (Gather number) asks next → new.halted ≡ false → AllFail w (operations w.version asks) (operations w.version next) u d e → IsSettled e u × IsWorldOf new u
+  gather_fails number asks next (fault, was, is, refused, made, n) going h =
+      let s = gather_stays honest old new fault was is refused o.fits going in
+      elim (gather_made_err honest old new fault was is refused) [
+        | inl none ↦ (
+            let are : asks ≡ [] = only_going asks [] was is made none in
+            let g = subst (λ xs. AllFail w (operations w.version xs) (operations w.version next) u d e) are h in
+            let f : IsSettled e u × (u ≡ w) = elim (subst (λ xs. IsNextOfGather old xs next) are n) [
+              | inl nothing ↦ none_fails w u d e i (subst (λ xs. AllFail w [] (operations w.version xs) u d e) nothing g)
+              | inr (why, inl reads) ↦ none_fails w u d e i (subst (λ os. AllFail w [] os u d e) (reads w.version) g)
+              | inr (why, inr (image, put)) ↦ put_refused old new w u d e o i image (subst (λ xs. AllFail w [] (operations w.version xs) u d e) put g)
+            ] in
+            (f.0, same_stands old new w u d e o i [] s f.1)
+            )
+        | inr p ↦ (
+            let are : asks ≡ PutTable old.next p.image ∷ [] = only_going asks (PutTable old.next p.image ∷ []) was is made p.made in
+            let after_put : (next ≡ []) ⊎ ((c : Difference) × (next ≡ changes_by (record old { next = suc old.next }) c ∷ [])) = elim (subst (λ xs. IsNextOfGather old xs next) are n) [
+              | inl nothing ↦ inl nothing
+              | inr (why, (c, written)) ↦ inr (c, written)
+            ] in
+            let f = one_made old new w u d e o i p.image next p.numbers after_put (subst (λ xs. AllFail w (operations w.version xs) (operations w.version next) u d e) are h) in
+            (f.0, put_stands old new w u d e o i p.image s (p.spent going) f.1)
             )
       ]
 
   -- ---- an install
 
-  pub install_fails : (done : Done) (asks next : List Asked) → Refuses old new (Install done) asks next → new.halted ≡ false → AllFail w (operations w.version asks) (operations w.version next) u d e → IsSettled e u × IsWorldOf new u
+  pub install_fails : (done : Done) (asks next : List Asked) → Refuses honest old new (Install done) asks next → new.halted ≡ false → AllFail w (operations w.version asks) (operations w.version next) u d e → IsSettled e u × IsWorldOf new u
   install_fails done asks next (fault, was, is, refused, told, made, n) going h =
       let s = install_stays old new done fault was is refused o.fits going in
       let are : asks ≡ [] = only_going asks [] was is made told.made in
@@ -184,7 +222,7 @@ module _ (old new : Held) (w u : World) (d e : Disk) (o : IsWorldOf old w) (i : 
         | inl none ↦ none_fails w u d e i (subst (λ xs. AllFail w [] (operations w.version xs) u d e) none g)
         | inr (why, (change, its, asked)) ↦ change_fails old change w.version w u d e i o.manifest o.own o.fits (subst (λ xs. AllFail w [] (operations w.version xs) u d e) asked g)
       ] in
-      (f.0, same_stands s f.1)
+      (f.0, same_stands old new w u d e o i [] s f.1)
 
 -- ---- a collect
 
@@ -269,7 +307,7 @@ module _ (honest : Type 0) (board : TableId) (old new : Held) (w u : World) (d e
   removal_in (m ∷ ns) n (inr h) = inr (removal_in ns n h)
 
   collected : (removed : List ℕ) (asks next : List Asked) → Stays old new → (fault : StateFault) (was is : Told) → HasAsked new was is → HasMade asks was is ⊎ HasMade (asks ++ next) was is
-      → ((n : ℕ) → Has (asks ++ next) (RemoveTable n) → n < 2 ^ 64) → Refuses old new (Collect removed) asks next → AllFail w (operations w.version asks) (operations w.version next) u d e → IsSettled e u × IsWorldOf new u
+      → ((n : ℕ) → Has (asks ++ next) (RemoveTable n) → n < 2 ^ 64) → Refuses honest old new (Collect removed) asks next → AllFail w (operations w.version asks) (operations w.version next) u d e → IsSettled e u × IsWorldOf new u
   collected removed asks next s fault was is a made small r h =
       let front : (ns : List ℕ) × (asks ≡ map RemoveTable ns) × ((n : ℕ) → Has ns n → Has a.numbers n) = elim made [
         | inl all ↦ (a.numbers, only_going asks (map RemoveTable a.numbers) was is all a.made, λ n k. k)
@@ -292,7 +330,7 @@ module _ (honest : Type 0) (board : TableId) (old new : Held) (w u : World) (d e
       ]
 
 pub collect_fails : (honest : Type 0) (board : TableId) (old new : Held) (w u : World) (d e : Disk) → IsState honest board old → IsState honest board new → IsWorldOf old w → IsSettled d w → (removed : List ℕ) (asks next : List Asked)
-    → Refuses old new (Collect removed) asks next → new.halted ≡ false → AllFail w (operations w.version asks) (operations w.version next) u d e → IsSettled e u × IsWorldOf new u
+    → Refuses honest old new (Collect removed) asks next → new.halted ≡ false → AllFail w (operations w.version asks) (operations w.version next) u d e → IsSettled e u × IsWorldOf new u
 collect_fails honest board old new w u d e lo ln o i removed asks next r going h = elim r.4 [
   | inl halted ↦ absurd (let t : true ≡ false = sym halted.1 ∙ (sym (ap (λ (x : Held). x.halted) halted.2) ∙ going) in cc)
   | inr early ↦ collected honest board old new w u d e lo ln o i early.1.looked.version removed asks next (collect_stays old new r.3 early.1 o.fits going) r.0 r.1 r.2 (early_asked new removed r.1 r.2 early.2) r.5 r.7 r h

@@ -4,6 +4,7 @@ use Rattle.std.specs.Prelude.{if◌then◌else◌}
 use Rattle.atomic_table.specs.Seated.{TableId}
 use Rattle.lsm_storage.specs.FileNames.{table_name, manifest_name, temporary_name, current_text}
 use Rattle.lsm_storage.specs.Plans.{start_plan}
+use Rattle.lsm_shelf.specs.Asked as shelf
 use Rattle.lsm_shelf.specs.Asked.{Asked, AppendManifest, Remove as RemoveTable}
 use Rattle.lsm_shelf.specs.Told.{Told, finding}
 use Rattle.lsm_version.specs.Versions.{Levels}
@@ -23,14 +24,14 @@ use Rattle.lsm_crash.specs.Operations.{Allows, Put, Remove, after, started}
 use Rattle.lsm_crash.specs.Among.{DoneAmong}
 use Rattle.lsm_crash.specs.Refusing.{ReadsShown}
 use Rattle.lsm_crash.specs.States.{IsWorldOf, Shown}
-use Rattle.lsm_crash.specs.Database.{AllDone, Answered, Asks, Collect, Deed, Follows, HasMade, Ingest, Install, IsMade, IsReady, IsState, Opens, SmallRun, Works, after_all, operations, plans_of}
+use Rattle.lsm_crash.specs.Database.{AllDone, Answered, Asks, Collect, Deed, Follows, Gather, HasMade, Ingest, Install, IsMade, IsReady, IsState, Opens, SmallRun, Works, after_all, operations, plans_of}
 use Rattle.lsm_crash.proofs.Names.{table_current, table_manifest, table_temporary}
 use Rattle.lsm_crash.proofs.Disks.{named_else, some_is}
 use Rattle.lsm_crash.proofs.Standing.{at_writes, sure}
 use Rattle.lsm_crash.proofs.Calls.{no_gap}
 use Rattle.lsm_crash.proofs.Instances.{append_can, crash_can, empty_vacant, put_can, remove_can, start_can}
 use Rattle.lsm_crash.proofs.Runs.{done_settled}
-use Rattle.lsm_crash.proofs.Asking.{collect_asks, create_asks, ingest_asks, install_asks, open_asks}
+use Rattle.lsm_crash.proofs.Asking.{collect_asks, create_asks, gather_asks, ingest_asks, install_asks, open_asks}
 use Rattle.lsm_crash.proofs.Worlds.{TablesChange, none_or}
 use Rattle.lsm_crash.proofs.Making.{made_settled, made_world, making_done}
 use Rattle.lsm_crash.proofs.Turning.{rest_leaves, works_keep}
@@ -62,18 +63,23 @@ removes_can v (n ∷ ns) w d =
     (s.0, (r.0, r.1, s.1))
 
 module _ (honest : Type 0) (board : TableId) (old new : Held) (w : World) (v : Version) (d : Disk) (i : IsSettled d w) (o : IsWorldOf old w) (free : d.names (table_name old.next) ≡ None) where
-  pub deed_can : (deed : Deed) (asks : List Asked) → Asks old new deed asks → Can w v asks d
-  deed_can (Ingest ws r) asks a =
-      let image = a.3.table.image in
-      let c = coming_in a.3.table (last_of old ws) in
+  -- a table is put, and the manifest written
+  coming_can : (image : List ℕ) (h : Held) (c : Difference) → Can w v (shelf.Put old.next image ∷ changes_by h c ∷ []) d
+  coming_can image h c =
       let may : Allows w (Put old.next image) = ((let f = o.fits in omega arith), none_or (w.tables old.next) (λ other k. (let lt = o.below old.next other k in omega arith))) in
       let p = put_can (after w (Put old.next image)).tables old.next image d free in
-      let change = write_can (with_number old a.3.slots) c v (after w (Put old.next image)) p.0 (done_settled d p.0 w (Put old.next image) i may p.1) in
-      subst (λ xs. Can w v xs d) (sym (ingest_asks old new ws r a.0 a.1 a.3 asks a.4)) (change.0, (p.0, p.1, change.1))
+      let change = write_can h c v (after w (Put old.next image)) p.0 (done_settled d p.0 w (Put old.next image) i may p.1) in
+      (change.0, (p.0, p.1, change.1))
+
+  pub deed_can : (deed : Deed) (asks : List Asked) → Asks honest old new deed asks → Can w v asks d
+  deed_can (Ingest ws r) asks a =
+      subst (λ xs. Can w v xs d) (sym (ingest_asks old new ws r a.0 a.1 a.3 asks a.4)) (coming_can a.3.table.image (with_number old a.3.slots) (coming_in a.3.table (last_of old ws)))
+  deed_can (Gather number) asks a =
+      subst (λ xs. Can w v xs d) (sym (gather_asks honest old new number a.0 a.1 a.2 asks a.3)) (coming_can a.2.table.image (with_number old a.2.slots) a.2.change)
   deed_can (Install done) asks a = subst (λ xs. Can w v xs d) (sym (install_asks old new done a.0 a.1 a.3 asks a.4)) (write_can (with_slots old a.3.slots) a.3.change v w d i)
   deed_can (Collect removed) asks a = subst (λ xs. Can w v xs d) (sym (collect_asks new removed a.0 a.1 a.5 asks a.6)) (removes_can v removed w d)
 
-  pub works_can : (deed : Deed) (asks : List Asked) → IsState honest board new → Asks old new deed asks → IsReady honest deed w → ComesTo new.journal.bytes v → Follows honest old new (Answered deed)
+  pub works_can : (deed : Deed) (asks : List Asked) → IsState honest board new → Asks honest old new deed asks → IsReady honest deed w → ComesTo new.journal.bytes v → Follows honest old new (Answered deed)
       → (u : World) × (e : Disk) × Works honest board old new (Answered deed ∷ []) w u d e
   works_can deed asks l a ready to f =
       let r = deed_can deed asks a in
@@ -109,7 +115,7 @@ start_free tables d number bytes q free m t c =
 -- ---- a new database, an ingest, and a crash behind it
 
 pub small_run : TablesChange → (honest : Type 0) (board : TableId) (h new : Held) (m : IsMade h) (first asks : List Asked) (ws : List Write) (r : Ingested) (v s : Version)
-    → IsState honest board h → IsState honest board new → HasMade first m.was m.now → ComesTo h.journal.bytes v → Asks h new (Ingest ws r) asks → ComesTo new.journal.bytes s
+    → IsState honest board h → IsState honest board new → HasMade first m.was m.now → ComesTo h.journal.bytes v → Asks honest h new (Ingest ws r) asks → ComesTo new.journal.bytes s
     → Follows honest h new (Answered (Ingest ws r)) → SmallRun honest board h new v first m.number (Ingest ws r)
 small_run law honest board h new m first asks ws r v s l ln made to a later f =
     let q = table_name h.next in

@@ -14,8 +14,8 @@ use Rattle.lsm_state.specs.Ingesting.{coming_in, last_of}
 use Rattle.lsm_crash.specs.Disk.{Disk}
 use Rattle.lsm_crash.specs.Known.{IsSettled, World}
 use Rattle.lsm_crash.specs.States.{IsWorldOf}
-use Rattle.lsm_crash.specs.Database.{Answered, Asks, Builds, Collect, Deed, Ingest, Install, IsReady, IsState, Looks, Refused, Turn, Turns, Works}
-use Rattle.lsm_crash.proofs.Refusals.{ingest_stays, install_stays}
+use Rattle.lsm_crash.specs.Database.{Answered, Asks, Builds, Collect, Deed, Gather, Ingest, Install, IsReady, IsState, Looks, Refused, Turn, Turns, Works}
+use Rattle.lsm_crash.proofs.Refusals.{gather_stays, ingest_stays, install_stays}
 use Rattle.lsm_crash.proofs.Turning.{turn_keeps}
 use Rattle.lsm_crash.proofs.Worlds.{TablesChange, from_either}
 
@@ -50,7 +50,7 @@ module _ (law : TablesChange) (honest : Type 0) (board : TableId) (fair : honest
   same_whole : (v w : Levels) → w ≡ v → WholeTables v → WholeTables w
   same_whole v w same whole = subst WholeTables (sym same) whole
 
-  pub deed_whole : (old new : Held) (deed : Deed) (asks : List Asked) (w : World) → IsState honest board old → IsState honest board new → Asks old new deed asks → IsReady honest deed w → WholeTables old.slots.version → WholeTables new.slots.version
+  pub deed_whole : (old new : Held) (deed : Deed) (asks : List Asked) (w : World) → IsState honest board old → IsState honest board new → Asks honest old new deed asks → IsReady honest deed w → WholeTables old.slots.version → WholeTables new.slots.version
   deed_whole old new (Ingest ws r) asks w lo ln a ready whole =
       let i = a.3 in
       changed_whole (coming_in i.table (last_of old ws)) i.slots.version old.slots.version new.slots.version (ap (λ (x : Levels). length x.tables) i.sought.looked.version ∙ lo.0.journaled.1.own.seven) ln.0.journaled.1.own.seven i.sought.looked.version i.changes.published.version_is whole
@@ -59,12 +59,17 @@ module _ (law : TablesChange) (honest : Type 0) (board : TableId) (fair : honest
       let i = a.3 in
       changed_whole i.change i.slots.version old.slots.version new.slots.version (ap (λ (x : Levels). length x.tables) i.sought.looked.version ∙ lo.0.journaled.1.own.seven) ln.0.journaled.1.own.seven i.sought.looked.version i.changes.published.version_is whole
       (λ level t h. ready.3.whole fair t (added_of (suc done.work.level) level done.outputs t (subst (λ (xs : List (ℕ × Table)). Has xs (level, t)) i.its.added h)))
+  deed_whole old new (Gather number) asks w lo ln a ready whole =
+      let i = a.2 in
+      changed_whole i.change i.slots.version old.slots.version new.slots.version (ap (λ (x : Levels). length x.tables) i.sought.looked.version ∙ lo.0.journaled.1.own.seven) ln.0.journaled.1.own.seven i.sought.looked.version i.changes.published.version_is whole
+      (λ level t h. elim (subst (λ (xs : List (ℕ × Table)). Has xs (level, t)) i.its.added h) [ inl e ↦ subst IsWhole (pair_table (0, i.table) (level, t) e) i.is_table.whole | inr none ↦ absurd none ])
   deed_whole old new (Collect removed) asks w lo ln a ready whole = same_whole old.slots.version new.slots.version a.3.looked.version whole
 
   turn_whole : (old new : Held) (turn : Turn) (w u : World) (d e : Disk) → IsState honest board old → IsState honest board new → old.next < 2 ^ 64 → Turns honest board old new turn w u d e → WholeTables old.slots.version → WholeTables new.slots.version
   turn_whole old new (Answered deed) w u d e lo ln small h whole = deed_whole old new deed h.1 w lo ln h.2 h.3 whole
   turn_whole old new (Refused (Ingest ws r)) w u d e lo ln small h whole = same_whole old.slots.version new.slots.version (ingest_stays old new ws h.2.0 h.2.1 h.2.2 h.2.3 small h.3).version whole
   turn_whole old new (Refused (Install done)) w u d e lo ln small h whole = same_whole old.slots.version new.slots.version (install_stays old new done h.2.0 h.2.1 h.2.2 h.2.3 small h.3).version whole
+  turn_whole old new (Refused (Gather number)) w u d e lo ln small h whole = same_whole old.slots.version new.slots.version (gather_stays honest old new h.2.0 h.2.1 h.2.2 h.2.3 small h.3).version whole
   turn_whole old new (Refused (Collect removed)) w u d e lo ln small h whole = elim h.2.4 [
     | inl halted ↦ subst (λ (x : Held). WholeTables x.slots.version) (sym halted.2) whole
     | inr early ↦ same_whole old.slots.version new.slots.version early.1.looked.version whole

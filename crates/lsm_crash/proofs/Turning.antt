@@ -15,14 +15,14 @@ use Rattle.lsm_crash.specs.Versions.{ComesTo, Tables, Version}
 use Rattle.lsm_crash.specs.Known.{IsHeld, IsSettled, Known, Recovers, World, known_of}
 use Rattle.lsm_crash.specs.Operations.{Operation, Put, Remove, after, either, sure}
 use Rattle.lsm_crash.specs.States.{Describes, Finds, HasTables, IsWorldOf}
-use Rattle.lsm_crash.specs.Database.{AllCut, AllDone, AllFail, AllowsAll, Answered, Builds, Collect, Deed, Ingest, Install, IsCut, IsState, Looks, Refused, Refuses, Turn, Turns, Works, after_all, operations}
+use Rattle.lsm_crash.specs.Database.{AllCut, AllDone, AllFail, AllowsAll, Answered, Builds, Collect, Deed, Gather, Ingest, Install, IsCut, IsState, Looks, Refused, Refuses, Turn, Turns, Works, after_all, operations}
 use Rattle.lsm_crash.proofs.Held.{settled_gap, settled_held, surely_recovers}
 use Rattle.lsm_crash.proofs.Tables.{count_settled}
 use Rattle.lsm_crash.proofs.Runs.{cut_held, done_settled}
-use Rattle.lsm_crash.proofs.Asking.{collect_asks, ingest_asks, install_asks, ready_tables}
-use Rattle.lsm_crash.proofs.Failing.{collect_fails, ingest_fails, install_fails}
+use Rattle.lsm_crash.proofs.Asking.{collect_asks, gather_asks, ingest_asks, install_asks, ready_tables}
+use Rattle.lsm_crash.proofs.Failing.{collect_fails, gather_fails, ingest_fails, install_fails}
 use Rattle.lsm_crash.proofs.Forms.{recorded_describes}
-use Rattle.lsm_crash.proofs.Worlds.{AreOut, Changes, OfIngest, TablesChange, collect_may, collect_out, deed_allowed, drawn_world, fewer_one, ingest_is, install_changes, install_turned, stays_world}
+use Rattle.lsm_crash.proofs.Worlds.{AreOut, Changes, Coming, TablesChange, collect_may, collect_out, deed_allowed, drawn_world, fewer_one, gather_is, ingest_is, install_changes, install_turned, stays_world}
 
 -- ---- operations one after another
 
@@ -76,11 +76,11 @@ change_cut old new w x v o known d e i was had c (inr h) =
     let j = done_settled d h.0 x o i c.allowed h.1 in
     cut_at old.slots.version new.slots.version w v known (known_of (after x o)) e h.2.0 (settled_held e (after x o) (settled_gap (after x o) h.0 e h.2.1 j)) (known_version old.slots.version new.slots.version w (after x o) v c.version c.world.tables)
 
-ingest_cut : {os : List Operation} (old new : Held) (w : World) (v : Version) (known : Known) (d e : Disk) → IsSettled d w → IsWorldOf old w → (g : OfIngest old new w v os)
+coming_cut : {os : List Operation} (old new : Held) (w : World) (v : Version) (known : Known) (d e : Disk) → IsSettled d w → IsWorldOf old w → (g : Coming old new w v os)
     → AllCut w (Put old.next g.image ∷ g.o ∷ []) known d e → Cut old.slots.version new.slots.version w v known e
-ingest_cut old new w v known d e i o g (inl h) =
+coming_cut old new w v known d e i o g (inl h) =
     cut_at old.slots.version new.slots.version w v known (either w (Put old.next g.image)) e h.1 (cut_held d e w (Put old.next g.image) i g.put h.0) (one_version old.slots.version new.slots.version w v (Put old.next g.image) refl o.tables)
-ingest_cut old new w v known d e i o g (inr h) =
+coming_cut old new w v known d e i o g (inr h) =
     change_cut old new w (after w (Put old.next g.image)) v g.o known h.0 e (done_settled d h.0 w (Put old.next g.image) i g.put h.1) refl g.has g.changes h.2
 
 removes_cut : (old new : Levels) (w x : World) (v : Version) (ns : List ℕ) (known : Known) (d e : Disk) → IsSettled d x → x.version ≡ w.version → AreOut x ns → HasTables x.tables old
@@ -132,10 +132,11 @@ describes honest board h w l o c = recorded_describes l.journaled.0 h.journal h.
 
 module _ (law : TablesChange) (honest : Type 0) (board : TableId) where
   -- a refused call leaves what the state stands for, whatever it was
-  refused_at : (old new : Held) (deed : Deed) (asks next : List Asked) (w u : World) (d e : Disk) → IsState honest board old → IsState honest board new → IsWorldOf old w → IsSettled d w → Refuses old new deed asks next → new.halted ≡ false
+  refused_at : (old new : Held) (deed : Deed) (asks next : List Asked) (w u : World) (d e : Disk) → IsState honest board old → IsState honest board new → IsWorldOf old w → IsSettled d w → Refuses honest old new deed asks next → new.halted ≡ false
       → AllFail w (operations w.version asks) (operations w.version next) u d e → IsSettled e u × IsWorldOf new u
-  refused_at old new (Ingest ws r) asks next w u d e lo ln o i x going h = ingest_fails old new w u d e o i ws r asks next x going h
-  refused_at old new (Install done) asks next w u d e lo ln o i x going h = install_fails old new w u d e o i [] done asks next x going h
+  refused_at old new (Ingest ws r) asks next w u d e lo ln o i x going h = ingest_fails honest old new w u d e o i ws r asks next x going h
+  refused_at old new (Install done) asks next w u d e lo ln o i x going h = install_fails honest old new w u d e o i done asks next x going h
+  refused_at old new (Gather number) asks next w u d e lo ln o i x going h = gather_fails honest old new w u d e o i number asks next x going h
   refused_at old new (Collect removed) asks next w u d e lo ln o i x going h = collect_fails honest board old new w u d e lo ln o i removed asks next x going h
 
   pub turn_keeps : (old new : Held) (turn : Turn) (w u : World) (d e : Disk) → IsState honest board old → IsState honest board new → IsSettled d w → IsWorldOf old w → Turns honest board old new turn w u d e → IsSettled e u × IsWorldOf new u
@@ -172,7 +173,11 @@ module _ (law : TablesChange) (honest : Type 0) (board : TableId) where
   cut_known old new (Ingest ws r) w known d e lo i o h =
       let a = h.3 in
       let g = ingest_is law honest board old new w h.0 lo.0 h.2.0 o i.comes h.5 ws r a.0 a.1 a.2 a.3 in
-      ingest_cut old new w h.0 known d e i o g (subst (λ os. AllCut w os known d e) g.is (subst (λ xs. AllCut w (operations h.0 xs) known d e) (ingest_asks old new ws r a.0 a.1 a.3 h.1 a.4) h.7))
+      coming_cut old new w h.0 known d e i o g (subst (λ os. AllCut w os known d e) g.is (subst (λ xs. AllCut w (operations h.0 xs) known d e) (ingest_asks old new ws r a.0 a.1 a.3 h.1 a.4) h.7))
+  cut_known old new (Gather number) w known d e lo i o h =
+      let a = h.3 in
+      let g = gather_is law honest board old new w h.0 lo.0 h.2.0 o i.comes h.5 number a.0 a.1 a.2 in
+      coming_cut old new w h.0 known d e i o g (subst (λ os. AllCut w os known d e) g.is (subst (λ xs. AllCut w (operations h.0 xs) known d e) (gather_asks honest old new number a.0 a.1 a.2 h.1 a.3) h.7))
   cut_known old new (Install done) w known d e lo i o h =
       let a = h.3 in
       let t = install_turned law honest board old new w h.0 lo.0 h.2.0 o i.comes h.5 done a.0 a.1 a.2 a.3 (ready_tables honest board old w done lo.0 o a.2 h.4) in

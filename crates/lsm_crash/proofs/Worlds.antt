@@ -20,12 +20,13 @@ use Rattle.lsm_journal.specs.Recorded.{IsRecorded}
 use Rattle.lsm_live.specs.Booked.{live_of}
 use Rattle.lsm_live.proofs.CallerLemmas.{live_has}
 use Rattle.lsm_merge.specs.Work.{Done}
-use Rattle.lsm_slots.specs.Slots.{AreSlots, current_slot}
+use Rattle.lsm_slots.specs.Slots.{AreSlots, Slotted, current_slot}
 use Rattle.lsm_state.specs.Asked.{changes_by}
 use Rattle.lsm_state.specs.Changing.{ChangesVersion}
 use Rattle.lsm_state.specs.Collecting.{AreCollected, HasLookedAround, is_in}
+use Rattle.lsm_state.specs.Gathering.{Gathers}
 use Rattle.lsm_state.specs.Held.{Held, IsLawfulState}
-use Rattle.lsm_state.specs.Ingesting.{Ingests, IsWelcome, coming_in, entries_of, last_of, with_number, with_slots}
+use Rattle.lsm_state.specs.Ingesting.{HasNumbers, Ingests, IsWelcome, coming_in, entries_of, last_of, with_number, with_slots}
 use Rattle.lsm_state.specs.Installing.{Installed, MayInstall, added_at}
 use Rattle.lsm_state.specs.declared.ingest.Ingested.{Ingested}
 use Rattle.lsm_crash.specs.Versions.{ComesTo, Tables, Version}
@@ -33,11 +34,11 @@ use Rattle.lsm_crash.specs.Known.{World}
 use Rattle.lsm_crash.specs.Operations.{Allows, Operation, Put, Remove, after, sure}
 use Rattle.lsm_crash.specs.Among.{counting, failed}
 use Rattle.lsm_crash.specs.States.{Describes, HasTables, IsWorldOf}
-use Rattle.lsm_crash.specs.Database.{AllowsAll, Asks, Collect, Deed, Ingest, Install, IsDrawn, IsReady, IsState, Stays, after_all, operations}
+use Rattle.lsm_crash.specs.Database.{AllowsAll, Asks, Collect, Deed, Gather, Ingest, Install, IsDrawn, IsReady, IsState, Stays, after_all, operations}
 use Rattle.lsm_crash.proofs.Tables.{set_cases}
 use Rattle.lsm_crash.proofs.Forms.{named_table, recorded_describes}
 use Rattle.lsm_crash.proofs.Deeds.{Rises, Turned, rises, turned}
-use Rattle.lsm_crash.proofs.Asking.{collect_asks, ingest_asks, install_asks, ready_tables}
+use Rattle.lsm_crash.proofs.Asking.{collect_asks, gather_asks, ingest_asks, install_asks, ready_tables}
 
 -- what a change says of tables (a law of versions)
 abbrev pub TablesChange : Type 0
@@ -103,13 +104,14 @@ module _ (honest : Type 0) (board : TableId) (mid new : Held) (d : Difference) (
     };
   })
 
--- ---- an ingest
+-- ---- a table that comes in
 
 pub none_or : (o : Option (List ℕ)) → ((image : List ℕ) → o ≡ Some image → ⊥) → o ≡ None
 none_or None h = refl
 none_or (Some image) h = absurd (h image refl)
 
-pub record OfIngest (old new : Held) (w : World) (v : Version) (os : List Operation) : Type 0 where
+-- A table is put, and then the manifest turned.
+pub record Coming (old new : Held) (w : World) (v : Version) (os : List Operation) : Type 0 where
   pub image : List ℕ
   pub o : Operation
   pub is : os ≡ Put old.next image ∷ o ∷ []
@@ -130,70 +132,100 @@ table_is a b e = ap (λ (p : ℕ × Table). p.1) e
 
 module _ (law : TablesChange) (honest : Type 0) (board : TableId) (old new : Held) (w : World) (v : Version) (lo : IsLawfulState honest board old) (ln : IsLawfulState honest board new)
     (o : IsWorldOf old w) (comes : ComesTo w.bytes w.version) (to : ComesTo new.journal.bytes v) where
-  module _ (ws : List Write) (r : Ingested) (was is : Told) (welcome : IsWelcome old ws) (i : Ingests old new ws r was is) where
+  -- what an ingest and a gather have in common
+  record Brings (table : Table) (slots : Slotted) (d : Difference) (coming : List Entry) (mid is : Told) : Type 0 where
+    going : old.halted ≡ false
+    numbers : HasNumbers old
+    version : slots.version ≡ old.slots.version
+    number_is : table.number ≡ old.next
+    added : (level : ℕ) (t : Table) → Has d.added (level, t) → table ≡ t
+    changes : ChangesVersion (with_number old slots) new d None coming mid is
+
+  module _ (table : Table) (slots : Slotted) (d : Difference) (coming : List Entry) (mid is : Told) (i : Brings table slots d coming mid is) where
     abbrev P : Operation
-    P = Put old.next i.table.image
+    P = Put old.next table.image
 
     abbrev x : World
     x = after w P
 
-    abbrev d : Difference
-    d = coming_in i.table (last_of old ws)
-
-    before : IsRecorded 0 old.journal i.slots.version old.next
-    before = subst (λ (u : Levels). IsRecorded 0 old.journal u old.next) (sym i.sought.looked.version) (going_recorded honest board old lo welcome.takes.0)
+    before : IsRecorded 0 old.journal slots.version old.next
+    before = subst (λ (u : Levels). IsRecorded 0 old.journal u old.next) (sym i.version) (going_recorded honest board old lo i.going)
 
     old_has : HasTables x.tables old.slots.version
-    old_has level t h = elim (set_cases w.tables old.next (Some i.table.image) t.number) [
+    old_has level t h = elim (set_cases w.tables old.next (Some table.image) t.number) [
       | inl e ↦ (let lt = o.below t.number t.image (o.tables level t h) in let same = e.0 in absurd (omega arith))
       | inr e ↦ e.1 ∙ o.tables level t h
     ]
 
-    table_has : (t : Table) → i.table ≡ t → x.tables t.number ≡ Some t.image
-    table_has t e = elim (set_cases w.tables old.next (Some i.table.image) t.number) [
+    table_has : (t : Table) → table ≡ t → x.tables t.number ≡ Some t.image
+    table_has t e = elim (set_cases w.tables old.next (Some table.image) t.number) [
       | inl h ↦ h.1 ∙ ap (λ (u : Table). Some u.image) e
-      | inr h ↦ absurd (h.0 (sym (ap (λ (u : Table). u.number) e) ∙ i.is_table.number_is))
+      | inr h ↦ absurd (h.0 (sym (ap (λ (u : Table). u.number) e) ∙ i.number_is))
     ]
 
-    new_at : (level : ℕ) (t : Table) → Has (level_in (changed_by d i.slots.version).tables level) t → x.tables t.number ≡ Some t.image
+    new_at : (level : ℕ) (t : Table) → Has (level_in (changed_by d slots.version).tables level) t → x.tables t.number ≡ Some t.image
     new_at level t h =
-        let seven : length i.slots.version.tables ≡ 7 = before.own.seven in
-        let seven' : length (changed_by d i.slots.version).tables ≡ 7 = ap (λ (u : Levels). length u.tables) (sym i.changes.published.version_is) ∙ ln.journaled.1.own.seven in
-        elim (from_either law d i.slots.version level t seven seven' h) [
-          | inl k ↦ old_has level t (subst (λ (u : Levels). Has (level_in u.tables level) t) i.sought.looked.version k)
-          | inr added ↦ elim added [ inl e ↦ table_has t (table_is (0, i.table) (level, t) e) | inr none ↦ absurd none ]
+        let seven : length slots.version.tables ≡ 7 = before.own.seven in
+        let seven' : length (changed_by d slots.version).tables ≡ 7 = ap (λ (u : Levels). length u.tables) (sym i.changes.published.version_is) ∙ ln.journaled.1.own.seven in
+        elim (from_either law d slots.version level t seven seven' h) [
+          | inl k ↦ old_has level t (subst (λ (u : Levels). Has (level_in u.tables level) t) i.version k)
+          | inr added ↦ table_has t (i.added level t added)
         ]
 
     new_has : HasTables x.tables new.slots.version
     new_has level t h = new_at level t (subst (λ (u : Levels). Has (level_in u.tables level) t) i.changes.published.version_is h)
 
     below : (n : ℕ) (image : List ℕ) → x.tables n ≡ Some image → n < suc old.next
-    below n image k = elim (set_cases w.tables old.next (Some i.table.image) n) [
+    below n image k = elim (set_cases w.tables old.next (Some table.image) n) [
       | inl e ↦ (let same = e.0 in omega arith)
       | inr e ↦ (let lt = o.below n image (sym e.1 ∙ k) in omega arith)
     ]
 
     small : suc old.next < 2 ^ 64
-    small = (let a = welcome.numbers in let b = needs_one (is_at_limit old.journal) in omega arith)
+    small = (let a = i.numbers in let b = needs_one (is_at_limit old.journal) in omega arith)
 
     own : old.journal.number < suc old.next
     own = (let a = o.own in omega arith)
 
     room : is_at_limit old.journal ≡ true → suc old.next + 1 < 2 ^ 64
-    room e = needs_two (is_at_limit old.journal) old.next e welcome.numbers
+    room e = needs_two (is_at_limit old.journal) old.next e i.numbers
 
-    abbrev T : Turned x new.journal v (changes_by (with_number old i.slots) d)
-    T = change_turned honest board (with_number old i.slots) new d None (entries_of old ws) old.next x v i.mid is ln before o.manifest o.bytes comes to new_has below own small room i.changes
+    abbrev T : Turned x new.journal v (changes_by (with_number old slots) d)
+    T = change_turned honest board (with_number old slots) new d None coming old.next x v mid is ln before o.manifest o.bytes comes to new_has below own small room i.changes
 
-    pub ingest_is : OfIngest old new w v (operations v (shelf.Put old.next i.table.image ∷ changes_by (with_number old i.slots) d ∷ []))
-    ingest_is = record {
-      image = i.table.image;
+    coming_is : Coming old new w v (operations v (shelf.Put old.next table.image ∷ changes_by (with_number old slots) d ∷ []))
+    coming_is = record {
+      image = table.image;
       o = T.o;
       is = ap (λ os. P ∷ os) T.is;
       put = ((let a = o.fits in omega arith), none_or (w.tables old.next) (λ image k. (let lt = o.below old.next image k in omega arith)));
       has = old_has;
-      changes = change_changes honest board (with_number old i.slots) new d None (entries_of old ws) old.next x v i.mid is ln before o.manifest o.bytes comes to new_has below own small room i.changes;
+      changes = change_changes honest board (with_number old slots) new d None coming old.next x v mid is ln before o.manifest o.bytes comes to new_has below own small room i.changes;
     }
+
+  one_added : (table : Table) (level : ℕ) (t : Table) → Has {X = ℕ × Table} ((0, table) ∷ []) (level, t) → table ≡ t
+  one_added table level t (inl e) = table_is (0, table) (level, t) e
+  one_added table level t (inr none) = absurd none
+
+  pub ingest_is : (ws : List Write) (r : Ingested) (was is : Told) → IsWelcome old ws → (i : Ingests old new ws r was is) → Coming old new w v (operations v (shelf.Put old.next i.table.image ∷ changes_by (with_number old i.slots) (coming_in i.table (last_of old ws)) ∷ []))
+  ingest_is ws r was is welcome i = coming_is i.table i.slots (coming_in i.table (last_of old ws)) (entries_of old ws) i.mid is record {
+    going = welcome.takes.0;
+    numbers = welcome.numbers;
+    version = i.sought.looked.version;
+    number_is = i.is_table.number_is;
+    added = one_added i.table;
+    changes = i.changes;
+  }
+
+  pub gather_is : (number : ℕ) (was is : Told) → (i : Gathers honest old new number was is) → Coming old new w v (operations v (shelf.Put old.next i.table.image ∷ changes_by (with_number old i.slots) i.change ∷ []))
+  gather_is number was is i = coming_is i.table i.slots i.change [] i.mid is record {
+    going = i.going_on;
+    numbers = i.numbers;
+    version = i.sought.looked.version;
+    number_is = i.is_table.number_is;
+    added = λ level t h. one_added i.table level t (subst (λ (xs : List (ℕ × Table)). Has xs (level, t)) i.its.added h);
+    changes = i.changes;
+  }
 
   -- ---- an install
 
@@ -368,11 +400,15 @@ module _ (law : TablesChange) (honest : Type 0) (board : TableId) (old new : Hel
   abbrev Good : List Operation → Type 0
   Good os = AllowsAll w os × IsWorldOf new (after_all w os)
 
-  pub allowed_at : (deed : Deed) (asks : List Asked) → Asks old new deed asks → IsReady honest deed w → AllowsAll w (operations v asks) × IsWorldOf new (after_all w (operations v asks))
+  pub allowed_at : (deed : Deed) (asks : List Asked) → Asks honest old new deed asks → IsReady honest deed w → AllowsAll w (operations v asks) × IsWorldOf new (after_all w (operations v asks))
   allowed_at (Ingest ws r) asks a ready =
       let i = ingest_is law honest board old new w v lo.0 ln.0 o comes to ws r a.0 a.1 a.2 a.3 in
       let one : Good (Put old.next i.image ∷ i.o ∷ []) = ((i.put, (i.changes.allowed, tt)), i.changes.world) in
       subst (λ xs. Good (operations v xs)) (sym (ingest_asks old new ws r a.0 a.1 a.3 asks a.4)) (subst Good (sym i.is) one)
+  allowed_at (Gather number) asks a ready =
+      let i = gather_is law honest board old new w v lo.0 ln.0 o comes to number a.0 a.1 a.2 in
+      let one : Good (Put old.next i.image ∷ i.o ∷ []) = ((i.put, (i.changes.allowed, tt)), i.changes.world) in
+      subst (λ xs. Good (operations v xs)) (sym (gather_asks honest old new number a.0 a.1 a.2 asks a.3)) (subst Good (sym i.is) one)
   allowed_at (Install done) asks a ready =
       let t = install_turned law honest board old new w v lo.0 ln.0 o comes to done a.0 a.1 a.2 a.3 (ready_tables honest board old w done lo.0 o a.2 ready) in
       let c = install_changes law honest board old new w v lo.0 ln.0 o comes to done a.0 a.1 a.2 a.3 (ready_tables honest board old w done lo.0 o a.2 ready) in
@@ -383,5 +419,5 @@ module _ (law : TablesChange) (honest : Type 0) (board : TableId) (old new : Hel
       subst (λ xs. Good (operations v xs)) (sym (collect_asks new removed a.0 a.1 a.5 asks a.6)) one
 
 pub deed_allowed : TablesChange → (honest : Type 0) (board : TableId) (old new : Held) (deed : Deed) (asks : List Asked) (w : World) (v : Version) → IsState honest board old → IsState honest board new → IsWorldOf old w → ComesTo w.bytes w.version
-    → Asks old new deed asks → IsReady honest deed w → ComesTo new.journal.bytes v → AllowsAll w (operations v asks) × IsWorldOf new (after_all w (operations v asks))
+    → Asks honest old new deed asks → IsReady honest deed w → ComesTo new.journal.bytes v → AllowsAll w (operations v asks) × IsWorldOf new (after_all w (operations v asks))
 deed_allowed law honest board old new deed asks w v lo ln o comes a ready to = allowed_at law honest board old new w v lo ln o comes to deed asks a ready

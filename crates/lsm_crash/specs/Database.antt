@@ -18,18 +18,21 @@ use Rattle.lsm_table.specs.Registry.{Table}
 use Rattle.lsm_version.specs.Versions.{level_in, numbers_in}
 use Rattle.lsm_pins.specs.Known.{Known as Pinned}
 use Rattle.lsm_batch.specs.declared.write.Write.{Write}
+use Rattle.lsm_journal.specs.Difference.{Difference}
 use Rattle.lsm_live.specs.Booked.{Booked}
 use Rattle.lsm_merge.specs.Outputs.{going, putting_all}
 use Rattle.lsm_merge.specs.Work.{Done, IsFinished, puts_by}
 use Rattle.lsm_slots.specs.Slots.{AreSlots}
 use Rattle.lsm_state.specs.Asked.{ChangeRefused, CollectRefused, InstallRefused, PutRefused}
 use Rattle.lsm_state.specs.Collecting.{AreCollected, HasLookedAround, IsCollectRefusal, is_in}
+use Rattle.lsm_state.specs.Gathering.{Gathers, IsGatherRefusal, IsGathering}
 use Rattle.lsm_state.specs.Held.{Held, IsLawfulState, plain}
 use Rattle.lsm_state.specs.Ingesting.{Ingests, IsIngestRefusal, IsWelcome, coming_in, entries_of}
 use Rattle.lsm_state.specs.Ingesting.{last_of, with_slots}
 use Rattle.lsm_state.specs.Installing.{Installed, IsInstallRefusal, IsInstalling, MayInstall}
 use Rattle.lsm_state.specs.Making.{created_state_under}
 use Rattle.lsm_state.specs.Opening.{IsBegun}
+use Rattle.lsm_state.specs.declared.gather_fault.GatherFault.{GatherFault}
 use Rattle.lsm_state.specs.declared.options.Options.{Options}
 use Rattle.lsm_state.specs.declared.ingest.Ingested.{Ingested}
 use Rattle.lsm_state.specs.declared.state_fault.StateFault.{StateFault}
@@ -66,16 +69,20 @@ HasMade asks was is = is.made ≡ going asks was.made
 pub data Deed : Type 0 where
   Ingest : (ws : List Write) (r : Ingested) → Deed
   Install : (done : Done) → Deed
+  -- the newest files of level 0 became one, of this number
+  Gather : (number : ℕ) → Deed
   Collect : (removed : List ℕ) → Deed
 
 -- What the contract says of the call where it is answered Ok, and the calls that it made of its
 -- shelf.
-abbrev pub Asks : (old new : Held) → Deed → List Asked → Type 0
-Asks old new (Ingest ws r) asks = (was : Told) × (is : Told) × IsWelcome old ws
+abbrev pub Asks : Type 0 → (old new : Held) → Deed → List Asked → Type 0
+Asks honest old new (Ingest ws r) asks = (was : Told) × (is : Told) × IsWelcome old ws
     × Ingests old new ws r was is × HasMade asks was is
-Asks old new (Install done) asks = (was : Told) × (is : Told) × MayInstall old done
+Asks honest old new (Install done) asks = (was : Told) × (is : Told) × MayInstall old done
     × Installed old new done was is × HasMade asks was is
-Asks old new (Collect removed) asks = (was : Told) × (is : Told) × (old.halted ≡ false)
+Asks honest old new (Gather number) asks = (was : Told) × (is : Told)
+    × Gathers honest old new number was is × HasMade asks was is
+Asks honest old new (Collect removed) asks = (was : Told) × (is : Told) × (old.halted ≡ false)
     × HasLookedAround old new × (new ≡ with_slots old new.slots) × AreCollected new removed was is
     × HasMade asks was is
 
@@ -88,6 +95,7 @@ IsReady honest (Install done) w = (was : Told) × (is : Told) × (asks : List As
     × IsFinished honest done × Becomes (putting_all (puts_by done) was) is × HasMade asks was is
     × ((number : ℕ) (image : List ℕ) → Has asks (shelf.Put number image)
     → w.tables number ≡ Some image)
+IsReady honest (Gather number) w = Unit {0}
 IsReady honest (Collect removed) w = (number : ℕ) → Has removed number → number < 2 ^ 64
 
 -- ---- what a refused call asked of its shelf
@@ -106,17 +114,27 @@ IsNextOfIngest h ws [] next = IsNext next (PutRefused (Was next) h ws)
 IsNextOfIngest h ws (ask ∷ asks) next = IsNext next (λ fault. (t : Table)
     × ChangeRefused (Was next) (record h { next = suc h.next }) (coming_in t (last_of h ws)) fault)
 
+-- a read, or the put of the one file, and after it the write of the manifest
+abbrev pub IsNextOfGather : Held → List Asked → List Asked → Type 0
+IsNextOfGather h [] next = IsNext next (λ fault. ((v : Version) → operations v next ≡ [])
+    ⊎ ((image : List ℕ) × Was next (shelf.Put h.next image) fault))
+IsNextOfGather h (ask ∷ asks) next = IsNext next (λ fault. (change : Difference)
+    × ChangeRefused (Was next) (record h { next = suc h.next }) change fault)
+
 -- What the contract says of the call where it is refused; the calls of its shelf that were answered
 -- Ok; and the one that was refused, if any. A removal that was refused may have come to the device,
 -- and then it stands in the shelf's list too.
-abbrev pub Refuses : (old new : Held) → Deed → (asks next : List Asked) → Type 0
-Refuses old new (Ingest ws r) asks next = (fault : StateFault) × (was : Told) × (is : Told)
+abbrev pub Refuses : Type 0 → (old new : Held) → Deed → (asks next : List Asked) → Type 0
+Refuses honest old new (Ingest ws r) asks next = (fault : StateFault) × (was : Told) × (is : Told)
     × IsIngestRefusal old new ws fault was is × HasMade asks was is
     × IsNextOfIngest old ws asks next
-Refuses old new (Install done) asks next = (fault : StateFault) × (was : Told) × (is : Told)
+Refuses honest old new (Install done) asks next = (fault : StateFault) × (was : Told) × (is : Told)
     × IsInstallRefusal old new done fault was is × Becomes was is × HasMade asks was is
     × IsNext next (InstallRefused (Was next) old done)
-Refuses old new (Collect removed) asks next = (fault : StateFault) × (was : Told) × (is : Told)
+Refuses honest old new (Gather number) asks next = (fault : GatherFault) × (was : Told)
+    × (is : Told) × IsGatherRefusal honest old new fault was is × HasMade asks was is
+    × IsNextOfGather old asks next
+Refuses honest old new (Collect removed) asks next = (fault : StateFault) × (was : Told) × (is : Told)
     × (new ≡ with_slots old new.slots) × IsCollectRefusal old new fault removed was is
     × (HasMade asks was is ⊎ HasMade (asks ++ next) was is)
     × IsNext next (CollectRefused (Was next) new)
@@ -188,10 +206,10 @@ pub data Turn : Type 0 where
 abbrev pub Turns : Type 0 → TableId → (old new : Held) → Turn → (w u : World) → (d e : Disk)
     → Type 0
 Turns honest board old new (Answered deed) w u d e = (v : Version) × (asks : List Asked)
-    × Asks old new deed asks × IsReady honest deed w × ComesTo new.journal.bytes v
+    × Asks honest old new deed asks × IsReady honest deed w × ComesTo new.journal.bytes v
     × AllDone w (operations v asks) u d e
 Turns honest board old new (Refused deed) w u d e = (asks : List Asked) × (next : List Asked)
-    × Refuses old new deed asks next × (new.halted ≡ false)
+    × Refuses honest old new deed asks next × (new.halted ≡ false)
     × AllFail w (operations w.version asks) (operations w.version next) u d e
 Turns honest board old new (Builds number image) w u d e = (new ≡ old) × IsDrawn old number
     × (u ≡ counting number image w)
@@ -208,6 +226,7 @@ abbrev pub Follows : Type 0 → (old new : Held) → Turn → Type 0
 Follows honest old new (Answered (Ingest ws r)) = machine.Ingests (plain old) (entries_of old ws)
     (plain new)
 Follows honest old new (Answered (Install done)) = IsInstalling honest old done.work.ticket new
+Follows honest old new (Answered (Gather number)) = IsGathering honest old new
 Follows honest old new (Answered (Collect removed)) = plain new ≡ plain old
 Follows honest old new (Refused deed) = Spends (plain old) (plain new)
 Follows honest old new (Builds number image) = Unit {0}
@@ -240,7 +259,7 @@ Works honest board old new (turn ∷ turns) w u d e = (mid : Held) × (x : World
 abbrev pub IsCut : Type 0 → TableId → (old new : Held) → Deed → World → Known → (d e : Disk)
     → Type 0
 IsCut honest board old new deed w known d e = (v : Version) × (asks : List Asked)
-    × IsState honest board new × Asks old new deed asks × IsReady honest deed w
+    × IsState honest board new × Asks honest old new deed asks × IsReady honest deed w
     × ComesTo new.journal.bytes v × Follows honest old new (Answered deed)
     × AllCut w (operations v asks) known d e
 

@@ -17,8 +17,8 @@ use Rattle.lsm_crash.specs.Known.{Known, World, current_name, known_of, nothing}
 use Rattle.lsm_crash.specs.Operations.{Start, either, started, starting}
 use Rattle.lsm_crash.specs.Among.{CutAmong, DoneAmong}
 use Rattle.lsm_crash.specs.History.{IsRead}
-use Rattle.lsm_crash.specs.Database.{Answered, Builds, Collect, Deed, HasMade, Ingest, Install}
-use Rattle.lsm_crash.specs.Database.{IsCut, IsMade, IsState, Looks, Opens, Refused, Turn, Works}
+use Rattle.lsm_crash.specs.Database.{Answered, Builds, Collect, Deed, Gather, HasMade, Ingest}
+use Rattle.lsm_crash.specs.Database.{Install, IsCut, IsMade, IsState, Looks, Opens, Refused, Turn, Works}
 use Rattle.lsm_crash.specs.Database.{opened_world, plans_of}
 
 -- ---- what ingests bring in, and what reads give
@@ -28,6 +28,7 @@ abbrev pub brought : List Turn → List Entry
 brought [] = []
 brought (Answered (Ingest ws r) ∷ turns) = brought turns ++ entries_from r.first ws
 brought (Answered (Install done) ∷ turns) = brought turns
+brought (Answered (Gather number) ∷ turns) = brought turns
 brought (Answered (Collect removed) ∷ turns) = brought turns
 brought (Refused deed ∷ turns) = brought turns
 brought (Builds number image ∷ turns) = brought turns

@@ -20,12 +20,14 @@ ghost use Rattle.lsm_merge.specs.Work.{Done, puts_by};
 ghost use Rattle.lsm_state.specs.Asked.{changes_by};
 ghost use Rattle.lsm_state.specs.Collecting.{AreCollected, HasLookedAround, IsCollectRefusal};
 ghost use Rattle.lsm_state.specs.Collecting.{IsKeptNumber};
+ghost use Rattle.lsm_state.specs.Gathering.{Gathers, IsGatherRefusal};
 ghost use Rattle.lsm_state.specs.Held.{Held, plain};
 ghost use Rattle.lsm_state.specs.Ingesting.{FailsToChange, FailsToPut, Ingests, IsIngestRefusal};
 ghost use Rattle.lsm_state.specs.Ingesting.{IsWelcome, coming_in, entries_of, last_of};
 ghost use Rattle.lsm_state.specs.Ingesting.{table_bytes_of};
 ghost use Rattle.lsm_state.specs.Ingesting.{with_number, with_slots};
 ghost use Rattle.lsm_state.specs.Installing.{Installed, IsInstallRefusal};
+ghost use Rattle.lsm_state.specs.declared.gather_fault.GatherFault.{GatherFault};
 ghost use Rattle.lsm_state.specs.declared.ingest.Ingested.{Ingested};
 ghost use Rattle.lsm_state.specs.declared.state_fault.StateFault.{StateFault};
 ghost use Rattle.lsm_crash.specs.Disk.{Disk, Shows, empty_disk};
@@ -40,7 +42,7 @@ ghost use Rattle.lsm_crash.specs.Database.{IsState, Turn};
 ghost use Rattle.lsm_crash.specs.Database.{Answered, Follows, HasMade, IsMade, Opens};
 ghost use Rattle.lsm_crash.specs.Database.{Ingest, SmallRun, Works, after_all, opened_world};
 ghost use Rattle.lsm_crash.specs.Database.{plans_of};
-ghost use Rattle.lsm_crash.specs.Database.{Builds, Collect, Install, IsDrawn, Looks, Refused};
+ghost use Rattle.lsm_crash.specs.Database.{Builds, Collect, Gather, Install, IsDrawn, Looks, Refused};
 ghost use Rattle.lsm_crash.specs.Database.{AllDone, AllFail, Stays, operations};
 ghost use Rattle.lsm_crash.specs.Lives.{Ages, AllLeave, Answers, FromNothing, Life};
 ghost use Rattle.lsm_crash.specs.Lives.{SmallAges, Struck, Worked, brought};
@@ -69,10 +71,10 @@ pub fn manifests_describe_their_version()
 
 /// Which calls of its shelf a call of the state makes: the shelf's value keeps a list of the calls
 /// by which it changed what lies there, and the contract of the call of the state says by which of
-/// them that list grew. An ingest puts its table, and then writes to the manifest; an install
-/// writes to the manifest; a collect removes what is not kept; an opening and the making of a new
+/// them that list grew. An ingest puts its table, and then writes to the manifest; so does a gather
+/// with the one file; an install writes to the manifest; a collect removes what is not kept; an opening and the making of a new
 /// database start one manifest. A merge puts its outputs. A refused ingest put its table or
-/// nothing; a refused install made nothing; a refused collect removed some, and the last one
+/// nothing, a refused gather some table under the next number or nothing; a refused install made nothing; a refused collect removed some, and the last one
 /// perhaps not.
 pub fn shelves_tell_what_was_asked<P: Premise>()
     ensures one { (xs ys : List Asked) (was is : Told) → HasMade xs was is → HasMade ys was is
@@ -81,6 +83,10 @@ pub fn shelves_tell_what_was_asked<P: Premise>()
         → (i : Ingests old new ws r was is)
         → HasMade (Put old.next (table_bytes_of old ws)
         ∷ changes_by (with_number old i.slots) (coming_in i.table (last_of old ws)) ∷ []) was is }
+    ensures gather { (old new : Held) (number : ℕ) (was is : Told)
+        → (i : Gathers P.holds old new number was is)
+        → HasMade (Put old.next i.table.image ∷ changes_by (with_number old i.slots) i.change ∷ [])
+        was is }
     ensures install { (old new : Held) (done : Done) (was is : Told)
         → (i : Installed old new done was is)
         → HasMade (changes_by (with_slots old i.slots) i.change ∷ []) was is }
@@ -96,6 +102,9 @@ pub fn shelves_tell_what_was_asked<P: Premise>()
     ensures ingest_err { (old new : Held) (ws : List Write) (fault : StateFault) (was is : Told)
         → IsIngestRefusal old new ws fault was is
         → HasMade [] was is ⊎ HasMade (Put old.next (table_bytes_of old ws) ∷ []) was is }
+    ensures gather_err { (old new : Held) (fault : GatherFault) (was is : Told)
+        → IsGatherRefusal P.holds old new fault was is
+        → HasMade [] was is ⊎ ((image : List ℕ) × HasMade (Put old.next image ∷ []) was is) }
     ensures collect_err { (old new : Held) (fault : StateFault) (removed : List ℕ) (was is : Told)
         → IsCollectRefusal old new fault removed was is
         → HasMade (map Remove removed) was is ⊎ ((n : ℕ) × (IsKeptNumber new n → ⊥)
@@ -109,7 +118,7 @@ pub fn calls_ask_for_what_is_allowed<P: Premise>()
         (v : Version)
         → IsState P.holds board old → IsState P.holds board new
         → IsWorldOf old w → ComesTo w.bytes w.version
-        → Asks old new deed asks → IsReady P.holds deed w → ComesTo new.journal.bytes v
+        → Asks P.holds old new deed asks → IsReady P.holds deed w → ComesTo new.journal.bytes v
         → AllowsAll w (operations v asks) × IsWorldOf new (after_all w (operations v asks)) }
 {
     changed_tables();
@@ -140,8 +149,8 @@ pub fn crashes_leave_a_version<P: Premise>()
 }
 
 /// A call that was refused, and after which the state is not halted, leaves manifest and version;
-/// the number of a table that an ingest has put, or perhaps put, is spent.
-pub fn refused_calls_keep_the_version()
+/// the number of a table that an ingest or a gather has put, or perhaps put, is spent.
+pub fn refused_calls_keep_the_version<P: Premise>()
     ensures ingest { (old new : Held) (ws : List Write) (fault : StateFault) (was is : Told)
         → IsIngestRefusal old new ws fault was is → old.next < 2 ^ 64 → new.halted ≡ false
         → Stays old new }
@@ -150,6 +159,9 @@ pub fn refused_calls_keep_the_version()
     ensures put { (old new : Held) (ws : List Write) (fault : StateFault) (was is : Told)
         → IsWelcome old ws → new.slots.version ≡ old.slots.version
         → FailsToChange old new ws fault was is → new.halted ≡ false → old.next < new.next }
+    ensures gather { (old new : Held) (fault : GatherFault) (was is : Told)
+        → IsGatherRefusal P.holds old new fault was is → old.next < 2 ^ 64 → new.halted ≡ false
+        → Stays old new × ((is.made ≡ was.made) ⊎ (old.next < new.next)) }
     ensures install { (old new : Held) (done : Done) (fault : StateFault) (was is : Told)
         → IsInstallRefusal old new done fault was is → old.next < 2 ^ 64 → new.halted ≡ false
         → Stays old new }
@@ -278,7 +290,7 @@ pub fn ingests_survive_crashes<P: Premise>()
         → Answers now.slots.version (brought turns ++ es) }
     ensures made { (h : Held) → IsMade h → Answers h.slots.version [] }
     ensures one { (board : TableId) (old new : Held) (deed : Deed) (asks : List Asked)
-        (es : List Entry) → P.holds → IsState P.holds board old → Asks old new deed asks
+        (es : List Entry) → P.holds → IsState P.holds board old → Asks P.holds old new deed asks
         → Follows P.holds old new (Answered deed) → Answers old.slots.version es
         → Answers new.slots.version (brought (Answered deed ∷ []) ++ es) }
 {
@@ -296,7 +308,8 @@ pub fn ingests_survive_crashes<P: Premise>()
 /// So can the premises of runs with other turns, and of lives. A call that changes nothing is a
 /// turn (`looks`); a table is put whose number a live job has drawn (`builds`). Behind what was
 /// answered Ok any operation may be refused so that the database goes on (`fails`), and what
-/// contracts say of a refused call is a turn (`ingest_err`, `install_err`, `collect_err`). An
+/// contracts say of a refused call is a turn (`ingest_err`, `gather_err`, `install_err`,
+/// `collect_err`). An
 /// ingest may be cut in its first call of the folder, or behind its last (`cut`). A database is
 /// opened, an ingest is answered Ok, the next one is cut, and any opening of what is left is a life
 /// more, or is cut (`ages`). In an empty folder a try to make a database is cut; then it is made,
@@ -305,7 +318,7 @@ pub fn premises_of_runs_are_met<P: Premise>()
     ensures answered { (board : TableId) (old new : Held) (deed : Deed) (asks : List Asked)
         (w : World) (v : Version) (d : Disk) → IsState P.holds board new → IsSettled d w
         → IsWorldOf old w → d.names (table_name old.next) ≡ None
-        → Asks old new deed asks → IsReady P.holds deed w → ComesTo new.journal.bytes v
+        → Asks P.holds old new deed asks → IsReady P.holds deed w → ComesTo new.journal.bytes v
         → Follows P.holds old new (Answered deed)
         → (u : World) × (e : Disk)
         × Works P.holds board old new (Answered deed ∷ []) w u d e }
@@ -315,7 +328,7 @@ pub fn premises_of_runs_are_met<P: Premise>()
     ensures small { (board : TableId) (h new : Held) (first asks : List Asked) (ws : List Write)
         (r : Ingested) (v s : Version) → IsState P.holds board h → IsState P.holds board new
         → (m : IsMade h) → HasMade first m.was m.now → ComesTo h.journal.bytes v
-        → Asks h new (Ingest ws r) asks → ComesTo new.journal.bytes s
+        → Asks P.holds h new (Ingest ws r) asks → ComesTo new.journal.bytes s
         → Follows P.holds h new (Answered (Ingest ws r))
         → SmallRun P.holds board h new v first m.number (Ingest ws r) }
     ensures looks { (board : TableId) (h : Held) (w : World) (d : Disk) → IsState P.holds board h
@@ -334,6 +347,13 @@ pub fn premises_of_runs_are_met<P: Premise>()
         → new.halted ≡ false → Spends (plain old) (plain new)
         → (u : World) × (e : Disk)
         × Works P.holds board old new (Refused (Ingest ws r) ∷ []) w u d e }
+    ensures gather_err { (board : TableId) (old new : Held) (number : ℕ) (fault : GatherFault)
+        (was is : Told) (w : World) (d : Disk)
+        → IsState P.holds board new → IsSettled d w → IsWorldOf old w
+        → d.names (table_name old.next) ≡ None → IsGatherRefusal P.holds old new fault was is
+        → new.halted ≡ false → Spends (plain old) (plain new)
+        → (u : World) × (e : Disk)
+        × Works P.holds board old new (Refused (Gather number) ∷ []) w u d e }
     ensures install_err { (board : TableId) (old new : Held) (done : Done) (fault : StateFault)
         (was is : Told) (w : World) (d : Disk) → IsState P.holds board new
         → IsInstallRefusal old new done fault was is → Becomes was is → new.halted ≡ false

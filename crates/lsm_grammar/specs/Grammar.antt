@@ -170,6 +170,9 @@ unfoldable pub load : App
 load = command (codes "load") (folder ∷ file ∷ text ∷ begin ∷ beside_log ∷ workers ∷ from_line
     ∷ progress ∷ [])
 
+unfoldable pub import_folder : App
+import_folder = command (codes "import") (word (codes "SRC") ∷ word (codes "DST") ∷ [])
+
 unfoldable pub compact : App
 compact = command (codes "compact") (folder ∷ flag (codes "all") ∷ valued (codes "from")
     ∷ valued (codes "to") ∷ text ∷ workers ∷ accept_rest ∷ progress ∷ [])
@@ -216,8 +219,10 @@ with_looks =
 
 -- with those that write keys into a folder
 unfoldable pub with_writes : App
-with_writes = with_subcommand (with_subcommand
-    (with_subcommand (with_subcommand with_looks ingest.top) put.top) delete.top) load.top
+with_writes =
+    with_subcommand (with_subcommand (with_subcommand
+    (with_subcommand (with_subcommand with_looks ingest.top) put.top) delete.top) load.top)
+    import_folder.top
 
 -- all commands
 unfoldable pub lsm : App

@@ -31,6 +31,12 @@ pub(crate) enum Argument {
 /// The path of a folder.
 pub(crate) const FOLDER: Argument = Argument::Word("DIR", "The folder of a LevelDB database");
 
+/// The path of a folder that is copied.
+pub(crate) const SOURCE: Argument = Argument::Word("SRC", "The folder that is copied");
+
+/// The path of the folder of a copy.
+pub(crate) const TARGET: Argument = Argument::Word("DST", "The folder of the copy");
+
 /// The key of a command on one key.
 pub(crate) const KEY: Argument = Argument::Word("KEY", "The key");
 

@@ -27,8 +27,8 @@ use lsm_batch::Write;
 use lsm_codec::Bytes;
 use lsm_requests::{
     BenchOptions, Benchmark, CleanOptions, CompactLine, CompactOptions, CompactRange, Conversion,
-    DirectoryCommand, DirectoryLine, GetOutput, IngestOptions, Input, KeyBounds, LevelsLine,
-    LevelsOutput, LoadLine, LoadOptions, ScanOptions, ScanOutput,
+    DirectoryCommand, DirectoryLine, GetOutput, ImportLine, IngestOptions, Input, KeyBounds,
+    LevelsLine, LevelsOutput, LoadLine, LoadOptions, ScanOptions, ScanOutput,
 };
 use lsm_text::{Form, number_in};
 use std::alloc::{AllocError, Global};
@@ -451,6 +451,15 @@ fn load_in<'a>(found: &ArgMatches<'a>) -> Option<Request<'a>>
     }))
 }
 
+/// A copy.
+fn import_in<'a>(found: &ArgMatches<'a>) -> Option<Request<'a>>
+    ensures { Reads CommandName.Import (rows_in found.now) result }
+{
+    let source = word_in(found, "SRC")?;
+    let target = word_in(found, "DST")?;
+    Some(Request::Import(ImportLine { source, target }))
+}
+
 /// The bounds of a range that is compacted. `None` where a word spells no key.
 fn range_of(
     alloc: Global,
@@ -569,6 +578,7 @@ fn request_in<'a>(
         CommandName::Put => put_in(alloc, found),
         CommandName::Delete => delete_in(alloc, found),
         CommandName::Load => Ok(load_in(found)),
+        CommandName::Import => Ok(import_in(found)),
         CommandName::Compact => compact_in(alloc, found),
         CommandName::Clean => Ok(clean_in(found)),
         CommandName::Shell => Ok(shell_in(found)),

@@ -3,7 +3,8 @@
 use crate::arguments::{
     ACCEPT_REST, ALL, Argument, BAIL, BATCH, BEGIN, BENCHMARKS, BESIDE_LOG, COMPACTORS, COUNT,
     EXISTS, FILES, FIRST, FOLDER, FROM, FROM_LINE, JSON, KEY, KEYS, LAST, LIMIT, NUM, PREFIX,
-    PROGRESS, RAW, SOME_WORKERS, STRICT, SVG, TEXT, TO, VALUE, VALUE_SIZE, VERIFIERS, WORKERS,
+    PROGRESS, RAW, SOME_WORKERS, SOURCE, STRICT, SVG, TARGET, TEXT, TO, VALUE, VALUE_SIZE,
+    VERIFIERS, WORKERS,
 };
 use crate::command_name::{CommandName, named};
 
@@ -222,18 +223,20 @@ const LEVELS: Page = Page {
     arguments: &[FOLDER, TEXT, FILES, SVG, STRICT],
     about: "Shows the levels of a folder, and what is due next",
     text: "Reads the file CURRENT of the LevelDB folder DIR and the manifest that it names,
-and nothing else: no table is opened. So it answers also where tables are
-compressed, damaged or lost, and just as fast where they are huge. Nothing is
-written in DIR. A line on standard error names each write-ahead log (`N.log`)
-that is not read.
+and the sizes of the files there: no table is opened. So it answers also where
+tables are compressed, damaged or lost, and just as fast where they are huge.
+Nothing is written in DIR. A line on standard error names each write-ahead log
+(`N.log`) that is not read.
 
 Prints a line a level, `level L files F bytes B score S` for the levels 0 to 6,
 by what the manifest says. The score is how full a level is, in hundredths: of
 level 0 its files over 4, and of the levels 1 to 5 their bytes over 10 MiB for
 level 1, and over ten times as many for each deeper one. From 1.00 on a level is
-too large. The last two lines are `last S rest R`, the last sequence and how many
-bytes at the manifest's end hold no whole record, and `due none`, or
-`due level L inputs N N ..` with the tables that the next compaction takes.
+too large. Then `tables N bytes B least L mean M` sums up the tables, and
+`folder tables T manifests M others O bytes B` the files of DIR. The last two
+lines are `last S rest R`, the last sequence and how many bytes at the manifest's
+end hold no whole record, and `due none`, or `due level L inputs N N ..` with the
+tables that the next compaction takes.
 
 --files prints a line for each file too, `LEVEL NUMBER SIZE SMALLEST LARGEST` as
 `list` does: keys are `KEY@SEQ+` for a value and `KEY@SEQ-` for a deletion, and
@@ -464,6 +467,31 @@ Device` one batch more than is said may be in.",
           lsm load db words.txt --text --from-line 131073",
 };
 
+const IMPORT: Page = Page {
+    name: "import",
+    arguments: &[SOURCE, TARGET],
+    about: "Copies a database, with its compressed tables and its logs",
+    text: "Copies the database of the LevelDB folder SRC to the folder DST, which has to be
+there and to have none, and prints `tables T logs L entries E rest B`: how many
+tables the copy has, of how many logs it has the writes, how many entries its
+tables have, and how many bytes at the ends of the manifest and of the logs of
+SRC hold no whole record, as a kill may leave them. SRC is only read.
+
+What no other command reads comes along: tables that Snappy has compressed become
+plain ones, under their numbers and at their levels; and of each key in the
+write-ahead logs that are not flushed, `N.log`, the last write comes in, as one
+table more at level 0. Bytes that hold no whole record are left out.
+
+A table or a log that is damaged is refused, and named. Where DST has a database
+it is `refused 53 IsThere`, where another program has one of the folders open
+`refused 52 Locked`. Until the last step DST has no database; the tables that a
+refused copy has put there stay.
+
+Exit status: 0 copied, 1 refused, 2 bad command line. After a `write fault` the
+copy is there; after `refused 9 Device` it may be.",
+    example: "Example: mkdir copy && lsm import db copy",
+};
+
 const COMPACT: Page = Page {
     name: "compact",
     arguments: &[
@@ -636,9 +664,9 @@ Exit status: 0 done, 1 refused, 2 bad command line, also where COMMAND is none."
 };
 
 /// The commands, in the order in which the overview lists them.
-pub(crate) const COMMANDS: [Page; 18] = [
+pub(crate) const COMMANDS: [Page; 19] = [
     MAKE_TABLE, DUMP, MANIFEST, SCRIPT, CHECK, LIST, LEVELS, GET, SCAN, INGEST, PUT, DELETE, LOAD,
-    COMPACT, CLEAN, SHELL, BENCH, HELP,
+    IMPORT, COMPACT, CLEAN, SHELL, BENCH, HELP,
 ];
 
 /// How a command is used.
@@ -659,6 +687,7 @@ fn usage(name: CommandName) -> &'static str {
         CommandName::Delete => "lsm delete <DIR> <KEY> [--text] [--begin] [--beside-log]",
         CommandName::Load =>
             "lsm load <DIR> [FILE] [--text] [--begin] [--beside-log] [--workers <N>] [--from-line <I>] [--progress]",
+        CommandName::Import => "lsm import <SRC> <DST>",
         CommandName::Compact =>
             "lsm compact <DIR> [--all] [--from <KEY>] [--to <KEY>] [--text] [--workers <N>] [--accept-rest] [--progress]",
         CommandName::Clean => "lsm clean <DIR> [--accept-rest]",

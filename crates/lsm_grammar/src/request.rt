@@ -3,7 +3,9 @@
 use crate::bench_line::BenchLine;
 use crate::shell_line::ShellLine;
 use crate::writing_line::WritingLine;
-use lsm_requests::{CompactLine, Conversion, DirectoryLine, Input, LevelsLine, LoadLine};
+use lsm_requests::{
+    CompactLine, Conversion, DirectoryLine, ImportLine, Input, LevelsLine, LoadLine,
+};
 
 /// What a command line asks for: one command of the program, with all that its words say.
 #[derive(Debug, Drop)]
@@ -18,6 +20,8 @@ pub enum Request<'a> {
     Write(WritingLine<'a>),
     /// `load`.
     Load(LoadLine<'a>),
+    /// `import`.
+    Import(ImportLine<'a>),
     /// `compact`.
     Compact(CompactLine<'a>),
     /// `script`: the commands that an input spells.

@@ -187,6 +187,7 @@ made_of edit added next last = record {
   };
   next = next;
   last = last;
+  writes = 0;
 }
 
 pub of_fits : (From Into : ℕ → List ℕ → Type 0) (shape : Form) (edit : Change) (lent files added : List FileAt) (next last : ℕ) → edit ≡ whole_edit shape → IsFit (whole_edit shape) → lent ≡ edit.added → added ≡ files

@@ -40,6 +40,7 @@ copied_of shape files next = record {
       { log = Some 0; prev_log = Some 0; next = Some next; added = files };
   next = next;
   last = shape.last;
+  writes = 0;
 }
 
 -- The copy has a table for each of the shape, and its next file number is above theirs. These are
@@ -90,6 +91,7 @@ with_file copied file first count = record {
   };
   next = copied.next + 1;
   last = first + count - 1;
+  writes = count;
 }
 
 -- The writes from this sequence on are one table more; no writes are none.

@@ -29,6 +29,8 @@ pub struct Copied {
     pub next: u64,
     /// The last sequence.
     pub last: u64,
+    /// How many writes of logs came in: the entries of their table.
+    pub writes: u64,
 }
 
 impl Copied {
@@ -80,6 +82,7 @@ impl Copied {
             },
             next,
             last: shape.last,
+            writes: 0,
         })
     }
 

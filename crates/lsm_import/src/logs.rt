@@ -161,6 +161,7 @@ impl Copied {
             },
             next: next + 1,
             last,
+            writes: count as u64,
         })
     }
 

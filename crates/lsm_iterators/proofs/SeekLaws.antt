@@ -168,8 +168,8 @@ placed_sought from n (e ∷ es) = go (user_le from e.user) (placed_sought from n
     go false h = h
 
 of_numbered : (ns : List ℕ) (images : List (List ℕ)) (q : Placed) → Has (numbered_all ns images) q → Has (entries_of_all images) q.1
-of_numbered [] images q h = absurd h
-of_numbered (n ∷ ns) [] q h = absurd h
+of_numbered ns [] q h = absurd h
+of_numbered [] (image ∷ images) q h = absurd h
 of_numbered (n ∷ ns) (image ∷ images) q h = elim (has_cases (placed_at n (entries_in image)) (numbered_all ns images) q h) [
   | inl a ↦ has_left (entries_in image) (entries_of_all images) q.1 (of_placed (entries_in image) a)
   | inr b ↦ has_right (entries_in image) (entries_of_all images) q.1 (of_numbered ns images q b)

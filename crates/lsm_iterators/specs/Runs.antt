@@ -1,8 +1,10 @@
 -- What is left of the sources of a merge, and which files they have still to read.
-use Rattle.std.specs.Prelude.{◌≡◌, ◌≢◌, ℕ, List, [], ◌∷◌, ◌++◌}
+use Rattle.std.specs.Prelude.{◌≡◌, ◌≢◌, ◌==◌, ℕ, Bool, false, cond, List, [], ◌∷◌, ◌++◌, map}
+use Rattle.std.specs.Prelude.{Option, Some, None}
 use Rattle.std.specs.List.{flat_map}
 use Rattle.lsm_codec.specs.Lists.{Has}
 use Rattle.lsm_codec.specs.Entries.{Entry}
+use Rattle.lsm_table.specs.Registry.{Table, image_of}
 use Rattle.lsm_table.specs.Table.{IsTable}
 use Rattle.lsm_table.specs.HeldTable.{entries_in}
 use Rattle.lsm_model.specs.Merging.{Placed, placed_at}
@@ -37,8 +39,8 @@ files_at depth (n ∷ ns) = (depth, n) ∷ files_at depth ns
 
 -- the entries of the tables of images, one after another, each with its file's number
 abbrev pub numbered_all : List ℕ → List (List ℕ) → List Placed
-numbered_all [] images = []
-numbered_all (n ∷ ns) [] = []
+numbered_all ns [] = []
+numbered_all [] (image ∷ images) = []
 numbered_all (n ∷ ns) (image ∷ images) = placed_at n (entries_in image) ++ numbered_all ns images
 
 -- what is left where a run stands in a table, and images are to come after it
@@ -59,10 +61,10 @@ abbrev pub IsFirstOf : List Entry → List (List ℕ) → Type 0
 IsFirstOf es [] = ⊥
 IsFirstOf es (image ∷ images) = es ≡ entries_in image
 
--- It is the first of these numbers.
-abbrev pub IsFirstNumber : ℕ → List ℕ → Type 0
-IsFirstNumber number [] = ⊥
-IsFirstNumber number (n ∷ ns) = number ≡ n
+-- It is the first of these.
+abbrev pub IsFirst : {X : Type 0} → X → List X → Type 0
+IsFirst x [] = ⊥
+IsFirst x (y ∷ ys) = x ≡ y
 
 -- No file is new.
 abbrev pub ReadsNoOther : Left → Left → Type 0
@@ -79,3 +81,27 @@ IsOfFirst left number = Has left.files (source_in (first_of left.placed), number
 -- The number is that of a file which is not yet read to its end.
 abbrev pub IsOfFiles : Left → ℕ → Type 0
 IsOfFiles left number = (depth : ℕ) × Has left.files (depth, number)
+
+-- ---- the tables that are to come
+
+abbrev pub is_number : Option ℕ → ℕ → Bool
+is_number None n = false
+is_number (Some own) n = own == n
+
+-- tables without those that follow one of their number
+abbrev pub once : Option ℕ → List Table → List Table
+once last [] = []
+once last (t ∷ ts) = cond (is_number last t.number) (once last ts) (t ∷ once (Some t.number) ts)
+
+-- their numbers and their images
+pub record Awaited : Type 0 where
+  pub numbers : List ℕ
+  pub images : List (List ℕ)
+
+-- those of a row, each table once; where there is none, these
+abbrev pub awaited : List ℕ → List (List ℕ) → Option (List Table) → Awaited
+awaited numbers images None = record { numbers = numbers; images = images }
+awaited numbers images (Some row) = record {
+  numbers = map (λ t. t.number) (once None row);
+  images = map image_of (once None row);
+}

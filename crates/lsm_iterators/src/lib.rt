@@ -11,7 +11,10 @@
 mod file_fault;
 mod table_iter;
 // Tables, one after another.
+mod later;
+mod row;
 mod run;
+mod shared_levels;
 
 // Their merge: the fronts that keys share.
 mod front;
@@ -32,6 +35,8 @@ pub use ages::against_age;
 pub use file_fault::FileFault;
 pub use merger::Merger;
 pub use pair::Pair;
+pub use row::Row;
 pub use run::Run;
 pub use scan::Scan;
+pub use shared_levels::SharedLevels;
 pub use walk::{FirstKey, Walk};

@@ -1,6 +1,6 @@
 //! The tables of a level, one after another.
 
-ghost use Rattle.std.specs.Prelude.{◌≡◌, ◌∷◌, ◌<◌, [], ℕ, List, All, length, map, false, IfOk};
+ghost use Rattle.std.specs.Prelude.{◌≡◌, ◌∷◌, ◌<◌, [], ℕ, List, All, length, map, false, None, IfOk};
 ghost use Rattle.std.specs.Prelude.{IfErr, IfSome, MatchOption, OnOk, OnErr};
 ghost use Rattle.std.specs.Option.{option_map};
 ghost use Rattle.lsm_codec.specs.KeyRef.{key_of};
@@ -14,12 +14,14 @@ ghost use Rattle.lsm_model.specs.Merging.{IsSorted, placed_at};
 ghost use Rattle.lsm_iterators.specs.Heads.{after_first, first_of, key_in, no_more, source_in};
 ghost use Rattle.lsm_iterators.specs.Heads.{user_in};
 ghost use Rattle.lsm_iterators.specs.Heads.{value_in};
-ghost use Rattle.lsm_iterators.specs.Runs.{AreAlike, HasEntries, IsFirstNumber, IsFirstOf};
+ghost use Rattle.lsm_iterators.specs.Runs.{AreAlike, HasEntries, IsFirst, IsFirstOf};
 ghost use Rattle.lsm_iterators.specs.Runs.{IsOfFirst, ReadsNoOther};
-ghost use Rattle.lsm_iterators.specs.Runs.{entries_of_all, files_at, numbered_all};
+ghost use Rattle.lsm_iterators.specs.Runs.{entries_of_all, files_at, numbered_all, once};
 ghost use Rattle.lsm_iterators.specs.Seeking.{IsReached, at_or_past, placed_past};
 
 use crate::file_fault::FileFault;
+use crate::later::Later;
+use crate::row::Row;
 use crate::table_iter::TableIter;
 use lsm_codec::KeyRef;
 use lsm_reader::Blocks;
@@ -39,8 +41,8 @@ pub struct Run<N: Naming, S: Shelf> {
     // Given to each of its entries.
     depth: u64,
     here: TableIter<N, S>,
-    // What stands for the tables after it.
-    later: VecDeque<S::Receipt>,
+    // The tables after it.
+    later: Later<N, S>,
 }
 
 impl<N: Naming, S: Shelf> Drop for Run<N, S> {
@@ -54,42 +56,39 @@ impl<N: Naming, S: Shelf> Drop for Run<N, S> {
 }
 
 impl<N: Naming, S: Shelf> Model for Run<N, S> {
-    ghost use Rattle.std.specs.Prelude.{All, map};
+    ghost use Rattle.std.specs.Prelude.{All};
     ghost use Rattle.lsm_iterators.specs.Runs.{HasEntries, IsLastAtEnd, Left, run_left};
 
     ghost Value = { Left };
 
-    ghost view = { λ r. run_left r.depth r.here.number r.here.left
-        (map S.Receipt.number r.later.items) (map S.Receipt.image r.later.items) };
+    ghost view = { λ r.
+        run_left r.depth r.here.number r.here.left r.later.numbers r.later.images };
 
-    ghost invariant = { λ r. IsLastAtEnd r.here.left (map S.Receipt.image r.later.items)
-        × All (S.is_of N.place) r.later.items
-        × (S.honest → All HasEntries (map S.Receipt.image r.later.items)) };
+    ghost invariant = { λ r. IsLastAtEnd r.here.left r.later.images
+        × (S.honest → All HasEntries r.later.images) };
 }
 
 /// Opens the first of these tables, if there is one.
 fn open_next_by<N: Naming, S: Shelf, B: Blocks<N, S>>(
     blocks: &mut B,
     alloc: Global,
-    later: &VecDeque<S::Receipt>,
+    later: &Later<N, S>,
 ) -> Result<Option<TableIter<N, S>>, FileFault>
-    requires named { All (S.is_of N.place) later.now.items }
-    requires tables { S.honest → All HasEntries (map S.Receipt.image later.now.items) }
-    ensures some { IfOk result (λ o. MatchOption o (later.now.items ≡ []) (λ t.
-        (0 < length later.now.items) × (is_end t.left ≡ false))) }
-    ensures first { IfOk result (λ o.
-        IfSome o (λ t. IsFirstNumber t.number (map S.Receipt.number later.now.items))) }
-    ensures entries { S.honest → IfOk result
-        (λ o. IfSome o (λ t. IsFirstOf t.left (map S.Receipt.image later.now.items))) }
+    requires tables { S.honest → All HasEntries later.now.images }
+    ensures some { IfOk result (λ o.
+        MatchOption o (later.now.images ≡ []) (λ t. is_end t.left ≡ false)) }
+    ensures first { IfOk result (λ o. IfSome o (λ t. IsFirst t.number later.now.numbers)) }
+    ensures entries { S.honest
+        → IfOk result (λ o. IfSome o (λ t. IsFirstOf t.left later.now.images)) }
     ensures sound { S.honest → IfErr result (λ e. IsMemoryOrShelf e.fault) }
-    ensures number { IfErr result (λ e. Has (map S.Receipt.number later.now.items) e.number) }
+    ensures number { IfErr result (λ e. Has later.now.numbers e.number) }
     ensures told { Becomes (B.told blocks.old) (B.told blocks.new) }
     ensures loan { B.loan blocks.new ≡ B.loan blocks.old }
     ensures cause { IfErr result (λ e.
         ReadCounted e.fault (B.told blocks.old) (B.told blocks.new)) }
     ensures refused { IfErr result (λ e. IsReadRefusal (S.refuses N.place) e.number e.fault) }
 {
-    let next = match later.front() {
+    let next = match later.first() {
         Some(next) => blocks.copy_receipt(next),
         None => return Ok(None),
     };
@@ -146,6 +145,7 @@ impl<N: Naming, S: Shelf> Run<N, S> {
         ensures refused { IfErr result (λ e. IsReadRefusal (S.refuses N.place) e.number e.fault) }
     {
         let number = first.number();
+        let later = Later::of_receipts(later);
         match TableIter::first_by(blocks, alloc, first) {
             Ok(here) => Ok(Run { depth, here, later }),
             Err(fault) => Err(FileFault { number, fault }),
@@ -193,49 +193,41 @@ impl<N: Naming, S: Shelf> Run<N, S> {
         Run::open_by(blocks, alloc, depth, first, later)
     }
 
-    /// At the first entry of these tables whose user key is at or past `from`. The entries of each
-    /// table stand before the next one's, and the first table has such an entry: it alone is
-    /// opened, and sought.
+    /// At the first entry of these tables whose user key is at or past `from`, where tables of one
+    /// number behind one another are one. The entries of each table stand before the next one's,
+    /// and the first table has such an entry: it alone is opened, and sought.
     pub fn over_from<B: Blocks<N, S>>(
         blocks: &mut B,
         alloc: Global,
         depth: u64,
-        registry: &Registry<N, S>,
-        tables: &[TableRef<N, S>],
+        row: Row<N, S>,
         from: &[u8],
     ) -> Result<Run<N, S>, FileFault>
-        requires some { 0 < length tables.now }
-        requires tables { S.honest → All HasEntries (map image_of tables.now) }
-        requires order { S.honest → IsSorted (entries_of_all (map image_of tables.now)) }
-        requires reached { S.honest → IsReached from.now (map image_of tables.now) }
-        ensures entries { S.honest → IfOk result (λ r. r.placed
-            ≡ placed_at depth (at_or_past from.now (entries_of_all (map image_of tables.now)))) }
+        requires some { 0 < length row }
+        requires tables { S.honest → All HasEntries (map image_of (once None row)) }
+        requires order { S.honest → IsSorted (entries_of_all (map image_of (once None row))) }
+        requires reached { S.honest → IsReached from.now (map image_of (once None row)) }
+        ensures entries { S.honest → IfOk result (λ r. r.placed ≡ placed_at depth (at_or_past
+            from.now (entries_of_all (map image_of (once None row))))) }
         ensures files { IfOk result (λ r.
-            r.files ≡ files_at depth (map (λ t. t.number) tables.now)) }
+            r.files ≡ files_at depth (map (λ t. t.number) (once None row))) }
         ensures numbered { S.honest → IfOk result (λ r. r.numbered ≡ placed_past from.now
-            (numbered_all (map (λ t. t.number) tables.now) (map image_of tables.now))) }
+            (numbered_all (map (λ t. t.number) (once None row)) (map image_of (once None row)))) }
         ensures sound { S.honest → IfErr result (λ e. IsMemoryOrShelf e.fault) }
-        ensures number { IfErr result (λ e. Has (map (λ t. t.number) tables.now) e.number) }
+        ensures number { IfErr result (λ e. Has (map (λ t. t.number) (once None row)) e.number) }
         ensures told { Becomes (B.told blocks.old) (B.told blocks.new) }
         ensures loan { B.loan blocks.new ≡ B.loan blocks.old }
         ensures cause { IfErr result (λ e.
             ReadCounted e.fault (B.told blocks.old) (B.told blocks.new)) }
         ensures refused { IfErr result (λ e. IsReadRefusal (S.refuses N.place) e.number e.fault) }
     {
-        let Some((first, rest)) = tables.split_first() else {
-            unreachable!()
+        let mut later = Later::of_row(alloc, row);
+        let first = match later.first() {
+            Some(first) => blocks.copy_receipt(first),
+            None => unreachable!(),
         };
-        let first = blocks.copy_receipt(&registry.record(first).receipt);
+        later.pass();
         let number = first.number();
-        let later = match copies_of(&*blocks, alloc, registry, rest) {
-            Ok(later) => later,
-            Err(_memory) => {
-                return Err(FileFault {
-                    number,
-                    fault: ReadFault::Table(TableFault::OutOfMemory),
-                });
-            }
-        };
         match TableIter::seek_by(blocks, alloc, first, from) {
             Ok(here) => Ok(Run { depth, here, later }),
             Err(fault) => Err(FileFault { number, fault }),
@@ -329,9 +321,7 @@ impl<N: Naming, S: Shelf> Run<N, S> {
             }
         }
         if let Some(here) = open_next_by(blocks, alloc, &self.later)? {
-            let Some(_reached) = self.later.pop_front() else {
-                unreachable!()
-            };
+            self.later.pass();
             self.here = here;
             return Ok(0);
         }

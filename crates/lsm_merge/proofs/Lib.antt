@@ -2,6 +2,7 @@ mod Begun
 mod CutLaws
 mod Cutting
 mod Dropped
+mod GatherLaws
 mod InputLaws
 mod PlaceLaws
 mod Limited

@@ -2,6 +2,7 @@
 pub mod Causes
 pub mod Cuts
 pub mod Dropping
+pub mod Gathering
 pub mod InputOrder
 pub mod Inputs
 pub mod Limits

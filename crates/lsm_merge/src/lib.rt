@@ -15,6 +15,7 @@ mod sameness;
 // The merge of its inputs.
 mod compaction;
 mod dropping;
+mod gathering;
 mod inputs;
 mod rows;
 mod stream;
@@ -32,6 +33,7 @@ mod merge_fault;
 
 pub use compaction::compact;
 pub use finished::Finished;
+pub use gathering::gather;
 pub use job::Job;
 pub use job_parts::JobParts;
 pub use merge_fault::{InputFault, MergeFault, OutputFault};

@@ -95,7 +95,7 @@ fn begin<R: Wait, D: NumberSource>(
 
 /// Adds an entry to the output in the making.
 #[tactic(auto, using(crate::proofs::Refused::unasked_build))]
-fn grow(output: &mut Output, key: &KeyRef<'_>, value: &[u8]) -> Result<(), MergeFault>
+pub(crate) fn grow(output: &mut Output, key: &KeyRef<'_>, value: &[u8]) -> Result<(), MergeFault>
     requires { Ascends (output.old.entries ++ entry_of (key_of key.now) value.now ∷ []) }
     ensures ok { OnOk result (output.new ≡ record output.old
         { entries = output.old.entries ++ entry_of (key_of key.now) value.now ∷ [] }) }

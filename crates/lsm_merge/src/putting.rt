@@ -21,7 +21,7 @@ use std::sync::Wait;
 /// for the number is there before the table is put, and the number stands among those put before
 /// the record may be refused.
 #[tactic(auto, using(crate::proofs::Refused::refused_put))]
-fn put_image<N: Naming, S: Shelf, R: Wait>(
+pub(crate) fn put_image<N: Naming, S: Shelf, R: Wait>(
     rt: &R,
     alloc: Global,
     shelf: &mut NamedShelf<N, S>,

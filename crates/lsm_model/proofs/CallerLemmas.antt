@@ -5,9 +5,10 @@ pub use Rattle.lsm_model.proofs.Checked.{file_fits}
 pub use Rattle.lsm_model.proofs.Created.{created_law}
 pub use Rattle.lsm_model.proofs.Cuts.{finished_holds, rising_numbers}
 pub use Rattle.lsm_model.proofs.Depths.{depth_newest}
-pub use Rattle.lsm_model.proofs.Drops.{drops_answer, newest_is, one_each_part}
+pub use Rattle.lsm_model.proofs.Drops.{drops_answer, newest_is, one_each_part, same_answer}
 pub use Rattle.lsm_model.proofs.Ingests.{ingest_keeps_open, ingest_lawful}
 pub use Rattle.lsm_model.proofs.Installs.{all_has, has_all, input_from, input_says, install_answers, install_keeps_open, install_lawful, one_each}
+pub use Rattle.lsm_model.proofs.Gathering.{gather_same}
 pub use Rattle.lsm_model.proofs.InOrders.{entries_in_order, first_is_le}
 pub use Rattle.lsm_model.proofs.Installing.{install_same}
 pub use Rattle.lsm_model.proofs.Kept.{kept_says}

@@ -66,3 +66,7 @@ drops_answer old new f s k one d le = go (newest k s old) (newest_finds k s old)
     go : (o : Option Entry) → Finds old k s o → value_in (newest k s new) ≡ value_in o
     go None none = none_new none (newest k s new) (newest_finds k s new)
     go (Some m) n = at_lost m n (d.lost m n.here)
+
+-- lists of the same entries answer alike
+pub same_answer : (old new : List Entry) (k : UserKey) (q : ℕ) → OneEach old → ((e : Entry) → Has new e → Has old e) → ((e : Entry) → Has old e → Has new e) → answer new k q ≡ answer old k q
+same_answer old new k q one there back = drops_answer old new 0 q k one record { within = there; lost = λ e h. inl (back e h) } (omega arith)

@@ -20,6 +20,7 @@ mod Checked
 mod LiveLists
 mod PlainSteps
 mod Installing
+mod Gathering
 mod Runs
 mod Created
 pub mod CallerLemmas

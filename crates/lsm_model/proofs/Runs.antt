@@ -8,14 +8,15 @@ use Rattle.lsm_codec.proofs.CallerLemmas.{has_left, has_right, has_cases, IsAllo
 use Rattle.lsm_model.specs.Files.{File, all_entries, OneEach}
 use Rattle.lsm_model.specs.Jobs.{Job}
 use Rattle.lsm_model.specs.Plans.{Plan}
-use Rattle.lsm_model.proofs.Drops.{drops_answer, newest_is}
+use Rattle.lsm_model.proofs.Drops.{newest_is, same_answer}
 use Rattle.lsm_model.proofs.Installs.{all_has, has_all, one_each}
 use Rattle.lsm_model.specs.Plain.{Ingests, IsReadable, Plain, Reserves}
 use Rattle.lsm_model.specs.Law.{Books, Law, Meaning}
-use Rattle.lsm_model.specs.Runs.{Agrees, Event, Ingest, Snapshot, Release, Reserve, Cancel, Draw, Install, Spend, Nothing, ReadsAs, Run, Step, ingested}
+use Rattle.lsm_model.specs.Runs.{Agrees, Event, Ingest, Snapshot, Release, Reserve, Cancel, Draw, Install, Gather, Spend, Nothing, ReadsAs, Run, Step, ingested}
 use Rattle.lsm_model.proofs.LiveLists.{left_snapshot, one_more}
 use Rattle.lsm_model.proofs.PlainSteps.{cancel_books, cancel_meaning, draw_books, draw_meaning, ingest_books, ingest_meaning, release_books, reserve_books, reserve_meaning, snapshot_books, spend_books}
 use Rattle.lsm_model.proofs.Installing.{install_law, install_same}
+use Rattle.lsm_model.proofs.Gathering.{gather_law, gather_same}
 
 reserve_law : (H : Type 0) (s : Plain) (plan : Plan) (job : Job) (t : Plain) → Law H s → Reserves H s plan job t → Law H t
 reserve_law H s plan job t l i = record {
@@ -34,16 +35,13 @@ step_law H s (Reserve plan job) t l h = reserve_law H s plan job t l h
 step_law H s (Cancel ticket) t l h = kept_law H s t l (cancel_books s ticket t l.books h) (λ m. cancel_meaning s ticket t m h)
 step_law H s (Draw ticket) t l h = kept_law H s t l (draw_books s ticket t l.books h) (λ m. draw_meaning s ticket t m h)
 step_law H s (Install ticket) t l h = install_law H s ticket t l h
+step_law H s Gather t l h = gather_law H s t l h
 step_law H s Spend t l h = kept_law H s t l (spend_books s t l.books h) (λ m. subst Meaning (sym h.2) record { lawful = m.lawful; reached = m.reached; are_open = m.are_open })
 step_law H s Nothing t l h = subst (Law H) (sym h) l
 
 pub run_law : (H : Type 0) (s : Plain) (es : List Event) (t : Plain) → Law H s → Run H s es t → Law H t
 run_law H s [] t l h = subst (Law H) (sym h) l
 run_law H s (e ∷ es) t l h = run_law H h.0 es t (step_law H s e h.0 l h.1) h.2
-
--- lists of the same entries answer alike
-pub same_answer : (old new : List Entry) (k : UserKey) (q : ℕ) → OneEach old → ((e : Entry) → Has new e → Has old e) → ((e : Entry) → Has old e → Has new e) → answer new k q ≡ answer old k q
-same_answer old new k q one there back = drops_answer old new 0 q k one record { within = there; lost = λ e h. inl (back e h) } (omega arith)
 
 -- newer entries in front: they answer, or what is behind them does
 pub front_newest : (new es : List Entry) (k : UserKey) (q : ℕ) → OneEach (new ++ es) → ((x y : Entry) → Has new x → Has es y → y.seq < x.seq) → (o : Option Entry) → Finds new k q o
@@ -168,6 +166,11 @@ step_agrees H y s (Install ticket) t es l h a = record {
   one = a.one;
   reads = λ k q r. (let old : IsReadable s q = subst (λ (u : Plain). IsReadable u q) h.is r in install_same H s ticket t l.books (l.meaning y) y h k q old ∙ a.reads k q old);
 }
+step_agrees H y s Gather t es l h a = record {
+  upto = λ e k. subst (λ (u : Plain). e.seq ≤ u.last) (sym h.is) (a.upto e k);
+  one = a.one;
+  reads = λ k q r. (let old : IsReadable s q = subst (λ (u : Plain). IsReadable u q) h.is r in gather_same H s t l.books (l.meaning y) y h k q ∙ a.reads k q old);
+}
 step_agrees H y s Spend t es l h a = subst (λ (u : Plain). Agrees u es) (sym h.2) record { upto = a.upto; one = a.one; reads = a.reads }
 step_agrees H y s Nothing t es l h a = subst (λ (u : Plain). Agrees u es) (sym h) a
 
@@ -179,6 +182,7 @@ ingested_step (Reserve plan job) events es = refl
 ingested_step (Cancel ticket) events es = refl
 ingested_step (Draw ticket) events es = refl
 ingested_step (Install ticket) events es = refl
+ingested_step Gather events es = refl
 ingested_step Spend events es = refl
 ingested_step Nothing events es = refl
 

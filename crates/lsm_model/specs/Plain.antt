@@ -1,14 +1,14 @@
 -- The store as a plain machine: what it holds, and what each of its events makes of that (levels
 -- and snapshots of LevelDB's `doc/impl.md`; several compactions at a time are this project's).
 use Rattle.std.specs.Prelude.{◌≡◌, ℕ, suc, ◌<◌, ◌≤◌, List, [], ◌∷◌, ◌++◌, ◌⊎◌, ◌==◌, not, map}
-use Rattle.std.specs.Prelude.{if◌then◌else◌}
-use Rattle.std.specs.List.{filter}
+use Rattle.std.specs.Prelude.{Bool, false, if◌then◌else◌, ◌↔◌}
+use Rattle.std.specs.List.{filter, list_any}
 use Rattle.lsm_codec.specs.Lists.{Has}
 use Rattle.lsm_codec.specs.Entries.{Entry}
 use Rattle.lsm_model.specs.Files.{File, all_entries, Fits}
 use Rattle.lsm_model.specs.Kept.{kept_entries}
 use Rattle.lsm_model.specs.Streams.{IsMerge, IsCut, NumbersRise}
-use Rattle.lsm_model.specs.Jobs.{Job, Changed, Conflicts, IsMove}
+use Rattle.lsm_model.specs.Jobs.{Job, Changed, Conflicts, IsMove, is_input}
 use Rattle.lsm_model.specs.Plans.{Plan, IsClosed, IsJobOf}
 
 -- a live job, with the numbers that were drawn for its outputs
@@ -130,6 +130,31 @@ pub record Installs (Honest : Type 0) (s : Plain) (ticket : ℕ) (t : Plain) : T
   pub files : List File
   pub is : t ≡ record s { files = files; live = without_job ticket s.live }
   pub changed : Changed s.files one.job outs files
+
+-- a file of these by its number
+abbrev pub is_among : List File → File → Bool
+is_among gone F = list_any (λ G. G.number == F.number) gone
+
+-- The newest files of level 0 become one, with all their entries, under a number that was free
+-- (this project's rule). No live job has one of them as an input.
+pub record Gathers (Honest : Type 0) (s t : Plain) : Type 0 where
+  pub gone : List File
+  pub file : File
+  pub files : List File
+  pub next : ℕ
+  pub is : t ≡ record s { files = files; next = next }
+  pub were : (F : File) → Has gone F → Has s.files F × (F.level ≡ 0)
+  pub newest : (F G : File) → Has s.files F → F.level ≡ 0 → is_among gone F ≡ false → Has gone G
+      → F.number < G.number
+  pub unused : (a : Live) (F : File) → Has s.live a → Has gone F → is_input a.job F ≡ false
+  pub level : file.level ≡ 0
+  pub fits : Fits file
+  pub entries : Honest → (e : Entry) → Has file.entries e ↔ Has (all_entries gone) e
+  pub drawn : s.next ≤ file.number
+  pub passed : file.number < next
+  pub from : (F : File) → Has files F → (file ≡ F) ⊎ (Has s.files F × (is_among gone F ≡ false))
+  pub stays : (F : File) → Has s.files F → is_among gone F ≡ false → Has files F
+  pub added : Has files file
 
 -- a refused call may spend file numbers
 abbrev pub Spends : Plain → Plain → Type 0

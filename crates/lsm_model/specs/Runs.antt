@@ -6,8 +6,8 @@ use Rattle.lsm_codec.specs.Entries.{Entry, answer}
 use Rattle.lsm_model.specs.Files.{OneEach, all_entries}
 use Rattle.lsm_model.specs.Jobs.{Job}
 use Rattle.lsm_model.specs.Plans.{Plan}
-use Rattle.lsm_model.specs.Plain.{Cancels, Draws, Ingests, Installs, IsReadable, Plain, Releases}
-use Rattle.lsm_model.specs.Plain.{Reserves, Spends, TakesSnapshot}
+use Rattle.lsm_model.specs.Plain.{Cancels, Draws, Gathers, Ingests, Installs, IsReadable, Plain}
+use Rattle.lsm_model.specs.Plain.{Releases, Reserves, Spends, TakesSnapshot}
 
 pub data Event : Type 0 where
   Ingest : (entries : List Entry) → Event
@@ -17,6 +17,7 @@ pub data Event : Type 0 where
   Cancel : (ticket : ℕ) → Event
   Draw : (ticket : ℕ) → Event
   Install : (ticket : ℕ) → Event
+  Gather : Event
   Spend : Event
   -- a read, a collect, or a refused call
   Nothing : Event
@@ -29,6 +30,7 @@ Step honest s (Reserve plan job) t = Reserves honest s plan job t
 Step honest s (Cancel ticket) t = Cancels s ticket t
 Step honest s (Draw ticket) t = Draws s ticket t
 Step honest s (Install ticket) t = Installs honest s ticket t
+Step honest s Gather t = Gathers honest s t
 Step honest s Spend t = Spends s t
 Step honest s Nothing t = t ≡ s
 
@@ -46,6 +48,7 @@ ingested (Reserve plan job ∷ events) es = ingested events es
 ingested (Cancel ticket ∷ events) es = ingested events es
 ingested (Draw ticket ∷ events) es = ingested events es
 ingested (Install ticket ∷ events) es = ingested events es
+ingested (Gather ∷ events) es = ingested events es
 ingested (Spend ∷ events) es = ingested events es
 ingested (Nothing ∷ events) es = ingested events es
 

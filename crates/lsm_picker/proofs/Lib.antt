@@ -7,4 +7,5 @@ pub mod Opening
 pub mod Scoring
 pub mod Choosing
 pub mod Ranges
-pub mod JoiningLaws
+pub mod FirstLaws
+pub mod GatheringLaws

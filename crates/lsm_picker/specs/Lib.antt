@@ -6,6 +6,7 @@ pub mod Choice
 pub mod Moves
 pub mod RangesBelow
 pub mod PlanFault
+pub mod Gathering
 pub mod Joining
 pub mod Manual
 -- What private functions and proofs cite alone

@@ -1,10 +1,15 @@
 -- What a compaction of a range of keys has to clear (LevelDB's `CompactRange`).
-use Rattle.std.specs.Prelude.{◌≡◌, ℕ, ◌<◌, ◌≤◌, ◌⊎◌, min, [], Option, Some, None}
+use Rattle.std.specs.Prelude.{◌≡◌, ℕ, ◌<◌, ◌≤◌, ◌⊎◌, min, [], Option, Some, None, slice_get}
 use Rattle.lsm_codec.specs.Keys.{UserKey, UserLe}
 use Rattle.lsm_codec.specs.Lists.{Has}
 use Rattle.lsm_table.specs.Registry.{Table}
 use Rattle.lsm_version.specs.Versions.{Levels, level_in, user_of}
-use Rattle.lsm_picker.specs.Joining.{Span, first_over}
+use Rattle.lsm_picker.specs.Joining.{Span}
+use Rattle.lsm_picker.specs.TablePlans.{tables_over}
+
+-- the level's first file that meets the range
+abbrev pub first_over : Levels → ℕ → UserKey → UserKey → Option Table
+first_over v level from to = slice_get (tables_over v level from to) 0
 
 -- the key; where there is none, the least one, which is empty
 abbrev pub first_key : Option UserKey → UserKey

@@ -29,7 +29,7 @@ fn compare_keys(a: &[u8], b: &[u8]) -> Ordering
 }
 
 /// Whether a table's largest key is beyond the compaction pointer of a level, or there is none.
-pub(crate) fn is_beyond<N: Naming, S: Shelf>(
+fn is_beyond<N: Naming, S: Shelf>(
     registry: &Registry<N, S>,
     version: &Version<N, S>,
     level: u8,

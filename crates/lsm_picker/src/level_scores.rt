@@ -10,7 +10,7 @@ use lsm_table::{Naming, Registry, Shelf, TableReceipt, TableRef};
 use lsm_version::Version;
 
 /// How many of the tables are inputs of no live job.
-fn free_count<N: Naming, S: Shelf>(
+pub(crate) fn free_count<N: Naming, S: Shelf>(
     registry: &Registry<N, S>,
     tables: &[TableRef<N, S>],
     reservations: &[Reservation],

@@ -21,9 +21,10 @@ mod move_rule;
 mod plan_maker;
 
 // Which plan: by the scores of levels, by a range that is asked for, or by small files that are
-// joined.
+// joined; and which files of level 0 become one.
 mod candidates;
 mod choice;
+mod gathering;
 mod joining;
 mod level_scores;
 mod manual;
@@ -36,6 +37,7 @@ pub mod laws;
 pub use choice::choose;
 pub use conflicts::conflict;
 pub use deep_ranges::ranges_below;
+pub use gathering::{level_zero_is_ready, to_gather};
 pub use joining::span_to_join;
 pub use level_scores::scores;
 pub use manual::{is_cleared, span_to_clear};

@@ -1,14 +1,13 @@
 //! What a compaction of a range of keys has to clear (LevelDB's `CompactRange`).
 
-ghost use Rattle.std.specs.Prelude.{◌≡◌, ◌≤◌, ◌↔◌, IsTrue, MatchOption};
+ghost use Rattle.std.specs.Prelude.{◌≡◌, ◌≤◌, ◌↔◌, IsTrue, MatchOption, None, Some};
 ghost use Rattle.lsm_picker.specs.Manual.{IsCleared, IsDeepest, IsLastKey, IsToClear};
-ghost use Rattle.lsm_picker.specs.Manual.{IsUnmet, first_key};
+ghost use Rattle.lsm_picker.specs.Manual.{IsUnmet, first_key, first_over};
 
-use crate::joining::first_over;
 use crate::span::Span;
-use crate::table_range::highest;
+use crate::table_range::{highest, meets};
 use lsm_codec::Bytes;
-use lsm_table::{Naming, Registry, Shelf};
+use lsm_table::{Naming, Registry, Shelf, TableRef};
 use lsm_version::Version;
 
 /// The key; where there is none, the least one.
@@ -33,6 +32,26 @@ fn last_key<'a, N: Naming, S: Shelf>(
         last = highest(registry, version.level(level), last);
     }
     last
+}
+
+/// The first file of a level that meets a range.
+fn first_over<'a, N: Naming, S: Shelf>(
+    registry: &Registry<N, S>,
+    version: &'a Version<N, S>,
+    level: u8,
+    from: &[u8],
+    to: &[u8],
+) -> Option<&'a TableRef<N, S>>
+    requires level { level ≤ 6 }
+    ensures { MatchOption result (first_over version.now level from.now to.now ≡ None) (λ t.
+        first_over version.now level from.now to.now ≡ Some t.now) }
+{
+    for table in version.level(usize::from(level)) {
+        if meets(registry, table, from, to) {
+            return Some(table);
+        }
+    }
+    None
 }
 
 /// The deepest level of which a file meets a range; none where no file does.

@@ -13,7 +13,7 @@ use lsm_table::{Naming, Registry, Shelf, TableReceipt, TableRef};
 use lsm_version::Version;
 
 /// The bytes of the tables that meet a range.
-pub(crate) fn bytes_over<N: Naming, S: Shelf>(
+fn bytes_over<N: Naming, S: Shelf>(
     registry: &Registry<N, S>,
     tables: &[TableRef<N, S>],
     from: &[u8],

@@ -15,7 +15,8 @@ use Rattle.lsm_iterators.specs.Seeking.{IsReached, at_or_past}
 use Rattle.lsm_version.specs.Reads.{IsFirstReaching, IsSoundLevel, reaches}
 use Rattle.lsm_version.specs.Versions.{IsWhole, file_of, user_of}
 use Rattle.lsm_version.proofs.CallerLemmas.{EachAfter, each_after, has_at, has_files, sound_part, table_fits}
-use Rattle.lsm_query.specs.Runs.{AddsRun, AreInRow, entries_after, once, run_of}
+use Rattle.lsm_iterators.specs.Runs.{once}
+use Rattle.lsm_query.specs.Runs.{AddsRun, AreInRow, entries_after, run_of}
 use Rattle.lsm_query.proofs.RunLaws.{after_has, follows_from, has_after, once_file, once_part, once_sorted}
 
 -- ---- a row without its first tables
@@ -146,3 +147,8 @@ one_in_row t w = (
     no_less : (F G : File) → 1 ≡ F.level → 1 ≡ G.level → Shallower F G → ⊥
     no_less F G a b (inl lt) = absurd (omega arith)
     no_less F G a b (inr o) = (let e = o.0 in absurd (omega arith))
+
+-- no table is left of those that are left
+pub once_none : (ts : List Table) → once None ts ≡ [] → ts ≡ []
+once_none [] none = refl
+once_none (t ∷ ts) none = absurd (cc none)

@@ -1,7 +1,8 @@
 -- The sources of a merge of all levels.
-use Rattle.std.proofs.Common.{◌≡◌, ℕ, zero, suc, ◌+◌, ◌<◌, ◌≤◌, ◌==◌, Bool, true, false, cond, List, [], ◌∷◌, ◌++◌, length, get_or, take, drop, Option, Some, None, refl, sym, ◌∙◌, ap, subst, inl, inr, arith, append_assoc, append-nil}
+use Rattle.std.proofs.Common.{◌≡◌, ℕ, zero, suc, ◌+◌, ◌<◌, ◌≤◌, ◌==◌, Bool, true, false, cond, List, [], ◌∷◌, ◌++◌, length, get_or, take, drop, Option, Some, None, refl, sym, ◌∙◌, ap, subst, inl, inr, arith, append-nil}
 use Rattle.std.specs.Prelude.{◌⊎◌}
 use Rattle.std.proofs.lemmas.Bool.{cases_eq, eqb-true, eqb-false}
+use Rattle.std.proofs.lemmas.List.{take_all}
 use Rattle.lsm_codec.specs.Lists.{Has}
 use Rattle.lsm_codec.specs.Entries.{Entry}
 use Rattle.lsm_codec.specs.Keys.{UserKey}
@@ -13,7 +14,8 @@ use Rattle.lsm_model.specs.Merging.{Placed, placed_at, goes_first, IsSorted, IsO
 use Rattle.lsm_model.proofs.CallerLemmas.{ascending_sorted, sorted_ordered, before_not_first}
 use Rattle.lsm_query.specs.Depths.{newer_count, depth_of}
 use Rattle.lsm_version.specs.Reads.{IsSoundLevel}
-use Rattle.lsm_query.specs.Runs.{AddsRun, AreRunsFrom, AreRunsOf, IsAbove, is_number, once, entries_after, run_of}
+use Rattle.lsm_iterators.specs.Runs.{is_number, once}
+use Rattle.lsm_query.specs.Runs.{AddsRun, AreRunsFrom, AreRunsOf, IsAbove, entries_after, run_of}
 use Rattle.lsm_version.specs.Versions.{IsWhole, file_of, files_of, files_from, level_in}
 use Rattle.lsm_version.proofs.CallerLemmas.{files_has, has_files, file_in, inside, of_level, each_after, ahead_or_same, files_push, push_left, push_last, took, sound_part}
 use Rattle.lsm_iterators.proofs.CallerLemmas.{least}
@@ -139,18 +141,15 @@ once_sorted n last (t ∷ ts) f w = go (is_number last t.number) (once_sorted n 
     go true skip on = skip
     go false skip on = sorted_append (entries_in t.image) (entries_after (once (Some t.number) ts)) (table_sorted t (w t (inl refl))) on across
 
--- ---- one table more that stands once
+-- ---- tables at a place in a level
 
-pub drop_at : {X : Type 0} (xs : List X) (i : ℕ) (x : X) → i < length xs → x ≡ get_or xs i x → drop i xs ≡ x ∷ drop (i + 1) xs
-drop_at [] i x lt is = absurd (omega arith)
-drop_at (y ∷ xs) zero x lt is = ap (λ z. z ∷ xs) (sym is)
-drop_at (y ∷ xs) (suc i) x lt is = let there : suc (i + 1) ≡ suc i + 1 = omega arith in drop_at xs i x (omega arith) is ∙ ap (λ (n : ℕ). x ∷ drop n (y ∷ xs)) there
+pub one_at : (ts : List Table) (i : ℕ) (t : Table) → i < length ts → t ≡ get_or ts i t → drop i (take (i + 1) ts) ≡ t ∷ []
+one_at [] i t lt is = absurd (omega arith)
+one_at (u ∷ ts) zero t lt is = ap (λ (x : Table). x ∷ []) (sym is)
+one_at (u ∷ ts) (suc i) t lt is = let there : suc (i + 1) ≡ suc i + 1 = omega arith in ap (λ (n : ℕ). drop (suc i) (take n (u ∷ ts))) (sym there) ∙ one_at ts i t (omega arith) is
 
-pub once_push : (out : List Table) (last : Option ℕ) (t : Table) (ts : List Table) → is_number last t.number ≡ false → (out ++ t ∷ []) ++ once (Some t.number) ts ≡ out ++ once last (t ∷ ts)
-once_push out last t ts e = append_assoc out (t ∷ []) (once (Some t.number) ts) ∙ ap (λ (b : Bool). out ++ cond b (once last ts) (t ∷ once (Some t.number) ts)) (sym e)
-
-pub once_skip : (last : Option ℕ) (t : Table) (ts : List Table) → is_number last t.number ≡ true → once last ts ≡ once last (t ∷ ts)
-once_skip last t ts e = ap (λ (b : Bool). cond b (once last ts) (t ∷ once (Some t.number) ts)) (sym e)
+pub whole_at : (ts : List Table) → drop 0 (take (length ts) ts) ≡ ts
+whole_at ts = take_all (length ts) ts (omega arith)
 
 -- the file of a table that stands once
 pub once_file : (n : ℕ) (ts : List Table) (F : File) → IsSoundLevel n ts → Has (files_of n ts) F → (v : Table) × Has (once None ts) v × (file_of n v ≡ F)

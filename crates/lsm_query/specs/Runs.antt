@@ -1,8 +1,7 @@
 -- The sources of a merge of all levels: each table of level 0 by itself, and the tables of a deeper
 -- level one after another (LevelDB's `doc/impl.md`, "Levels": the files of a level from 1 on lie in
 -- order).
-use Rattle.std.specs.Prelude.{◌≡◌, ◌⊎◌, ℕ, ◌<◌, ◌≤◌, ◌==◌, Bool, false, cond, List, [], ◌∷◌, ◌++◌}
-use Rattle.std.specs.Prelude.{Option, Some, None, map}
+use Rattle.std.specs.Prelude.{◌≡◌, ◌⊎◌, ℕ, ◌<◌, ◌≤◌, List, [], ◌∷◌, ◌++◌, map}
 use Rattle.std.specs.List.{flat_map}
 use Rattle.lsm_codec.specs.Lists.{Has}
 use Rattle.lsm_codec.specs.Keys.{UserKey, UserLe}
@@ -83,15 +82,6 @@ pub record AddsRun (user : UserKey) (depth : ℕ) (ts : List Table) (old new : L
 -- a file of a level below k
 abbrev pub IsAbove : ℕ → List (List Table) → File → Type 0
 IsAbove k levels X = (n : ℕ) × (n < k) × Has (files_of n (level_in levels n)) X
-
-abbrev pub is_number : Option ℕ → ℕ → Bool
-is_number None n = false
-is_number (Some own) n = own == n
-
--- tables without those that follow one of their number
-abbrev pub once : Option ℕ → List Table → List Table
-once last [] = []
-once last (t ∷ ts) = cond (is_number last t.number) (once last ts) (t ∷ once (Some t.number) ts)
 
 -- the entries of tables one after another
 abbrev pub entries_after : List Table → List Entry

@@ -11,12 +11,11 @@ mod reads;
 
 // Merges of all levels.
 mod depths;
-mod once;
 mod runs;
 mod scans;
 mod unread;
 
-pub use lsm_iterators::{FileFault, Merger, Pair, Run, Scan, against_age};
+pub use lsm_iterators::{FileFault, Merger, Pair, Row, Run, Scan, SharedLevels, against_age};
 pub use lsm_reader::{Blocks, Direct, OpenTable};
 pub use reads::{get, get_by};
 pub use runs::open_runs;

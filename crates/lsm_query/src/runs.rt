@@ -1,6 +1,6 @@
 //! The sources of a merge of all levels.
 
-ghost use Rattle.std.specs.Prelude.{◌≡◌, length, map, IfOk, IfErr, OnOk};
+ghost use Rattle.std.specs.Prelude.{◌≡◌, ◌<◌, length, map, IfOk, IfErr, OnOk};
 ghost use Rattle.std.specs.List.{flat_map};
 ghost use Rattle.lsm_codec.specs.Lists.{Has};
 ghost use Rattle.lsm_table.specs.ReadFault.{IsMemoryOrShelf, ReadCounted};
@@ -12,11 +12,10 @@ ghost use Rattle.lsm_query.specs.Runs.{AreRunsFrom, AreRunsOf, IsNumberIn, IsNum
 ghost use Rattle.lsm_version.specs.Versions.{AreWhole, files_from, files_of, level_in};
 
 use crate::depths::{ascending_numbers, newer_count};
-use crate::once::each_once;
 use crate::unread::Unread;
-use lsm_iterators::Run;
+use lsm_iterators::{Row, Run, SharedLevels};
 use lsm_reader::Blocks;
-use lsm_table::{Naming, Registry, Shelf, TableRef};
+use lsm_table::{Naming, Shelf};
 use lsm_version::first_reaching;
 use std::alloc::Global;
 
@@ -25,17 +24,16 @@ use std::alloc::Global;
 fn open_row<N: Naming, S: Shelf, B: Blocks<N, S>>(
     blocks: &mut B,
     alloc: Global,
-    registry: &Registry<N, S>,
     depth: u64,
-    row: &[TableRef<N, S>],
+    row: Row<N, S>,
     from: &[u8],
     runs: &mut Vec<Run<N, S>>,
 ) -> Result<(), Unread>
-    requires row { S.honest → AreInRow row.now }
-    ensures files { OnOk result (AddsNamed (IsNumberOf row.now)
+    requires row { S.honest → AreInRow row }
+    ensures files { OnOk result (AddsNamed (IsNumberOf row)
         (flat_map (λ r. r.files) runs.old.items) (flat_map (λ r. r.files) runs.new.items)) }
-    ensures number { IfErr result (λ e. NamesOne (IsNumberOf row.now) e.file e.fault) }
-    ensures run { S.honest → OnOk result (AddsRun from.now depth row.now
+    ensures number { IfErr result (λ e. NamesOne (IsNumberOf row) e.file e.fault) }
+    ensures run { S.honest → OnOk result (AddsRun from.now depth row
         (map (λ r. r.placed) runs.old.items) (map (λ r. r.placed) runs.new.items)) }
     ensures sound { S.honest → IfErr result (λ e. IsMemoryOrShelf e.fault) }
     ensures told { Becomes (B.told blocks.old) (B.told blocks.new) }
@@ -45,13 +43,13 @@ fn open_row<N: Naming, S: Shelf, B: Blocks<N, S>>(
     ensures refused { IfErr result (λ e.
         IsOfFile (IsReadRefusal (S.refuses N.place)) e.file e.fault) }
 {
-    let first = first_reaching(registry, row, from);
-    let rest = &row[first..];
-    let tables = each_once(alloc, registry, rest)?;
-    if tables.is_empty() {
+    let mut row = row;
+    let first = first_reaching(row.registry(), row.tables(), from);
+    row.skip(first);
+    if row.tables().is_empty() {
         return Ok(());
     }
-    let run = Run::over_from(blocks, alloc, depth, registry, tables.as_slice(), from)?;
+    let run = Run::over_from(blocks, alloc, depth, row, from)?;
     runs.push(run)?;
     Ok(())
 }
@@ -61,16 +59,17 @@ fn open_row<N: Naming, S: Shelf, B: Blocks<N, S>>(
 fn open_shallow<N: Naming, S: Shelf, B: Blocks<N, S>>(
     blocks: &mut B,
     alloc: Global,
-    registry: &Registry<N, S>,
-    level: &[TableRef<N, S>],
+    levels: &SharedLevels<N, S>,
     from: &[u8],
 ) -> Result<Vec<Run<N, S>>, Unread>
-    requires whole { S.honest → AreWhole level.now }
-    ensures runs { S.honest → IfOk result (λ v. AreRunsFrom from.now level.now
-        (Has (files_of 0 level.now)) (map (λ r. r.placed) v.items)) }
+    requires some { 0 < length levels.now }
+    requires whole { S.honest → AreWhole (level_in levels.now 0) }
+    ensures runs { S.honest → IfOk result (λ v. AreRunsFrom from.now (level_in levels.now 0)
+        (Has (files_of 0 (level_in levels.now 0))) (map (λ r. r.placed) v.items)) }
     ensures files { IfOk result (λ v.
-        AreNamed (IsNumberOf level.now) (flat_map (λ r. r.files) v.items)) }
-    ensures number { IfErr result (λ e. NamesOne (IsNumberOf level.now) e.file e.fault) }
+        AreNamed (IsNumberOf (level_in levels.now 0)) (flat_map (λ r. r.files) v.items)) }
+    ensures number { IfErr result (λ e.
+        NamesOne (IsNumberOf (level_in levels.now 0)) e.file e.fault) }
     ensures sound { S.honest → IfErr result (λ e. IsMemoryOrShelf e.fault) }
     ensures told { Becomes (B.told blocks.old) (B.told blocks.new) }
     ensures loan { B.loan blocks.new ≡ B.loan blocks.old }
@@ -79,12 +78,14 @@ fn open_shallow<N: Naming, S: Shelf, B: Blocks<N, S>>(
     ensures refused { IfErr result (λ e.
         IsOfFile (IsReadRefusal (S.refuses N.place)) e.file e.fault) }
 {
-    let numbers = ascending_numbers(alloc, registry, level)?;
+    let level = levels.level(0);
+    let numbers = ascending_numbers(alloc, levels.registry(), level)?;
     let mut runs = Vec::new(alloc);
-    for table in level {
-        let depth = newer_count(numbers.as_slice(), registry.record(table).number());
-        let one = [table.again()];
-        open_row(blocks, alloc, registry, depth, &one, from, &mut runs)?;
+    for (index, table) in level.iter().enumerate() {
+        let number = levels.registry().record(table).number();
+        let depth = newer_count(numbers.as_slice(), number);
+        let row = Row::of(levels, 0, index, index + 1)?;
+        open_row(blocks, alloc, depth, row, from, &mut runs)?;
     }
     Ok(runs)
 }
@@ -95,19 +96,16 @@ fn open_shallow<N: Naming, S: Shelf, B: Blocks<N, S>>(
 pub(crate) fn open_runs_from<N: Naming, S: Shelf, B: Blocks<N, S>>(
     blocks: &mut B,
     alloc: Global,
-    registry: &Registry<N, S>,
-    levels: &[Vec<TableRef<N, S>>],
+    levels: &SharedLevels<N, S>,
     from: &[u8],
 ) -> Result<Vec<Run<N, S>>, Unread>
     requires seven { length levels.now ≡ 7 }
-    requires mergeable { S.honest → AreMergeable (map (λ l. l.items) levels.now) }
-    ensures runs { S.honest → IfOk result (λ v.
-        AreRunsFrom from.now (level_in (map (λ l. l.items) levels.now) 0)
-        (Has (files_from 0 (map (λ l. l.items) levels.now))) (map (λ r. r.placed) v.items)) }
+    requires mergeable { S.honest → AreMergeable levels.now }
+    ensures runs { S.honest → IfOk result (λ v. AreRunsFrom from.now (level_in levels.now 0)
+        (Has (files_from 0 levels.now)) (map (λ r. r.placed) v.items)) }
     ensures files { IfOk result (λ v.
-        AreNamed (IsNumberIn (map (λ l. l.items) levels.now)) (flat_map (λ r. r.files) v.items)) }
-    ensures number { IfErr result (λ e.
-        NamesOne (IsNumberIn (map (λ l. l.items) levels.now)) e.file e.fault) }
+        AreNamed (IsNumberIn levels.now) (flat_map (λ r. r.files) v.items)) }
+    ensures number { IfErr result (λ e. NamesOne (IsNumberIn levels.now) e.file e.fault) }
     ensures sound { S.honest → IfErr result (λ e. IsMemoryOrShelf e.fault) }
     ensures told { Becomes (B.told blocks.old) (B.told blocks.new) }
     ensures loan { B.loan blocks.new ≡ B.loan blocks.old }
@@ -116,12 +114,12 @@ pub(crate) fn open_runs_from<N: Naming, S: Shelf, B: Blocks<N, S>>(
     ensures refused { IfErr result (λ e.
         IsOfFile (IsReadRefusal (S.refuses N.place)) e.file e.fault) }
 {
-    let shallow = levels[0].as_slice();
-    let mut runs = open_shallow(blocks, alloc, registry, shallow, from)?;
-    for number in 1..levels.len() {
-        let depth = shallow.len() as u64 + number as u64;
-        let level = levels[number].as_slice();
-        open_row(blocks, alloc, registry, depth, level, from, &mut runs)?;
+    let mut runs = open_shallow(blocks, alloc, levels, from)?;
+    let shallow = levels.level(0).len();
+    for number in 1..levels.count() {
+        let depth = shallow as u64 + number as u64;
+        let row = Row::of(levels, number, 0, levels.level(number).len())?;
+        open_row(blocks, alloc, depth, row, from, &mut runs)?;
     }
     Ok(runs)
 }
@@ -132,17 +130,15 @@ pub(crate) fn open_runs_from<N: Naming, S: Shelf, B: Blocks<N, S>>(
 pub fn open_runs<N: Naming, S: Shelf, B: Blocks<N, S>>(
     blocks: &mut B,
     alloc: Global,
-    registry: &Registry<N, S>,
-    levels: &[Vec<TableRef<N, S>>],
+    levels: &SharedLevels<N, S>,
 ) -> Result<Vec<Run<N, S>>, Unread>
     requires seven { length levels.now ≡ 7 }
-    requires mergeable { S.honest → AreMergeable (map (λ l. l.items) levels.now) }
-    ensures runs { S.honest → IfOk result (λ v. AreRunsOf (level_in (map (λ l. l.items) levels.now)
-        0) (Has (files_from 0 (map (λ l. l.items) levels.now))) (map (λ r. r.placed) v.items)) }
+    requires mergeable { S.honest → AreMergeable levels.now }
+    ensures runs { S.honest → IfOk result (λ v. AreRunsOf (level_in levels.now 0)
+        (Has (files_from 0 levels.now)) (map (λ r. r.placed) v.items)) }
     ensures files { IfOk result (λ v.
-        AreNamed (IsNumberIn (map (λ l. l.items) levels.now)) (flat_map (λ r. r.files) v.items)) }
-    ensures number { IfErr result (λ e.
-        NamesOne (IsNumberIn (map (λ l. l.items) levels.now)) e.file e.fault) }
+        AreNamed (IsNumberIn levels.now) (flat_map (λ r. r.files) v.items)) }
+    ensures number { IfErr result (λ e. NamesOne (IsNumberIn levels.now) e.file e.fault) }
     ensures sound { S.honest → IfErr result (λ e. IsMemoryOrShelf e.fault) }
     ensures told { Becomes (B.told blocks.old) (B.told blocks.new) }
     ensures loan { B.loan blocks.new ≡ B.loan blocks.old }
@@ -151,5 +147,5 @@ pub fn open_runs<N: Naming, S: Shelf, B: Blocks<N, S>>(
     ensures refused { IfErr result (λ e.
         IsOfFile (IsReadRefusal (S.refuses N.place)) e.file e.fault) }
 {
-    open_runs_from(blocks, alloc, registry, levels, &[])
+    open_runs_from(blocks, alloc, levels, &[])
 }

@@ -10,11 +10,12 @@ ghost use Rattle.lsm_iterators.specs.Seeking.{at_or_past};
 ghost use Rattle.lsm_version.specs.Versions.{files};
 
 use crate::runs::open_runs_from;
-use lsm_iterators::{Merger, Scan};
+use lsm_iterators::{Merger, Scan, SharedLevels};
 use lsm_reader::{Blocks, Direct};
 use lsm_table::{NamedShelf, Naming, ReadFault, Shelf};
 use lsm_version::Version;
-use std::alloc::Global;
+use std::alloc::{AllocError, Global};
+use std::sync::Arc;
 
 /// A scan of the version at a sequence: each user key that has an answer, with it, ascending.
 /// It takes the blocks of tables from `blocks`, as each call of the scan does that goes on, and
@@ -60,6 +61,15 @@ pub fn scan<N: Naming, S: Shelf>(
     scan_by(version, &mut direct, alloc, seq)
 }
 
+/// The levels of a version, to be shared with it.
+fn levels_of<N: Naming, S: Shelf>(version: &Version<N, S>) -> Result<SharedLevels<N, S>, AllocError>
+    ensures { IfOk result (λ l. l ≡ version.now.tables) }
+{
+    let registry = Arc::try_clone(version.shared_registry())?;
+    let levels = Arc::try_clone(version.shared_levels())?;
+    Ok(SharedLevels::of(registry, levels))
+}
+
 /// The same of the user keys alone that are at or past `from`, at which the scan begins. Of each
 /// table of level 0 that reaches it, and of the first such table of each deeper level, it takes the
 /// footer, the index block and one data block.
@@ -79,8 +89,10 @@ pub fn scan_from_by<N: Naming, S: Shelf, B: Blocks<N, S>>(
     ensures cause { IfErr result (λ e. ReadCounted e (B.told blocks.old) (B.told blocks.new)) }
     ensures refused { IfErr result (IsSomeReadRefusal (S.refuses N.place)) }
 {
-    let levels = version.levels();
-    let runs = match open_runs_from(blocks, alloc, version.registry(), levels, from) {
+    // What holds of every version is told by this call.
+    let _last = version.last();
+    let levels = levels_of(version)?;
+    let runs = match open_runs_from(blocks, alloc, &levels, from) {
         Ok(runs) => runs,
         Err(unread) => return Err(unread.fault),
     };

@@ -16,10 +16,14 @@ use std::marker::{Model, PhantomData};
 use std::num::NonZeroUsize;
 use std::sync::Arc;
 
+/// How many open tables a cache keeps at most: as many as LevelDB keeps files open
+/// (`max_open_files` of its `include/leveldb/options.h`).
+pub const MAX_OPEN_TABLES: usize = 1000;
+
 /// Gives index blocks and blocks from those that were used last, and else by a shelf of its own. It
-/// keeps so many open tables at most, each with its index block, and so many blocks that were asked
-/// for by their places: data blocks push out no table. An open table is found by its number, and
-/// its footer is not read again. Contracts see it as its shelf.
+/// keeps `MAX_OPEN_TABLES` open tables at most, each with its index block, and so many blocks that
+/// were asked for by their places as it was made for: data blocks push out no table. An open table
+/// is found by its number, and its footer is not read again. Contracts see it as its shelf.
 pub struct Cached<N: Naming, S: Shelf> {
     shelf: NamedShelf<N, S>,
     tables: LruCache<u64, OpenTable<N, S>>,
@@ -46,8 +50,8 @@ impl<N: Naming, S: Shelf> Model for Cached<N, S> {
 }
 
 impl<N: Naming, S: Shelf> Cached<N, S> {
-    /// An empty cache of so many open tables, and of as many blocks, over this shelf. `AllocError`
-    /// where a growth was refused.
+    /// An empty cache of so many blocks over this shelf. It asks for the memory of an open table
+    /// when that comes. `AllocError` where a growth was refused.
     pub fn new(
         alloc: Global,
         shelf: NamedShelf<N, S>,
@@ -55,8 +59,11 @@ impl<N: Naming, S: Shelf> Cached<N, S> {
     ) -> Result<Cached<N, S>, AllocError>
         ensures { IfOk result (λ c. c ≡ shelf) }
     {
+        let Some(tables) = NonZeroUsize::new(MAX_OPEN_TABLES) else {
+            unreachable!()
+        };
         Ok(Cached {
-            tables: LruCache::new(alloc, blocks)?,
+            tables: LruCache::sparse(alloc, tables)?,
             blocks: LruCache::new(alloc, blocks)?,
             shelf,
         })

@@ -32,7 +32,7 @@ mod recent;
 
 pub use block_key::BlockKey;
 pub use blocks::Blocks;
-pub use cached::Cached;
+pub use cached::{Cached, MAX_OPEN_TABLES};
 pub use direct::Direct;
 pub use judging::{footer_from, is_inside, judge};
 pub use kept_block::KeptBlock;

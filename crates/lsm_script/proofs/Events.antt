@@ -2,7 +2,7 @@
 use Rattle.std.proofs.Common.{◌≡◌, ℕ, suc, ◌+◌, ◌≤◌, Bool, true, false, cond, List, [], ◌∷◌, ◌++◌, refl, sym, ◌∙◌, ap, subst, inl, inr, arith}
 use Rattle.lsm_codec.specs.Entries.{Entry}
 use Rattle.lsm_model.specs.Plain.{Plain}
-use Rattle.lsm_model.specs.Runs.{Event, Ingest, Snapshot, Release, Reserve, Cancel, Draw, Install, Spend, Nothing, Run, ingested}
+use Rattle.lsm_model.specs.Runs.{Event, Ingest, Snapshot, Release, Reserve, Cancel, Draw, Install, Gather, Spend, Nothing, Run, ingested}
 use Rattle.lsm_shelf.specs.Told.{Told}
 use Rattle.lsm_version.specs.Versions.{files}
 use Rattle.lsm_batch.specs.declared.write.Write.{Write}
@@ -36,6 +36,7 @@ ingested_append (Reserve plan job ∷ es) fs xs = ingested_append es fs xs
 ingested_append (Cancel ticket ∷ es) fs xs = ingested_append es fs xs
 ingested_append (Draw ticket ∷ es) fs xs = ingested_append es fs xs
 ingested_append (Install ticket ∷ es) fs xs = ingested_append es fs xs
+ingested_append (Gather ∷ es) fs xs = ingested_append es fs xs
 ingested_append (Spend ∷ es) fs xs = ingested_append es fs xs
 ingested_append (Nothing ∷ es) fs xs = ingested_append es fs xs
 

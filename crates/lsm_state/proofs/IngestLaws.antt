@@ -187,7 +187,7 @@ comes_in d t last moved added pointer is =
 
 -- ---- what a change asks
 
-level_has : (levels : List (List Table)) (from n : ℕ) (t : Table) → Has (level_in levels n) t → (F : File) × Has (files_from from levels) F × (F.number ≡ t.number)
+pub level_has : (levels : List (List Table)) (from n : ℕ) (t : Table) → Has (level_in levels n) t → (F : File) × Has (files_from from levels) F × (F.number ≡ t.number)
 level_has [] from n t h = absurd h
 level_has (ts ∷ levels) from zero t h = (let r = here ts from t h in (r.0, left (files_of from ts) (files_from (suc from) levels) r.0 r.1, r.2))
   where
@@ -206,7 +206,7 @@ level_has (ts ∷ levels) from (suc n) t h = (let r = level_has levels (suc from
     right [] ys F k = k
     right (z ∷ xs) ys F k = inr (right xs ys F k)
 
-one_apart : (n : ℕ) → AreDistinct (n ∷ [])
+pub one_apart : (n : ℕ) → AreDistinct (n ∷ [])
 one_apart n m = go (n == m)
   where
     go : (b : Bool) → 0 + cond b 1 0 ≤ 1
@@ -324,7 +324,7 @@ refused_put h m y ws e was is welcome sought looked room slots fails =
     )
 
 -- no refused change moves a slot
-slots_stay : (x y : Held) (e : StateFault) (was is : Told) → IsChangeRefusal x y e was is → y.slots ≡ x.slots
+pub slots_stay : (x y : Held) (e : StateFault) (was is : Told) → IsChangeRefusal x y e was is → y.slots ≡ x.slots
 slots_stay x y OutOfMemory was is p = ap (λ (z : Held). z.slots) p.0
 slots_stay x y (Shelf fault) was is p = ap (λ (z : Held). z.slots) p.0
 slots_stay x y (Read fault) was is p = absurd p

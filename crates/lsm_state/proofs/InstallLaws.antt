@@ -51,24 +51,24 @@ FilesChange = (deleted : List ℕ) (added : List (ℕ × Table)) (pointer : Opti
 
 -- ---- lists
 
-moved_has : {X : Type 0} (xs ys : List X) (x : X) → IsPermutation xs ys → Has xs x → Has ys x
+pub moved_has : {X : Type 0} (xs ys : List X) (x : X) → IsPermutation xs ys → Has xs x → Has ys x
 moved_has xs ys x p h = contains_says ys x (Contains-permutation xs ys x p (contains_from xs x h))
 
 pub all_from : {X : Type 0} (P : X → Type 0) (xs : List X) → ((x : X) → Has xs x → P x) → All P xs
 all_from P [] each = All-nil P
 all_from P (x ∷ xs) each = All-cons P x xs (each x (inl refl)) (all_from P xs (λ y h. each y (inr h)))
 
-gone_at : (level : ℕ) (ts : List Table) (x : Deletion) → Has (deleted_at level ts) x → (t : Table) × Has ts t × (x.level ≡ level) × (t.number ≡ x.number)
+pub gone_at : (level : ℕ) (ts : List Table) (x : Deletion) → Has (deleted_at level ts) x → (t : Table) × Has ts t × (x.level ≡ level) × (t.number ≡ x.number)
 gone_at level [] x h = absurd h
 gone_at level (t ∷ ts) x (inl e) = (t, inl refl, ap (λ (y : Deletion). y.level) (sym e), ap (λ (y : Deletion). y.number) e)
 gone_at level (t ∷ ts) x (inr h) = (let r = gone_at level ts x h in (r.0, inr r.1, r.2, r.3))
 
-at_gone : (level : ℕ) (ts : List Table) (t : Table) → Has ts t → (x : Deletion) × Has (deleted_at level ts) x × (x.number ≡ t.number)
+pub at_gone : (level : ℕ) (ts : List Table) (t : Table) → Has ts t → (x : Deletion) × Has (deleted_at level ts) x × (x.number ≡ t.number)
 at_gone level [] t h = absurd h
 at_gone level (u ∷ ts) t (inl e) = (record { level = level; number = u.number }, inl refl, ap (λ (y : Table). y.number) e)
 at_gone level (u ∷ ts) t (inr h) = (let r = at_gone level ts t h in (r.0, inr r.1, r.2))
 
-file_table : (level : ℕ) (ts : List Table) (F : File) → Has (files_of level ts) F → (t : Table) × Has ts t × (file_of level t ≡ F)
+pub file_table : (level : ℕ) (ts : List Table) (F : File) → Has (files_of level ts) F → (t : Table) × Has ts t × (file_of level t ≡ F)
 file_table level [] F h = absurd h
 file_table level (t ∷ ts) F (inl e) = (t, inl refl, e)
 file_table level (t ∷ ts) F (inr h) = (let r = file_table level ts F h in (r.0, inr r.1, r.2))
@@ -141,7 +141,7 @@ deleted_from d last c i t h = elim (has_cases d.work.upper d.work.lower t h) [
     go x k e = subst (λ (n : ℕ). Has (deleted_numbers c) n) e (has_map (λ (y : Deletion). y.number) c.deleted x (moved_has (inputs_gone d.work) c.deleted x i.deleted k))
 
 -- the file of an input
-input_file : (w : Work) (t : Table) → Has (w.upper ++ w.lower) t → (F : File) × Has (job_of w).inputs F × (F.number ≡ t.number)
+pub input_file : (w : Work) (t : Table) → Has (w.upper ++ w.lower) t → (F : File) × Has (job_of w).inputs F × (F.number ≡ t.number)
 input_file w t h = elim (has_cases w.upper w.lower t h) [
   | inl up ↦ (file_of w.level t, has_left (files_of w.level w.upper) (files_of (suc w.level) w.lower) (file_of w.level t) (table_file w.level w.upper t up), refl)
   | inr down ↦ (file_of (suc w.level) t, has_right (files_of w.level w.upper) (files_of (suc w.level) w.lower) (file_of (suc w.level) t) (table_file (suc w.level) w.lower t down), refl)
@@ -288,7 +288,7 @@ output_from honest d b drew true m t h = elim (subst (λ (ts : List Table). Has 
 ]
 output_from honest d b drew false m t h = inl (drew t.number (subst (λ (ns : List ℕ). Has ns t.number) m.0 (has_map (λ (u : Table). u.number) d.outputs t h)))
 
-in_files : (tables : List (List Table)) (from n : ℕ) (t : Table) → Has (level_in tables n) t → (F : File) × Has (Rattle.lsm_version.specs.Versions.files_from from tables) F × (F.number ≡ t.number)
+pub in_files : (tables : List (List Table)) (from n : ℕ) (t : Table) → Has (level_in tables n) t → (F : File) × Has (Rattle.lsm_version.specs.Versions.files_from from tables) F × (F.number ≡ t.number)
 in_files [] from n t h = absurd h
 in_files (ts ∷ tables) from zero t h = (file_of from t, has_left (files_of from ts) (Rattle.lsm_version.specs.Versions.files_from (suc from) tables) (file_of from t) (table_file from ts t h), refl)
 in_files (ts ∷ tables) from (suc n) t h = (let r = in_files tables (suc from) n t h in (r.0, has_right (files_of from ts) (Rattle.lsm_version.specs.Versions.files_from (suc from) tables) r.0 r.1, r.2))
@@ -342,7 +342,7 @@ sends_on : (b : Bool) (A B : Type 0) (next after : ℕ) → MatchBool b ((after 
 sends_on true A B next after m = (let e = m.0 in omega arith)
 sends_on false A B next after m = (let e = m.0 in omega arith)
 
-changed_plain : (old new : Held) (c : Difference) (out : Option ℕ) (coming : List Entry) (was is : Told) → ChangesVersion old new c out coming was is → plain new ≡ record (plain_after old c out) { next = new.next }
+pub changed_plain : (old new : Held) (c : Difference) (out : Option ℕ) (coming : List Entry) (was is : Told) → ChangesVersion old new c out coming was is → plain new ≡ record (plain_after old c out) { next = new.next }
 changed_plain old new c out coming was is k =
     let p : Plain = plain_after old c out in
     ap plain k.rest

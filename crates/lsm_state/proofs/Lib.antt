@@ -7,6 +7,7 @@ mod OpenLaws
 pub mod ReserveLaws
 mod ChangeLaws
 mod AskedLaws
+mod GatherLaws
 mod IngestLaws
 mod Inputs
 mod LargestKeys

@@ -15,7 +15,8 @@ use Rattle.lsm_model.specs.Runs.{Reserve}
 use Rattle.lsm_version.specs.FileNumbers.{AreDistinct}
 use Rattle.lsm_version.specs.Versions.{AreInOrder, IsSound, IsWhole, Levels, file_of, files, numbers_in}
 use Rattle.lsm_picker.specs.Choice.{HasNoChoice, IsChoice}
-use Rattle.lsm_picker.specs.Joining.{IsJoined, IsSettled, Span}
+use Rattle.lsm_picker.specs.Gathering as picker
+use Rattle.lsm_picker.specs.Joining.{IsJoined, Span}
 use Rattle.lsm_picker.specs.Reservations.{IsClear, IsLeastConflict, Reserved, conflicts, reserved_of}
 use Rattle.lsm_picker.specs.TablePlans.{IsPlanFrom, StandsIn, TablePlan, files_over, plan_of}
 use Rattle.lsm_picker.specs.TablePlans as planned
@@ -26,7 +27,7 @@ use Rattle.lsm_live.specs.Planned.{IsWorkOf}
 use Rattle.lsm_live.specs.Reserving.{reserved_jobs}
 use Rattle.lsm_live.proofs.CallerLemmas.{live_has, live_says, lives_added, reserved_has}
 use Rattle.lsm_state.specs.Held.{HasInputs, Held, IsLawfulState, plain}
-use Rattle.lsm_state.specs.Reserving.{HasOrderedInputs, IsChosen, IsClosedPlan, IsOfMoment, IsPlanAt, IsRangePlan, IsRangeRefusal, IsReserveRefusal, IsReserving, plan_in, reserved, HasNoJoining, HasNoNext, HasNoneBelow, HasToWait, IsJoining, IsNext, IsNextRefusal, IsPlanRefusal}
+use Rattle.lsm_state.specs.Reserving.{HasOrderedInputs, IsChosen, IsClosedPlan, IsOfMoment, IsPlanAt, IsRangePlan, IsRangeRefusal, IsReserveRefusal, IsReserving, plan_in, reserved, HasNoJoining, HasNoNext, IsReady, WaitsForJoining, IsJoining, IsNext, IsNextRefusal, IsPlanRefusal}
 use Rattle.lsm_state.specs.declared.state_fault.StateFault.{StateFault}
 use Rattle.lsm_state.specs.declared.state_fault.StateFault.TheVariants.{OutOfMemory, Shelf, Read, BadLevel, EmptyBatch, KeyOrder, TooLarge, LevelZeroFull, SequencesSpent, Halted, UnknownSnapshot, Conflict, UnknownTicket, NumbersSpent, Stale, SlotsHeld, VersionsSpent, PinsSpent}
 use Rattle.lsm_state.proofs.StateLaws.{agreed, stepped}
@@ -256,18 +257,32 @@ refused_next honest h p e going next (inr x) = subst (λ (f : StateFault). IsNex
 
 -- where nothing is chosen, what is joined is next
 pub next_unchosen : (h : Held) (o : Option TablePlan) → HasNoChoice h.slots.version (reserved_jobs h.live) → MatchOption o (HasNoJoining h) (λ p. IsJoining h p) → MatchOption o (HasNoNext h) (λ p. IsNext h p)
-next_unchosen h None none m = (m, none)
+next_unchosen h None none m = (m, inl none)
 next_unchosen h (Some p) none m = inr (inl (inl none, m))
 
--- where the choice is of level 0, what is joined is next, or else the choice
-pub next_joined : (h : Held) (chosen p : TablePlan) → IsChosen h chosen → chosen.level ≡ 0 → IsJoining h p → IsNext h p
-next_joined h chosen p c low j = inr (inl (inr (chosen, c, low), j))
+pub match_none : {A : Type 0} (o : Option A) (P : Type 0) (Q : A → Type 0) → ((x : A) → o ≡ Some x → ⊥) → MatchOption o P Q → P
+match_none None P Q f m = m
+match_none (Some x) P Q f m = absurd (f x refl)
 
-pub next_chosen : (h : Held) (p : TablePlan) → HasNoJoining h → IsChosen h p → IsNext h p
-next_chosen h p none c = inr (inr (none, c))
+-- where the choice waits, what is joined is next, or else the choice, where level 0 is ready
+pub next_joined : (h : Held) (chosen p : TablePlan) → WaitsForJoining h chosen → IsJoining h p → IsNext h p
+next_joined h chosen p w j = inr (inl (inr (chosen, w), j))
+
+pub next_chosen : (h : Held) (p : TablePlan) → HasNoJoining h → IsChosen h p → IsReady h → IsNext h p
+next_chosen h p none c ready = inr (inr (none, c, ready))
+
+pub next_waits : (h : Held) (chosen : TablePlan) → HasNoJoining h → WaitsForJoining h chosen → (IsReady h → ⊥) → HasNoNext h
+next_waits h chosen none w waits = (none, inr (chosen, w, waits))
 
 pub joined_low : (v : Levels) (target_size : ℕ) (s : Span) → IsJoined v target_size s → s.level ≤ 5
-joined_low v target_size s j = j.sunk.last
+joined_low v target_size s j = j.inside
+
+pub ready_of : (h : Held) (v : Levels) (rs : List Reserved) (size : ℕ) → v ≡ h.slots.version → rs ≡ reserved_jobs h.live → size ≡ h.options.target_size
+    → (picker.IsReady v rs size → IsReady h) × (IsReady h → picker.IsReady v rs size)
+ready_of h v rs size same live target = (
+  λ r. subst (λ (n : ℕ). picker.IsReady h.slots.version (reserved_jobs h.live) n) target (subst (λ (x : List Reserved). picker.IsReady h.slots.version x size) live (subst (λ (x : Levels). picker.IsReady x rs size) same r)),
+  λ r. subst (λ (x : Levels). picker.IsReady x rs size) (sym same) (subst (λ (x : List Reserved). picker.IsReady h.slots.version x size) (sym live) (subst (λ (n : ℕ). picker.IsReady h.slots.version (reserved_jobs h.live) n) (sym target) r)),
+)
 
 pub chosen_of : (h : Held) (v : Levels) (rs : List Reserved) (o : Option TablePlan) → v ≡ h.slots.version → rs ≡ reserved_jobs h.live → MatchOption o (HasNoChoice v rs) (λ p. IsChoice v rs p)
     → MatchOption o (HasNoChoice h.slots.version (reserved_jobs h.live)) (λ p. IsChosen h p)

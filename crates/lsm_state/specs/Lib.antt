@@ -10,6 +10,8 @@ pub mod Opening
 pub mod Reserving
 pub mod Changing
 pub mod Ingesting
+pub mod Gathering
+pub mod GatherFault
 pub mod Installing
 pub mod Asked
 pub mod Editions

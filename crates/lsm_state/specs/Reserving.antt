@@ -7,7 +7,9 @@ use Rattle.lsm_codec.specs.Lists.{Has}
 use Rattle.lsm_model.specs.Files.{all_entries}
 use Rattle.lsm_model.specs.Plain.{Reserves, floor_of}
 use Rattle.lsm_picker.specs.Choice.{HasNoChoice, IsChoice}
+use Rattle.lsm_picker.specs.Gathering as picker
 use Rattle.lsm_picker.specs.Joining.{IsJoined, IsSettled, Span}
+use Rattle.lsm_picker.specs.Moves.{IsMovable}
 use Rattle.lsm_picker.specs.RangesBelow.{AreRangesBelow}
 use Rattle.lsm_picker.specs.Reservations.{IsClear, IsHeldUp, IsLeastConflict}
 use Rattle.lsm_picker.specs.TablePlans.{IsPlanFrom, StandsIn, TablePlan, files_over, plan_of}
@@ -111,13 +113,27 @@ IsRangeRefusal honest h level from to NumbersSpent =
 IsRangeRefusal honest h level from to OutOfMemory = (h.halted ≡ false) × (level ≤ 5)
 IsRangeRefusal honest h level from to e = ⊥
 
--- ---- what workers reserve: the choice below level 0, then small files, then the choice (this
--- project's rule)
+-- ---- what workers reserve: the choice below level 0 or that moves a file, then a run of files that
+-- are joined, then the choice of level 0 where that is ready (this project's rule)
 
--- the choice is of level 0, or there is none
-abbrev pub HasNoneBelow : Held → Type 0
-HasNoneBelow h = HasNoChoice h.slots.version (reserved_jobs h.live)
-    ⊎ ((p : TablePlan) × IsChosen h p × (p.level ≡ 0))
+-- a job of the plan only moves a file
+abbrev pub Moves : Held → TablePlan → Type 0
+Moves h p = IsMovable h.slots.version p h.options.target_size
+
+-- it is below level 0, or only moves a file
+abbrev pub GoesAtOnce : Held → TablePlan → Type 0
+GoesAtOnce h p = (1 ≤ p.level) ⊎ Moves h p
+
+-- the choice has to wait until nothing can be joined
+pub record WaitsForJoining (h : Held) (p : TablePlan) : Type 0 where
+  pub chosen : IsChosen h p
+  pub level : p.level ≡ 0
+  pub no_move : Moves h p → ⊥
+
+-- there is no choice, or it has to wait
+abbrev pub HasNoneAtOnce : Held → Type 0
+HasNoneAtOnce h = HasNoChoice h.slots.version (reserved_jobs h.live)
+    ⊎ ((p : TablePlan) × WaitsForJoining h p)
 
 -- the plan of the files that are joined, which conflicts with no live job
 pub record IsJoining (h : Held) (p : TablePlan) : Type 0 where
@@ -131,19 +147,28 @@ abbrev pub HasToWait : Held → Span → Type 0
 HasToWait h s = (tables_over h.slots.version s.level s.from s.to ≡ [])
     ⊎ ((p : TablePlan) × IsRangePlan h s.level s.from s.to p × IsHeldUp p (reserved_jobs h.live))
 
--- Nothing can be joined: no file wants to be, or those that do have to wait.
+-- Nothing can be joined: there is no run, or the files of the first one have to wait.
 abbrev pub HasNoJoining : Held → Type 0
 HasNoJoining h = IsSettled h.slots.version h.options.target_size
     ⊎ ((s : Span) × IsJoined h.slots.version h.options.target_size s × HasToWait h s)
 
--- The chosen plan where it is below level 0; else that of the files that are joined; else the
--- chosen one.
+-- level 0 is compacted: it has four files that are not small, or eleven files
+abbrev pub IsReady : Held → Type 0
+IsReady h = picker.IsReady h.slots.version (reserved_jobs h.live) h.options.target_size
+
+-- there is no choice, or it has to wait, and level 0 is not ready
+abbrev pub HasNoneReady : Held → Type 0
+HasNoneReady h = HasNoChoice h.slots.version (reserved_jobs h.live)
+    ⊎ ((p : TablePlan) × WaitsForJoining h p × (IsReady h → ⊥))
+
+-- The chosen plan where it goes at once; else that of the files that are joined; else the chosen
+-- one, where level 0 is ready.
 abbrev pub IsNext : Held → TablePlan → Type 0
-IsNext h p = (IsChosen h p × (1 ≤ p.level)) ⊎ (HasNoneBelow h × IsJoining h p)
-    ⊎ (HasNoJoining h × IsChosen h p)
+IsNext h p = (IsChosen h p × GoesAtOnce h p) ⊎ (HasNoneAtOnce h × IsJoining h p)
+    ⊎ (HasNoJoining h × IsChosen h p × IsReady h)
 
 abbrev pub HasNoNext : Held → Type 0
-HasNoNext h = HasNoJoining h × HasNoChoice h.slots.version (reserved_jobs h.live)
+HasNoNext h = HasNoJoining h × HasNoneReady h
 
 -- Why there is no next job: the state is halted; or there is one, but its ticket would be
 -- 2^64 - 1; or memory was refused.

@@ -70,7 +70,7 @@ impl From<BuildFault> for StateFault {
 
 impl<N: Boarded, S: Shelf> State<N, S> {
     // The last sequence. What holds of the state and of its version is told here too.
-    fn last(&self) -> u64
+    pub(crate) fn last(&self) -> u64
         ensures last { result ≡ self.now.slots.version.last }
         ensures levels { length self.now.slots.version.tables ≡ 7 }
         ensures law { IsLawfulState S.honest N.board self.now }
@@ -79,14 +79,14 @@ impl<N: Boarded, S: Shelf> State<N, S> {
     }
 
     // The next file number.
-    fn next_file(&self) -> u64
+    pub(crate) fn next_file(&self) -> u64
         ensures { result ≡ self.now.next }
     {
         self.next
     }
 
     // How many file numbers an ingest needs.
-    fn numbers_needed(&self) -> u64
+    pub(crate) fn numbers_needed(&self) -> u64
         ensures { result ≡ numbers_needed self.now }
     {
         if self.journal.is_at_limit() { 2 } else { 1 }

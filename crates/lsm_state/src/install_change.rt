@@ -85,7 +85,7 @@ fn pointer_of<N: Naming, S: Shelf>(
 }
 
 // Appends tables as files that go from a level.
-fn push_deleted<N: Naming, S: Shelf>(
+pub(crate) fn push_deleted<N: Naming, S: Shelf>(
     registry: &Registry<N, S>,
     level: u8,
     tables: &[TableRef<N, S>],

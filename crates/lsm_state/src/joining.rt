@@ -1,4 +1,4 @@
-//! What workers reserve: the choice below level 0, then small files that are joined, then the choice.
+//! What workers reserve: the choice below level 0, then runs of files that are joined, then level 0.
 
 ghost use Rattle.std.specs.Prelude.{◌≡◌, ◌-◌, ◌^◌, ◌↔◌, false, IfErr, IfNone, IfOk, IfSome, IsTrue};
 ghost use Rattle.std.specs.Prelude.{MatchOption, OnErr, OnOk};
@@ -6,17 +6,18 @@ ghost use Rattle.lsm_picker.specs.Moves.{IsMovable};
 ghost use Rattle.lsm_picker.specs.Reservations.{IsClear};
 ghost use Rattle.lsm_picker.specs.TablePlans.{StandsIn};
 ghost use Rattle.lsm_live.specs.Reserving.{reserved_jobs};
-ghost use Rattle.lsm_state.specs.Reserving.{HasNoJoining, HasNoNext, HasOrderedInputs, IsJoining};
+ghost use Rattle.lsm_state.specs.Reserving.{GoesAtOnce, HasNoJoining, HasNoNext};
+ghost use Rattle.lsm_state.specs.Reserving.{HasOrderedInputs, IsJoining, Moves};
 ghost use Rattle.lsm_state.specs.Reserving.{IsNext, IsNextRefusal, IsOfMoment, IsPlanRefusal};
-ghost use Rattle.lsm_state.specs.Reserving.{IsReserving, plan_in, reserved};
+ghost use Rattle.lsm_state.specs.Reserving.{IsReady, IsReserving, plan_in, reserved};
 
 use crate::state::State;
 use crate::state_fault::StateFault;
 use lsm_merge::Job;
-use lsm_picker::{Plan, is_move, span_to_join};
+use lsm_picker::{Plan, is_move, level_zero_is_ready, span_to_join};
 use lsm_slots::Boarded;
 use lsm_table::Shelf;
-use std::alloc::Global;
+use std::alloc::{AllocError, Global};
 
 impl<N: Boarded, S: Shelf> State<N, S> {
     // The plan of the files that are joined; none where nothing can be joined.
@@ -45,8 +46,28 @@ impl<N: Boarded, S: Shelf> State<N, S> {
         }
     }
 
+    // Whether a plan is below level 0, or only moves a file.
+    fn goes_at_once(&self, plan: &Plan<N, S>) -> bool
+        ensures goes { IsTrue result → GoesAtOnce self.now plan.now }
+        ensures waits { result ≡ false
+            → (plan.now.level ≡ 0) × (Moves self.now plan.now → ⊥) }
+    {
+        let version = self.slots.version();
+        plan.level() > 0 || is_move(&self.registry, version, plan, self.options.target_size)
+    }
+
+    // Whether level 0 is compacted.
+    #[tactic(auto, using(crate::proofs::ReserveLaws::ready_of))]
+    fn is_ready(&self, alloc: Global) -> Result<bool, AllocError>
+        ensures { IfOk result (λ ready. IsTrue ready ↔ IsReady self.now) }
+    {
+        let live = self.live.reservations(alloc, &self.registry)?;
+        let target_size = self.options.target_size;
+        Ok(level_zero_is_ready(&self.registry, self.slots.version(), &live, target_size))
+    }
+
     // The plan of a worker's next compaction; none where there is none.
-    #[tactic(auto, using(crate::proofs::ReserveLaws::next_unchosen, crate::proofs::ReserveLaws::next_joined, crate::proofs::ReserveLaws::next_chosen))]
+    #[tactic(auto, using(crate::proofs::ReserveLaws::next_unchosen))]
     fn next_plan(&self, alloc: Global) -> Result<Option<Plan<N, S>>, StateFault>
         ensures next { S.honest → IfOk result (λ r.
             MatchOption r (HasNoNext self.now) (λ p. IsNext self.now p)) }
@@ -60,19 +81,24 @@ impl<N: Boarded, S: Shelf> State<N, S> {
         let Some(chosen) = self.chosen_plan(alloc)? else {
             return self.joining_plan(alloc);
         };
-        if chosen.level() > 0 {
+        if self.goes_at_once(&chosen) {
             return Ok(Some(chosen));
         }
-        match self.joining_plan(alloc)? {
-            Some(plan) => Ok(Some(plan)),
-            None => Ok(Some(chosen)),
+        if let Some(plan) = self.joining_plan(alloc)? {
+            return Ok(Some(plan));
         }
+        if !self.is_ready(alloc)? {
+            return Ok(None);
+        }
+        Ok(Some(chosen))
     }
 
     /// Reserves the next compaction of a worker: the chosen one, as `reserve` does, where that is
-    /// below level 0; else that of the files that are joined (`lsm_picker::span_to_join`), so that
-    /// small files become larger ones; and where nothing can be joined, as where a live job is in
-    /// the way, the chosen one. None exactly where there is neither; then nothing changes.
+    /// below level 0, or only moves a file; else that of the files that are joined
+    /// (`lsm_picker::span_to_join`), so that small files become larger ones; and where nothing can
+    /// be joined, as where a live job is in the way, the chosen one, where level 0 is ready for it
+    /// (`lsm_picker::level_zero_is_ready`). None exactly where there is none of these; then nothing
+    /// changes.
     ///
     /// `Halted` where the state is halted; `NumbersSpent` in place of a job whose ticket would be
     /// 2^64 - 1; `OutOfMemory`. A refusal leaves the state as it was.

@@ -18,8 +18,8 @@
 //!   and no floor is above the last sequence or a live snapshot's (`books` of `law`).
 //! - The current version is what the edits of the manifest held come to (`journaled`). What is held
 //!   is what the shelf was sent: as a state is made (`sent` of `create`, `begun` of `open`, `found`
-//!   of `open_to_read`), and at each change of the version (`sends`, in `ok` of `ingest` and
-//!   `installed` of `install`).
+//!   of `open_to_read`), and at each change of the version (`sends`, in `ok` of `ingest` and of
+//!   `gather`, and `installed` of `install`).
 //! - The tables of the current version, of every version whose slot is not free, and those that a
 //!   live job drew are kept: `State::kept` answers just these (`numbers`), a reader's are among
 //!   them (`kept` of `meet`), and `collect` removes no others than listed ones that are not among
@@ -28,7 +28,8 @@
 //!   last, comes in at level 0 (`ok`), so the entries of all tables gain just these (`entries`).
 //! - An install changes no answer: over an honest shelf a read at the last sequence, or at a live
 //!   snapshot's, gives for each key what it gave before (`answers`), whatever came since the job
-//!   was reserved.
+//!   was reserved. Nor does a gather, by which small files of level 0 become one with all their
+//!   entries (`ok`, `answers`).
 //! - A stale result changes nothing: `install` refuses one whose job is not live, or that has
 //!   numbers which the job did not draw or which do not rise, leaves all as it was (`refused`), and
 //!   hands the result back (`back`).
@@ -53,6 +54,8 @@ mod state_fault;
 // What changes the version.
 mod changing;
 mod coming;
+mod gather;
+mod gather_fault;
 mod ingest;
 mod install;
 mod install_change;
@@ -71,6 +74,7 @@ mod collect;
 mod listing;
 mod unkept;
 
+pub use gather_fault::GatherFault;
 pub use ingest::Ingested;
 pub use lsm_journal::OpenFault;
 pub use options::Options;

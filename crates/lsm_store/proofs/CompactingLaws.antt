@@ -9,7 +9,7 @@ use Rattle.std.proofs.lemmas.Option.{slice_get_within, get_or_from_slice_get}
 use Rattle.lsm_model.specs.Jobs.{Job}
 use Rattle.lsm_model.specs.Plans.{Plan}
 use Rattle.lsm_model.specs.Plain.{Cancels, Draws, Reserves, Spends}
-use Rattle.lsm_model.specs.Runs.{Event, Run, Cancel, Draw, Install, Reserve, Spend}
+use Rattle.lsm_model.specs.Runs.{Event, Run, Cancel, Draw, Gather, Install, Reserve, Spend}
 use Rattle.lsm_codec.specs.Lists.{Has}
 use Rattle.lsm_version.specs.Versions.{Levels, files}
 use Rattle.lsm_version.specs.Changes.{changed}
@@ -21,9 +21,14 @@ use Rattle.lsm_slots.proofs.CallerLemmas.{set_else, set_found}
 use Rattle.lsm_shelf.specs.Told.{Told}
 use Rattle.lsm_live.specs.Booked.{booked, without}
 use Rattle.lsm_merge.specs.Work.{Done, Work}
+use Rattle.lsm_state.specs.Changing.{IsChangeRefusal, ChangesVersion}
+use Rattle.lsm_state.specs.Gathering.{FailsToBringIn, FailsToMerge, Gathers, IsGathering, IsGatherRefusal, IsRefusedIn}
 use Rattle.lsm_state.specs.Held.{Held, plain}
+use Rattle.lsm_state.specs.Ingesting.{with_number, with_slots}
 use Rattle.lsm_state.specs.Installing.{Installed, IsInstallRefusal, IsInstalling, IsRefusedLater, SameAnswers}
 use Rattle.lsm_state.specs.Reserving.{reserved}
+use Rattle.lsm_state.specs.declared.gather_fault.GatherFault.{GatherFault}
+use Rattle.lsm_state.specs.declared.gather_fault.GatherFault.TheVariants as gather
 use Rattle.lsm_state.specs.declared.state_fault.StateFault.{StateFault}
 use Rattle.lsm_state.specs.declared.state_fault.StateFault.TheVariants.{OutOfMemory, Shelf, Read, BadLevel, EmptyBatch, KeyOrder, TooLarge, LevelZeroFull, SequencesSpent, Halted, UnknownSnapshot, Conflict, UnknownTicket, NumbersSpent, Stale, SlotsHeld, VersionsSpent, PinsSpent}
 use Rattle.lsm_store.specs.Compacting.{AddsCurrentAlone, IsAsFound, IsCompactingStep, IsKeptByCompaction, IsOfWorkers, installs_in, pins_in, pins_of}
@@ -231,6 +236,97 @@ step_refused Honest was is d e t u refused event = elim refused [
         slots = adds_looked was.slots is.slots looked;
       }
 ]
+
+-- ---- gathers
+
+pub step_gathered : (Honest : Type 0) (was is : Held) (number : ℕ) (t u : Told) → Gathers Honest was is number t u → (Honest → SameAnswers was is) → IsGathering Honest was is
+    → IsCompactingStep Honest was is
+step_gathered Honest was is number t u g answers event =
+    let rest = g.changes.rest in
+    record {
+      run = record {
+        events = Gather ∷ [];
+        only = one_event _ tt;
+        run = (plain is, event, refl);
+        ids = (let sought = g.sought.looked.id in let next = g.changes.published.id in omega (arith, sought, next));
+      };
+      options = ap (λ (h : Held). h.options) rest;
+      pinners = ap (λ (h : Held). h.pinners) rest;
+      found = record {
+        history = ap (λ (h : Held). h.history) rest;
+        last = ap (λ (v : Levels). v.last) g.changes.published.version_is ∙ last_after g.change g.slots.version ∙ g.its.last_is;
+        snapshots = ap (λ (h : Held). h.snapshots) rest;
+        pins = λ id. pins_published g.slots is.slots _ g.changes.published id ∙ pins_looked was.slots g.slots g.sought.looked id;
+        answers = answers;
+      };
+      slots = adds_published was.slots g.slots is.slots _ g.sought.looked g.changes.published;
+    }
+
+-- what a refused gather may change: the slots, by looks, the next number, and whether the state is halted
+record Beneath (was is : Held) : Type 0 where
+  history : is.history ≡ was.history
+  snapshots : is.snapshots ≡ was.snapshots
+  options : is.options ≡ was.options
+  pinners : is.pinners ≡ was.pinners
+  looked : Looked was.slots is.slots
+
+beneath_of : (was is mid : Held) → is ≡ mid → (mid.history ≡ was.history) × (mid.snapshots ≡ was.snapshots) × (mid.options ≡ was.options) × (mid.pinners ≡ was.pinners) → Looked was.slots is.slots → Beneath was is
+beneath_of was is mid e b looked = record {
+  history = ap (λ (h : Held). h.history) e ∙ b.0;
+  snapshots = ap (λ (h : Held). h.snapshots) e ∙ b.1;
+  options = ap (λ (h : Held). h.options) e ∙ b.2;
+  pinners = ap (λ (h : Held). h.pinners) e ∙ b.3;
+  looked = looked;
+}
+
+step_beneath : (Honest : Type 0) (was is : Held) → Beneath was is → Spends (plain was) (plain is) → IsCompactingStep Honest was is
+step_beneath Honest was is b event = record {
+  run = record { events = Spend ∷ []; only = one_event _ tt; run = (plain is, event, refl); ids = (let same = b.looked.id in omega (arith, same)) };
+  options = b.options;
+  pinners = b.pinners;
+  found = record {
+    history = b.history;
+    last = ap (λ (v : Levels). v.last) b.looked.version;
+    snapshots = b.snapshots;
+    pins = λ id. pins_looked was.slots is.slots b.looked id;
+    answers = λ h. same_answers was is b.looked.version;
+  };
+  slots = adds_looked was.slots is.slots b.looked;
+}
+
+-- a refused change behind a number that was spent
+beneath_change : (was is : Held) (e : StateFault) (t u : Told) → Looked was.slots is.slots → IsChangeRefusal (with_number was is.slots) is e t u → Beneath was is
+beneath_change was is OutOfMemory t u l r = beneath_of was is (with_number was is.slots) r.0 (refl, refl, refl, refl) l
+beneath_change was is (Shelf fault) t u l r = beneath_of was is _ r.0 (refl, refl, refl, refl) l
+beneath_change was is (Read fault) t u l r = absurd r
+beneath_change was is (BadLevel n) t u l r = absurd r
+beneath_change was is EmptyBatch t u l r = absurd r
+beneath_change was is (KeyOrder n) t u l r = absurd r
+beneath_change was is TooLarge t u l r = absurd r
+beneath_change was is LevelZeroFull t u l r = absurd r
+beneath_change was is SequencesSpent t u l r = absurd r
+beneath_change was is Halted t u l r = absurd r
+beneath_change was is (UnknownSnapshot n) t u l r = absurd r
+beneath_change was is (Conflict n) t u l r = absurd r
+beneath_change was is (UnknownTicket n) t u l r = absurd r
+beneath_change was is NumbersSpent t u l r = absurd r
+beneath_change was is Stale t u l r = absurd r
+beneath_change was is SlotsHeld t u l r = absurd r
+beneath_change was is VersionsSpent t u l r = absurd r
+beneath_change was is PinsSpent t u l r = absurd r
+
+beneath_in : (Honest : Type 0) (was is : Held) (least : ℕ) (e : GatherFault) (t u : Told) → Looked was.slots is.slots → IsRefusedIn Honest was is least e t u → Beneath was is
+beneath_in Honest was is least (gather.State e) t u l (inl merge) = beneath_of was is (with_slots was is.slots) merge.1 (refl, refl, refl, refl) l
+beneath_in Honest was is least (gather.State e) t u l (inr change) = beneath_change was is e change.1 u l change.4
+beneath_in Honest was is least (gather.Merge e) t u l (inl merge) = beneath_of was is (with_number was is.slots) merge.0 (refl, refl, refl, refl) l
+beneath_in Honest was is least (gather.Merge e) t u l (inr change) = absurd change
+
+pub step_ungathered : (Honest : Type 0) (was is : Held) (e : GatherFault) (t u : Told) → IsGatherRefusal Honest was is e t u → Spends (plain was) (plain is) → IsCompactingStep Honest was is
+step_ungathered Honest was is e t u (inl once) event = step_none Honest was is once.1
+step_ungathered Honest was is (gather.State e) t u (inr (least, may, inl lacks)) event =
+    step_beneath Honest was is (beneath_of was is (with_slots was is.slots) lacks.0 (refl, refl, refl, refl) lacks.1.looked) event
+step_ungathered Honest was is (gather.Merge e) t u (inr (least, may, inl lacks)) event = absurd lacks
+step_ungathered Honest was is e t u (inr (least, may, inr (sought, slot, later))) event = step_beneath Honest was is (beneath_in Honest was is least e t u sought.looked later) event
 
 -- ---- the fact
 

@@ -4,7 +4,7 @@ use Rattle.std.proofs.Math.Logic.{∥∥₁_elim, ∥∥₁_map, ∥∥₁_prop}
 use Rattle.std.proofs.Props.{props}
 use Rattle.lsm_codec.specs.Lists.{Has}
 use Rattle.lsm_model.specs.Plain.{IsReadable, Plain}
-use Rattle.lsm_model.specs.Runs.{Event, Run, Ingest, Snapshot, Release, Reserve, Cancel, Draw, Install, Spend, Nothing}
+use Rattle.lsm_model.specs.Runs.{Event, Run, Ingest, Snapshot, Release, Reserve, Cancel, Draw, Install, Gather, Spend, Nothing}
 use Rattle.lsm_slots.specs.Slots.{Looked, current_id}
 use Rattle.lsm_slots.specs.Snapshots.{Taken}
 use Rattle.lsm_state.specs.Held.{Held, plain}
@@ -51,6 +51,7 @@ installs_then (Reserve plan job ∷ es) fs = installs_then es fs
 installs_then (Cancel ticket ∷ es) fs = installs_then es fs
 installs_then (Draw ticket ∷ es) fs = installs_then es fs
 installs_then (Install ticket ∷ es) fs = let rest = installs_then es fs in omega (arith, rest)
+installs_then (Gather ∷ es) fs = let rest = installs_then es fs in omega (arith, rest)
 installs_then (Spend ∷ es) fs = installs_then es fs
 installs_then (Nothing ∷ es) fs = installs_then es fs
 

@@ -6,9 +6,9 @@ use Rattle.lsm_codec.proofs.CallerLemmas.{filter_has, has_cases}
 use Rattle.lsm_model.specs.Files.{File}
 use Rattle.lsm_model.specs.Jobs.{Job, IsMove, at_level}
 use Rattle.lsm_model.specs.Plans.{Plan}
-use Rattle.lsm_model.specs.Plain.{Plain, Live, Ingests, Installs, Reserves, Draws, IsBooked, booking, drawing, without_job}
+use Rattle.lsm_model.specs.Plain.{Plain, Live, Gathers, Ingests, Installs, Reserves, Draws, IsBooked, booking, drawing, without_job}
 use Rattle.lsm_model.specs.Law.{Books, Law}
-use Rattle.lsm_model.specs.Runs.{Event, Ingest, Snapshot, Release, Reserve, Cancel, Draw, Install, Spend, Nothing, Run, Step}
+use Rattle.lsm_model.specs.Runs.{Event, Ingest, Snapshot, Release, Reserve, Cancel, Draw, Install, Gather, Spend, Nothing, Run, Step}
 use Rattle.lsm_model.proofs.CallerLemmas.{step_law}
 
 -- a file of the version has the number, or a live job drew it
@@ -93,6 +93,19 @@ named_install H s ticket t books i = subst (NamesNoMore s) (sym i.is) (same s _ 
   | inr a ↦ inr (a.0, named_less s ticket n a.0 a.1, a.2)
 ]))
 
+-- the gathered file has a number that was not drawn before
+named_gather : (H : Type 0) (s t : Plain) → Gathers H s t → NamesNoMore s t
+named_gather H s t g = subst (NamesNoMore s) (sym g.is) record {
+  next = (let a = g.drawn in let b = g.passed in omega arith);
+  named = λ n lt k. elim k [
+    | inl f ↦ elim (g.from f.0 f.1) [
+      | inl e ↦ (let number : g.file.number ≡ f.0.number = ap (λ (F : File). F.number) e in let is : f.0.number ≡ n = f.2 in let a = g.drawn in absurd (omega (arith, number, is, a, lt)))
+      | inr old ↦ inl (f.0, old.0, f.2)
+    ]
+    | inr a ↦ inr a
+  ];
+}
+
 named_step : (H : Type 0) (s : Plain) (e : Event) (t : Plain) → Law H s → Step H s e t → NamesNoMore s t
 named_step H s (Ingest es) t l h = named_ingest s es t h
 named_step H s Snapshot t l h = subst (NamesNoMore s) (sym h) (same s _ refl (λ n k. k))
@@ -101,6 +114,7 @@ named_step H s (Reserve plan job) t l h = named_reserve H s plan job t h
 named_step H s (Cancel ticket) t l h = named_cancel s ticket t h
 named_step H s (Draw ticket) t l h = named_draw s ticket t h
 named_step H s (Install ticket) t l h = named_install H s ticket t l.books h
+named_step H s Gather t l h = named_gather H s t h
 named_step H s Spend t l h = subst (NamesNoMore s) (sym h.2) record { next = h.1; named = λ n lt k. k }
 named_step H s Nothing t l h = subst (NamesNoMore s) (sym h) (named_none s)
 

@@ -1,17 +1,20 @@
 -- What follows of what a worker did.
-use Rattle.std.proofs.Common.{◌≡◌, ℕ, zero, suc, ◌+◌, ◌-◌, ◌^◌, ◌≤◌, Bool, true, false, List, [], ◌∷◌, ◌++◌, length, map, Option, None, Some, refl, sym, ap, ◌∙◌, subst, inl, inr, arith}
+use Rattle.std.proofs.Common.{◌≡◌, ℕ, suc, ◌+◌, ◌-◌, ◌^◌, ◌≤◌, Bool, true, false, List, [], ◌∷◌, ◌++◌, length, map, Option, None, Some, refl, sym, ap, ◌∙◌, subst, inl, inr, arith}
 use Rattle.std.specs.Prelude.{MatchBool, min, reverse, Result, Ok, Err, OnOk}
 use Rattle.std.proofs.lemmas.List.{append-nil, append_assoc, map-append, nil_from_length, reverse-append}
 use Rattle.lsm_codec.specs.Lists.{Has}
 use Rattle.lsm_shelf.specs.Asked.{Asked, Put, StartManifest, AppendManifest}
-use Rattle.lsm_shelf.specs.Told.{Told, Becomes, Counted, appending, sending}
+use Rattle.lsm_shelf.specs.Told.{Told, Becomes, Counted, appending, putting, sending}
 use Rattle.lsm_shelf.specs.declared.shelf_fault.ShelfFault.{ShelfFault}
 use Rattle.lsm_shelf.specs.declared.shelf_fault.ShelfFault.TheVariants as why
 use Rattle.lsm_table.specs.ReadFault.{ReadCounted}
+use Rattle.lsm_table.specs.TableBuilding.{table_bytes}
+use Rattle.lsm_table.specs.declared.table_options.TableOptions.{TableOptions}
 use Rattle.lsm_table.specs.declared.read_fault.ReadFault.{ReadFault}
 use Rattle.lsm_table.specs.declared.read_fault.ReadFault.TheVariants as read
 use Rattle.lsm_merge.specs.Causes.{HasCause}
-use Rattle.lsm_merge.specs.Inputs.{input_numbers}
+use Rattle.lsm_merge.specs.Gathering.{PutsAtMost}
+use Rattle.lsm_merge.specs.Inputs.{IsReadable, input_numbers, numbers_of}
 use Rattle.lsm_merge.specs.Outputs.{going, putting_all}
 use Rattle.lsm_merge.specs.Work.{Done, Work, puts_by}
 use Rattle.lsm_merge.specs.declared.merge_fault.InputFault.TheVariants.{Read, OutOfOrder}
@@ -22,13 +25,24 @@ use Rattle.lsm_journal.specs.HeldManifest.{HeldManifest, is_at_limit}
 use Rattle.lsm_journal.specs.Difference.{Difference, changed_by}
 use Rattle.lsm_journal.specs.Sending.{Sends}
 use Rattle.lsm_version.specs.Versions.{Levels}
+use Rattle.lsm_state.specs.Changing.{IsChangeRefusal, IsSlotRefusal}
+use Rattle.lsm_state.specs.Gathering.{FailsToBringIn, FailsToMerge, Gathers, HasNoneToGather, IsGatherRefusal, IsGatherRefusedAtOnce, IsRefusedIn, gathered}
 use Rattle.lsm_state.specs.Held.{Held}
+use Rattle.lsm_state.specs.Ingesting.{with_number}
+use Rattle.lsm_state.specs.Options.{sizes_of}
 use Rattle.lsm_state.specs.Installing.{IsInstallRefusal}
+use Rattle.lsm_state.specs.declared.gather_fault.GatherFault.{GatherFault}
+use Rattle.lsm_state.specs.declared.gather_fault.GatherFault.TheVariants as gather
 use Rattle.lsm_state.specs.declared.state_fault.StateFault.{StateFault}
 use Rattle.lsm_state.specs.declared.state_fault.StateFault.TheVariants as state
 use Rattle.lsm_store.specs.Picking.{IsPickedUnder}
-use Rattle.lsm_store.specs.Working.{AreReturned, Given, IsCounted, IsCountedIf, IsDone, IsLast, IsPutOrSent, IsRefusedBy, IsReturned, IsStoppedBy, IsTaken, IsTurn, IsWorked, OnlyPutsAndSends, Turns, given_each, given_one}
+use Rattle.lsm_store.specs.WorkerFault.{of_gather}
+use Rattle.lsm_store.specs.Workers.{IsOfInstalling, IsOfTurn}
+use Rattle.lsm_store.specs.Working.{AreReturned, FindsNoneToGather, GathersUnder, Given, IsCompaction, IsCounted, IsCountedIf, IsDone, IsLast, IsPutOrSent, IsRefusedBy, IsReturned, IsStoppedBy, IsTaken, IsTurn, IsUndone, IsWorked, OnlyPutsAndSends, Turns, compactions, given_each, given_one}
 use Rattle.lsm_store.specs.declared.picks.Picks.{Picks}
+use Rattle.lsm_store.specs.declared.picks.Picks.TheVariants.{Joining}
+use Rattle.lsm_store.specs.declared.turn.Turn.{Turn}
+use Rattle.lsm_store.specs.declared.turn.Turn.TheVariants.{Gathered, Compacted}
 use Rattle.lsm_store.specs.declared.worker_end.WorkerEnd.{WorkerEnd}
 use Rattle.lsm_store.specs.declared.worker_fault.WorkerFault.{WorkerFault}
 use Rattle.lsm_store.specs.declared.worker_fault.WorkerFault.TheVariants.{NoThread, State, Merge}
@@ -153,19 +167,61 @@ only_taken keeps d was is t =
 only_done : (Honest : Type 0) (keeps : Held → Type 0) (work : Work) (was is : Told) → IsDone Honest keeps work was is → OnlyPutsAndSends was is
 only_done Honest keeps work was is t = only_then was t.put is (only_put (puts_by t.result) was t.put t.merged.told) (only_taken keeps t.result t.put is t.taken)
 
-pub only_turns : (Honest : Type 0) (keeps : Held → Type 0) (picks : Picks) (count : ℕ) (was is : Told) → Turns Honest keeps picks count was is → OnlyPutsAndSends was is
-only_turns Honest keeps picks zero was is e = subst (λ (t : Told). OnlyPutsAndSends was t) (sym e) (only_none was)
-only_turns Honest keeps picks (suc count) was is t = only_then was t.0 is (only_turns Honest keeps picks count was t.0 t.1) (only_done Honest keeps t.2.work t.0 is t.2.done)
+-- ---- gathers
+
+only_gathered : (Honest : Type 0) (old new : Held) (number : ℕ) (was is : Told) → Gathers Honest old new number was is → OnlyPutsAndSends was is
+only_gathered Honest old new number was is g =
+    only_then was g.mid is (only_put ((old.next, g.table.image) ∷ []) was g.mid g.put)
+    (only_sent g.change (changed_by g.change g.slots.version) (suc old.next) new.next old.journal new.journal g.mid is g.changes.sends)
+
+only_same : (was is : Told) → is ≡ was → OnlyPutsAndSends was is
+only_same was is e = subst (λ (t : Told). OnlyPutsAndSends was t) (sym e) (only_none was)
+
+only_at_most : (number : ℕ) (sizes : TableOptions) (was is : Told) → PutsAtMost number sizes was is → OnlyPutsAndSends was is
+only_at_most number sizes was is p = elim p [
+  | inl b ↦ only_becomes was is b
+  | inr put ↦ only_put ((number, table_bytes sizes put.0) ∷ []) was is put.1
+]
+
+only_refused_in : (Honest : Type 0) (old new : Held) (least : ℕ) (e : GatherFault) (was is : Told) → IsRefusedIn Honest old new least e was is → OnlyPutsAndSends was is
+only_refused_in Honest old new least (gather.State e) was is (inl merge) = only_same was is merge.2
+only_refused_in Honest old new least (gather.State e) was is (inr c) =
+    only_then was c.1 is (only_put ((old.next, c.0.image) ∷ []) was c.1 c.3) (only_becomes c.1 is c.5)
+only_refused_in Honest old new least (gather.Merge e) was is (inl merge) = only_at_most old.next (sizes_of old.options) was is merge.1.told
+only_refused_in Honest old new least (gather.Merge e) was is (inr c) = absurd c
+
+only_ungathered : (Honest : Type 0) (old new : Held) (e : GatherFault) (was is : Told) → IsGatherRefusal Honest old new e was is → OnlyPutsAndSends was is
+only_ungathered Honest old new e was is (inl once) = only_same was is once.2
+only_ungathered Honest old new (gather.State e) was is (inr (least, may, inl lacks)) = only_same was is lacks.3
+only_ungathered Honest old new (gather.Merge e) was is (inr (least, may, inl lacks)) = absurd lacks
+only_ungathered Honest old new e was is (inr (least, may, inr (sought, slot, later))) = only_refused_in Honest old new least e was is later
+
+-- ---- turns
+
+only_turn : (Honest : Type 0) (keeps : Held → Type 0) (picks : Picks) (turn : Turn) (was is : Told) → IsTurn Honest keeps picks turn was is → OnlyPutsAndSends was is
+only_turn Honest keeps picks Gathered was is g = only_gathered Honest g.old g.new g.number was is g.gathers
+only_turn Honest keeps picks Compacted was is c = only_done Honest keeps c.1.work was is c.1.done
+
+pub only_turns : (Honest : Type 0) (keeps : Held → Type 0) (picks : Picks) (turns : List Turn) (was is : Told) → Turns Honest keeps picks turns was is → OnlyPutsAndSends was is
+only_turns Honest keeps picks [] was is e = only_same was is e
+only_turns Honest keeps picks (turn ∷ turns) was is t =
+    only_then was t.0 is (only_turns Honest keeps picks turns was t.0 t.1) (only_turn Honest keeps picks turn t.0 is t.2)
+
+only_undone : (Honest : Type 0) (Refused : Asked → ShelfFault → Type 0) (keeps : Held → Type 0) (fault : WorkerFault) (was is : Told) → IsUndone Honest Refused keeps fault was is → OnlyPutsAndSends was is
+only_undone Honest Refused keeps NoThread was is l = absurd l
+only_undone Honest Refused keeps (State fault) was is l = elim l [
+  | inl r ↦ only_same was is r.1
+  | inr r ↦ only_then was r.1 is (only_put (puts_by r.0) was r.1 r.2.told) (only_becomes r.1 is r.3.leaves.unsent)
+]
+only_undone Honest Refused keeps (Merge fault) was is l = only_put l.told.tables was is l.told.told
 
 only_last : (Honest : Type 0) (Refused : Asked → ShelfFault → Type 0) (keeps : Held → Type 0) (given : Given) (fault : Option WorkerFault) (was is : Told)
     → IsLast Honest Refused keeps given fault was is → OnlyPutsAndSends was is
-only_last Honest Refused keeps given None was is l = subst (λ (t : Told). OnlyPutsAndSends was t) (sym l.0) (only_none was)
-only_last Honest Refused keeps given (Some NoThread) was is l = absurd l
-only_last Honest Refused keeps given (Some (State fault)) was is l = elim l [
-  | inl r ↦ subst (λ (t : Told). OnlyPutsAndSends was t) (sym r.1) (only_none was)
-  | inr r ↦ only_then was r.1 is (only_put (puts_by r.0) was r.1 r.2.told) (only_becomes r.1 is r.3.leaves.unsent)
+only_last Honest Refused keeps given None was is l = only_same was is l.0
+only_last Honest Refused keeps given (Some fault) was is l = elim l [
+  | inl undone ↦ only_undone Honest Refused keeps fault was is undone
+  | inr g ↦ only_ungathered Honest g.2.old g.2.new g.0 was is g.2.refusal
 ]
-only_last Honest Refused keeps given (Some (Merge fault)) was is l = only_put l.told.tables was is l.told.told
 
 pub only_worked : (Honest : Type 0) (Refused : Asked → ShelfFault → Type 0) (keeps : Held → Type 0) (given : Given) (e : WorkerEnd) (back : Told)
     → IsWorked Honest Refused keeps given e back → OnlyPutsAndSends given.shelf back
@@ -225,12 +281,55 @@ state_counted Honest Refused keeps state.SlotsHeld a b c p r = tt
 state_counted Honest Refused keeps state.VersionsSpent a b c p r = tt
 state_counted Honest Refused keeps state.PinsSpent a b c p r = tt
 
+undone_counted : (Honest : Type 0) (Refused : Asked → ShelfFault → Type 0) (keeps : Held → Type 0) (e : WorkerFault) (a b c : Told) → NoFewer a b
+    → IsUndone Honest Refused keeps e b c → IsCounted e a c
+undone_counted Honest Refused keeps NoThread a b c p l = tt
+undone_counted Honest Refused keeps (State fault) a b c p l = state_counted Honest Refused keeps fault a b c p l
+undone_counted Honest Refused keeps (Merge fault) a b c p l = merge_counted (input_numbers l.work) fault a b c p l.cause
+
+-- of a gather
+
+put_then : (number : ℕ) (image : List ℕ) (a b mid : Told) → NoFewer a b → Becomes (putting number image b) mid → NoFewer a mid
+put_then number image a b mid p put = let f = put.faults in let m = put.misses in (let x = p.0 in omega arith, let x = p.1 in omega arith)
+
+shelf_counted : (Honest : Type 0) (old new : Held) (fault : ShelfFault) (a b c : Told) → NoFewer a b → IsGatherRefusal Honest old new (gather.State (state.Shelf fault)) b c → Counted fault a c
+shelf_counted Honest old new fault a b c p (inl once) = absurd once.0
+shelf_counted Honest old new fault a b c p (inr (least, may, inl lacks)) = absurd lacks.2
+shelf_counted Honest old new fault a b c p (inr (least, may, inr (sought, slot, inl merge))) = (let e : state.Shelf fault ≡ state.OutOfMemory = merge.0 in cc)
+shelf_counted Honest old new fault a b c p (inr (least, may, inr (sought, slot, inr change))) =
+    counted_from fault a change.1 c (put_then old.next change.0.image a b change.1 p change.3) change.4.1.1
+
+gather_counted : (Honest : Type 0) (old new : Held) (e : GatherFault) (a b c : Told) → NoFewer a b → IsGatherRefusal Honest old new e b c → IsCounted (of_gather e) a c
+gather_counted Honest old new (gather.Merge e) a b c p (inl once) = absurd once.0
+gather_counted Honest old new (gather.Merge e) a b c p (inr (least, may, inl lacks)) = absurd lacks
+gather_counted Honest old new (gather.Merge e) a b c p (inr (least, may, inr (sought, slot, inl merge))) = merge_counted (numbers_of (gathered old least)) e a b c p merge.1.cause
+gather_counted Honest old new (gather.Merge e) a b c p (inr (least, may, inr (sought, slot, inr change))) = absurd change
+gather_counted Honest old new (gather.State (state.Shelf fault)) a b c p r = shelf_counted Honest old new fault a b c p r
+gather_counted Honest old new (gather.State state.OutOfMemory) a b c p r = tt
+gather_counted Honest old new (gather.State (state.Read fault)) a b c p r = tt
+gather_counted Honest old new (gather.State (state.BadLevel n)) a b c p r = tt
+gather_counted Honest old new (gather.State state.EmptyBatch) a b c p r = tt
+gather_counted Honest old new (gather.State (state.KeyOrder n)) a b c p r = tt
+gather_counted Honest old new (gather.State state.TooLarge) a b c p r = tt
+gather_counted Honest old new (gather.State state.LevelZeroFull) a b c p r = tt
+gather_counted Honest old new (gather.State state.SequencesSpent) a b c p r = tt
+gather_counted Honest old new (gather.State state.Halted) a b c p r = tt
+gather_counted Honest old new (gather.State (state.UnknownSnapshot n)) a b c p r = tt
+gather_counted Honest old new (gather.State (state.Conflict n)) a b c p r = tt
+gather_counted Honest old new (gather.State (state.UnknownTicket n)) a b c p r = tt
+gather_counted Honest old new (gather.State state.NumbersSpent) a b c p r = tt
+gather_counted Honest old new (gather.State state.Stale) a b c p r = tt
+gather_counted Honest old new (gather.State state.SlotsHeld) a b c p r = tt
+gather_counted Honest old new (gather.State state.VersionsSpent) a b c p r = tt
+gather_counted Honest old new (gather.State state.PinsSpent) a b c p r = tt
+
 last_counted : (Honest : Type 0) (Refused : Asked → ShelfFault → Type 0) (keeps : Held → Type 0) (given : Given) (fault : Option WorkerFault) (a b c : Told) → NoFewer a b
     → IsLast Honest Refused keeps given fault b c → IsCountedIf fault a c
 last_counted Honest Refused keeps given None a b c p l = tt
-last_counted Honest Refused keeps given (Some NoThread) a b c p l = tt
-last_counted Honest Refused keeps given (Some (State fault)) a b c p l = state_counted Honest Refused keeps fault a b c p l
-last_counted Honest Refused keeps given (Some (Merge fault)) a b c p l = merge_counted (input_numbers l.work) fault a b c p l.cause
+last_counted Honest Refused keeps given (Some fault) a b c p l = elim l [
+  | inl undone ↦ undone_counted Honest Refused keeps fault a b c p undone
+  | inr g ↦ subst (λ (f : WorkerFault). IsCounted f a c) (sym g.1) (gather_counted Honest g.2.old g.2.new g.0 a b c p g.2.refusal)
+]
 
 pub worked_counted : (Honest : Type 0) (Refused : Asked → ShelfFault → Type 0) (keeps : Held → Type 0) (given : Given) (e : WorkerEnd) (back : Told)
     → IsWorked Honest Refused keeps given e back → IsCountedIf e.fault given.shelf back
@@ -267,8 +366,55 @@ same_given p q a b t u e f g = cc
 
 -- a job that was picked and was done is a compaction
 pub turned : (Honest : Type 0) (keeps : Held → Type 0) (picks : Picks) (work : Work) (was is : Told) → (Honest → IsPickedUnder keeps picks (Some work)) → IsDone Honest keeps work was is
-    → IsTurn Honest keeps picks was is
+    → IsCompaction Honest keeps picks was is
 turned Honest keeps picks work was is picked done = record { work = work; picked = picked; done = done }
+
+-- ---- refusals of a gather
+
+refused_as : {P : Type 0} (Honest : Type 0) (old new : Held) (e : StateFault) (was is : Told) → IsGatherRefusal Honest old new (gather.State e) was is → (IsGatherRefusedAtOnce old (gather.State e) → P)
+    → (IsSlotRefusal old.slots new.slots e → P) → (e ≡ state.OutOfMemory → P) → ((mid : Told) → IsChangeRefusal (with_number old new.slots) new e mid is → P) → P
+refused_as Honest old new e was is (inl once) a b c d = a once.0
+refused_as Honest old new e was is (inr (least, may, inl lacks)) a b c d = b lacks.2
+refused_as Honest old new e was is (inr (least, may, inr (sought, slot, inl merge))) a b c d = c merge.0
+refused_as Honest old new e was is (inr (least, may, inr (sought, slot, inr change))) a b c d = d change.1 change.4
+
+state_of_turn : (Honest : Type 0) (old new : Held) (e : StateFault) (was is : Told) → IsGatherRefusal Honest old new (gather.State e) was is → IsOfInstalling e
+state_of_turn Honest old new state.OutOfMemory was is r = tt
+state_of_turn Honest old new (state.Shelf fault) was is r = tt
+state_of_turn Honest old new state.Halted was is r = tt
+state_of_turn Honest old new state.NumbersSpent was is r = tt
+state_of_turn Honest old new state.Stale was is r = tt
+state_of_turn Honest old new state.SlotsHeld was is r = tt
+state_of_turn Honest old new state.VersionsSpent was is r = tt
+state_of_turn Honest old new (state.Read fault) was is r = absurd (refused_as Honest old new (state.Read fault) was is r (λ x. x) (λ x. x) (λ x. cc) (λ mid x. x))
+state_of_turn Honest old new (state.BadLevel n) was is r = absurd (refused_as Honest old new (state.BadLevel n) was is r (λ x. x) (λ x. x) (λ x. cc) (λ mid x. x))
+state_of_turn Honest old new state.EmptyBatch was is r = absurd (refused_as Honest old new state.EmptyBatch was is r (λ x. x) (λ x. x) (λ x. cc) (λ mid x. x))
+state_of_turn Honest old new (state.KeyOrder n) was is r = absurd (refused_as Honest old new (state.KeyOrder n) was is r (λ x. x) (λ x. x) (λ x. cc) (λ mid x. x))
+state_of_turn Honest old new state.TooLarge was is r = absurd (refused_as Honest old new state.TooLarge was is r (λ x. x) (λ x. x) (λ x. cc) (λ mid x. x))
+state_of_turn Honest old new state.LevelZeroFull was is r = absurd (refused_as Honest old new state.LevelZeroFull was is r (λ x. x) (λ x. x) (λ x. cc) (λ mid x. x))
+state_of_turn Honest old new state.SequencesSpent was is r = absurd (refused_as Honest old new state.SequencesSpent was is r (λ x. x) (λ x. x) (λ x. cc) (λ mid x. x))
+state_of_turn Honest old new (state.UnknownSnapshot n) was is r = absurd (refused_as Honest old new (state.UnknownSnapshot n) was is r (λ x. x) (λ x. x) (λ x. cc) (λ mid x. x))
+state_of_turn Honest old new (state.Conflict n) was is r = absurd (refused_as Honest old new (state.Conflict n) was is r (λ x. x) (λ x. x) (λ x. cc) (λ mid x. x))
+state_of_turn Honest old new (state.UnknownTicket n) was is r = absurd (refused_as Honest old new (state.UnknownTicket n) was is r (λ x. x) (λ x. x) (λ x. cc) (λ mid x. x))
+state_of_turn Honest old new state.PinsSpent was is r = absurd (refused_as Honest old new state.PinsSpent was is r (λ x. x) (λ x. x) (λ x. cc) (λ mid x. x))
+
+merge_of_turn : (Honest : Type 0) (old new : Held) (e : MergeFault) (was is : Told) → IsGatherRefusal Honest old new (gather.Merge e) was is → Honest → IsReadable e
+merge_of_turn Honest old new e was is (inl once) = absurd once.0
+merge_of_turn Honest old new e was is (inr (least, may, inl lacks)) = absurd lacks
+merge_of_turn Honest old new e was is (inr (least, may, inr (sought, slot, inl merge))) = merge.1.readable
+merge_of_turn Honest old new e was is (inr (least, may, inr (sought, slot, inr change))) = absurd change
+
+pub of_turn : (Honest : Type 0) (old new : Held) (e : GatherFault) (was is : Told) → IsGatherRefusal Honest old new e was is → IsOfTurn Honest (of_gather e)
+of_turn Honest old new (gather.State e) was is refusal = state_of_turn Honest old new e was is refusal
+of_turn Honest old new (gather.Merge e) was is refusal = merge_of_turn Honest old new e was is refusal
+
+-- ---- looks for files to gather
+
+pub looked_under : (Honest : Type 0) (keeps : Held → Type 0) (old new : Held) (was is : Told) (did : Bool) → ∥ keeps old ∥₁
+    → MatchBool did ((n : ℕ) × Gathers Honest old new n was is) (HasNoneToGather old × (is ≡ was))
+    → MatchBool did (GathersUnder Honest keeps Joining was is) (FindsNoneToGather keeps Joining × (is ≡ was))
+looked_under Honest keeps old new was is true kept g = record { joining = refl; old = old; new = new; kept = kept; number = g.0; gathers = g.1 }
+looked_under Honest keeps old new was is false kept n = ((λ e. (old, kept, n.0)), n.1)
 
 -- ---- outcomes
 

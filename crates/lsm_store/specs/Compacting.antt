@@ -3,7 +3,7 @@ use Rattle.std.specs.Prelude.{◌≡◌, ℕ, suc, ◌+◌, ◌==◌, ◌<◌, �
 use Rattle.std.specs.Prelude.{Option, None, Some, sum_by}
 use Rattle.lsm_codec.specs.Lists.{Has}
 use Rattle.lsm_model.specs.Runs.{Event, Ingest, Snapshot, Release, Reserve, Cancel, Draw, Install}
-use Rattle.lsm_model.specs.Runs.{Spend, Nothing, Run}
+use Rattle.lsm_model.specs.Runs.{Gather, Spend, Nothing, Run}
 use Rattle.lsm_pins.specs.Known.{Known}
 use Rattle.lsm_slots.specs.Slots.{Epoch, HasEpoch, Slotted, current_id}
 use Rattle.lsm_state.specs.Collecting.{IsKeptNumber}
@@ -28,6 +28,7 @@ IsOfWorkers (Reserve plan job) = Unit {0}
 IsOfWorkers (Cancel ticket) = Unit {0}
 IsOfWorkers (Draw ticket) = Unit {0}
 IsOfWorkers (Install ticket) = Unit {0}
+IsOfWorkers Gather = Unit {0}
 IsOfWorkers Spend = Unit {0}
 IsOfWorkers Nothing = Unit {0}
 
@@ -40,7 +41,7 @@ pub record IsAsFound (Honest : Type 0) (found h : Held) : Type 0 where
   pub pins : (id : ℕ) → pins_of h.slots id ≡ pins_of found.slots id
   pub answers : Honest → SameAnswers found h
 
--- how many results were installed
+-- how many versions became current: where a result was installed, or files were gathered
 abbrev pub installs_in : List Event → ℕ
 installs_in [] = 0
 installs_in (Ingest entries ∷ events) = installs_in events
@@ -50,11 +51,13 @@ installs_in (Reserve plan job ∷ events) = installs_in events
 installs_in (Cancel ticket ∷ events) = installs_in events
 installs_in (Draw ticket ∷ events) = installs_in events
 installs_in (Install ticket ∷ events) = suc (installs_in events)
+installs_in (Gather ∷ events) = suc (installs_in events)
 installs_in (Spend ∷ events) = installs_in events
 installs_in (Nothing ∷ events) = installs_in events
 
--- On the plain machine the state was reached by reservations, cancels, draws of numbers, installs
--- and spent numbers alone. Each install made a version current, under the next id.
+-- On the plain machine the state was reached by reservations, cancels, draws of numbers, installs,
+-- gathers and spent numbers alone. Each install and each gather made a version current, under the
+-- next id.
 pub record IsWorkersRun (Honest : Type 0) (was is : Held) : Type 0 where
   pub events : List Event
   pub only : (e : Event) → Has events e → IsOfWorkers e

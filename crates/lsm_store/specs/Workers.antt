@@ -16,7 +16,7 @@ IsOfReserving Halted = Unit {0}
 IsOfReserving NumbersSpent = Unit {0}
 IsOfReserving e = ⊥
 
--- the refusals of an install
+-- the refusals of an install, and of a gather by the state
 abbrev pub IsOfInstalling : StateFault → Type 0
 IsOfInstalling OutOfMemory = Unit {0}
 IsOfInstalling (Shelf fault) = Unit {0}
@@ -27,7 +27,7 @@ IsOfInstalling SlotsHeld = Unit {0}
 IsOfInstalling VersionsSpent = Unit {0}
 IsOfInstalling e = ⊥
 
--- What ends one compaction: a refusal of its reservation or its install, or one of its merge, which
+-- What ends a turn: a refusal of a reservation, an install or a gather, or one of a merge, which
 -- over an honest shelf is not that the bytes of an input are at fault.
 abbrev pub IsOfTurn : Type 0 → WorkerFault → Type 0
 IsOfTurn honest NoThread = ⊥

@@ -1,6 +1,6 @@
 -- What a worker does with its shelf, and what its shelf was told when it ends (this project's
 -- rule).
-use Rattle.std.specs.Prelude.{◌≡◌, ℕ, zero, suc, ◌-◌, ◌^◌, ◌≤◌, min, ◌⊎◌, List, [], ◌∷◌, ◌++◌, map}
+use Rattle.std.specs.Prelude.{◌≡◌, ℕ, suc, ◌-◌, ◌^◌, ◌≤◌, min, ◌⊎◌, List, [], ◌∷◌, ◌++◌, map}
 use Rattle.std.specs.Prelude.{Bool, true, Option, None, Some}
 use Rattle.lsm_codec.specs.Lists.{Has}
 use Rattle.lsm_shelf.specs.Asked.{Asked, Put, StartManifest, AppendManifest}
@@ -17,13 +17,19 @@ use Rattle.lsm_merge.specs.declared.merge_fault.MergeFault.{MergeFault}
 use Rattle.lsm_merge.specs.declared.merge_fault.MergeFault.TheVariants as merge
 use Rattle.lsm_state.specs.Asked.{InstallRefused, OnShelf}
 use Rattle.lsm_state.specs.Collecting.{SameCounts}
+use Rattle.lsm_state.specs.Gathering.{GatherRefused, Gathers, HasNoneToGather, IsGatherRefusal}
 use Rattle.lsm_state.specs.Held.{Held}
 use Rattle.lsm_state.specs.Installing.{Installed, IsInstallRefusal, MayInstall}
+use Rattle.lsm_state.specs.declared.gather_fault.GatherFault.{GatherFault}
 use Rattle.lsm_state.specs.declared.state_fault.StateFault.{StateFault}
 use Rattle.lsm_state.specs.declared.state_fault.StateFault.TheVariants as state
 use Rattle.lsm_store.specs.Picking.{IsPickedUnder}
+use Rattle.lsm_store.specs.WorkerFault.{of_gather}
 use Rattle.lsm_store.specs.Workers.{IsOfReserving}
 use Rattle.lsm_store.specs.declared.picks.Picks.{Picks}
+use Rattle.lsm_store.specs.declared.picks.Picks.TheVariants.{Joining}
+use Rattle.lsm_store.specs.declared.turn.Turn.{Turn}
+use Rattle.lsm_store.specs.declared.turn.Turn.TheVariants.{Gathered, Compacted}
 use Rattle.lsm_store.specs.declared.worker_end.WorkerEnd.{WorkerEnd}
 use Rattle.lsm_store.specs.declared.worker_fault.WorkerFault.{WorkerFault}
 use Rattle.lsm_store.specs.declared.worker_fault.WorkerFault.TheVariants.{NoThread, State, Merge}
@@ -74,21 +80,57 @@ pub record IsDone (Honest : Type 0) (keeps : Held → Type 0) (work : Work) (was
   pub taken : IsTaken keeps result put is
 
 -- One compaction: a job that a worker who picks so gets was finished, and its result installed.
-pub record IsTurn (Honest : Type 0) (keeps : Held → Type 0) (picks : Picks) (was is : Told)
+pub record IsCompaction (Honest : Type 0) (keeps : Held → Type 0) (picks : Picks) (was is : Told)
     : Type 0 where
   pub work : Work
   pub picked : Honest → IsPickedUnder keeps picks (Some work)
   pub done : IsDone Honest keeps work was is
 
--- so many compactions, one after another
-abbrev pub Turns : Type 0 → (Held → Type 0) → Picks → ℕ → Told → Told → Type 0
-Turns Honest keeps picks zero was is = is ≡ was
-Turns Honest keeps picks (suc count) was is =
-    (mid : Told) × Turns Honest keeps picks count was mid × IsTurn Honest keeps picks mid is
-
 -- there was no job for a worker who picks so
+abbrev pub FindsNoJob : Type 0 → (Held → Type 0) → Picks → Type 0
+FindsNoJob Honest keeps picks = Honest → IsPickedUnder keeps picks None
+
+-- ---- one gather
+
+-- Files of level 0 became one at one taking of the lock, where the fact held. Only a worker who
+-- takes what comes next gathers.
+pub record GathersUnder (Honest : Type 0) (keeps : Held → Type 0) (picks : Picks) (was is : Told)
+    : Type 0 where
+  pub joining : picks ≡ Joining
+  pub old : Held
+  pub new : Held
+  pub kept : ∥ keeps old ∥₁
+  pub number : ℕ
+  pub gathers : Gathers Honest old new number was is
+
+-- A worker who takes what comes next looked, at one taking of the lock where the fact held, and
+-- there was nothing to be gathered.
+abbrev pub FindsNoneToGather : (Held → Type 0) → Picks → Type 0
+FindsNoneToGather keeps picks = picks ≡ Joining → (h : Held) × ∥ keeps h ∥₁ × HasNoneToGather h
+
+-- ---- turns
+
+-- what a worker did in one turn: it gathered; or there was nothing to be gathered, and it compacted
+abbrev pub IsTurn : Type 0 → (Held → Type 0) → Picks → Turn → Told → Told → Type 0
+IsTurn Honest keeps picks Gathered was is = GathersUnder Honest keeps picks was is
+IsTurn Honest keeps picks Compacted was is =
+    FindsNoneToGather keeps picks × IsCompaction Honest keeps picks was is
+
+-- one turn after another, of which the last is told first
+abbrev pub Turns : Type 0 → (Held → Type 0) → Picks → List Turn → Told → Told → Type 0
+Turns Honest keeps picks [] was is = is ≡ was
+Turns Honest keeps picks (turn ∷ turns) was is =
+    (mid : Told) × Turns Honest keeps picks turns was mid × IsTurn Honest keeps picks turn mid is
+
+-- how many of them were compactions
+abbrev pub compactions : List Turn → ℕ
+compactions [] = 0
+compactions (Gathered ∷ turns) = compactions turns
+compactions (Compacted ∷ turns) = suc (compactions turns)
+
+-- there was nothing for a worker who picks so
 abbrev pub FindsNone : Type 0 → (Held → Type 0) → Picks → Type 0
-FindsNone Honest keeps picks = Honest → IsPickedUnder keeps picks None
+FindsNone Honest keeps picks = FindsNoneToGather keeps picks × FindsNoJob Honest keeps picks
 
 -- ---- what ends a worker
 
@@ -126,29 +168,46 @@ IsRefusedBy Honest Refused keeps e was is =
     ⊎ ((d : Done) × (put : Told) × IsMerged Honest d was put
     × IsUntaken Refused keeps d e put is)
 
--- The refusal that ended a worker with a thread, after its last compaction.
-abbrev pub IsStoppedBy : Type 0 → (Asked → ShelfFault → Type 0) → (Held → Type 0) → WorkerFault
+-- A compaction was not done: the state refused, or its job was not finished.
+abbrev pub IsUndone : Type 0 → (Asked → ShelfFault → Type 0) → (Held → Type 0) → WorkerFault
     → Told → Told → Type 0
-IsStoppedBy Honest Refused keeps NoThread was is = ⊥
-IsStoppedBy Honest Refused keeps (State fault) was is =
-    IsRefusedBy Honest Refused keeps fault was is
-IsStoppedBy Honest Refused keeps (Merge fault) was is = IsUnmerged Honest fault was is
+IsUndone Honest Refused keeps NoThread was is = ⊥
+IsUndone Honest Refused keeps (State fault) was is = IsRefusedBy Honest Refused keeps fault was is
+IsUndone Honest Refused keeps (Merge fault) was is = IsUnmerged Honest fault was is
 
--- Why a worker with a thread ended, after its last compaction: a refusal; or none, and where it was
--- to go on to the end, it found no job.
+-- Files were not gathered at one taking of the lock, where the fact held.
+pub record FailsToGather (Honest : Type 0) (Refused : Asked → ShelfFault → Type 0) (keeps : Held
+    → Type 0) (picks : Picks) (e : GatherFault) (was is : Told) : Type 0 where
+  pub joining : picks ≡ Joining
+  pub old : Held
+  pub new : Held
+  pub kept : ∥ keeps old ∥₁
+  pub refusal : IsGatherRefusal Honest old new e was is
+  pub asked : GatherRefused Refused old e
+
+-- The refusal that ended a worker with a thread, after its last turn: of a compaction, or of a
+-- gather.
+abbrev pub IsStoppedBy : Type 0 → (Asked → ShelfFault → Type 0) → (Held → Type 0) → Picks
+    → WorkerFault → Told → Told → Type 0
+IsStoppedBy Honest Refused keeps picks e was is = IsUndone Honest Refused keeps e was is
+    ⊎ ((fault : GatherFault) × (e ≡ of_gather fault)
+    × FailsToGather Honest Refused keeps picks fault was is)
+
+-- Why a worker with a thread ended, after its last turn: a refusal; or none, and where it was to go
+-- on to the end, it found nothing.
 abbrev pub IsLast : Type 0 → (Asked → ShelfFault → Type 0) → (Held → Type 0) → Given
     → Option WorkerFault → Told → Told → Type 0
 IsLast Honest Refused keeps given None was is =
     (is ≡ was) × (given.to_the_end ≡ true → FindsNone Honest keeps given.picks)
 IsLast Honest Refused keeps given (Some fault) was is =
-    IsStoppedBy Honest Refused keeps fault was is
+    IsStoppedBy Honest Refused keeps given.picks fault was is
 
--- A worker ended with this shelf: it did as many compactions as it says, one after another, and
--- then what ended it; and its shelf was told no more.
+-- A worker ended with this shelf: it took turns, one after another, with as many compactions as it
+-- says, and then did what ended it; and its shelf was told no more.
 pub record IsWorked (Honest : Type 0) (Refused : Asked → ShelfFault → Type 0) (keeps : Held
     → Type 0) (given : Given) (e : WorkerEnd) (back : Told) : Type 0 where
-  pub turns : ℕ
-  pub counted : e.installed ≡ min turns (2 ^ 64 - 1)
+  pub turns : List Turn
+  pub counted : e.installed ≡ min (compactions turns) (2 ^ 64 - 1)
   pub mid : Told
   pub done : Turns Honest keeps given.picks turns given.shelf mid
   pub last : IsLast Honest Refused keeps given e.fault mid back

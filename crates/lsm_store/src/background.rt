@@ -77,19 +77,6 @@ impl Background {
         self.bell.ring(rt);
     }
 
-    /// As `wake`, and answers how often the workers were woken, for `wait_for_room`: for a program
-    /// that makes its own calls under the lock, and waits for room at level 0 between them. The
-    /// count wraps at 2^64.
-    pub fn ring<R: Wait>(&self, rt: &R) -> u64 {
-        self.bell.ring(rt)
-    }
-
-    /// Waits until the workers were woken, or a result was installed, oftener than that: how often
-    /// then. None where no worker can make room: each has ended, or found nothing to reserve.
-    pub fn wait_for_room<R: Wait>(&self, rt: &R, rings: u64) -> Option<u64> {
-        self.bell.wait_for_room(rt, rings)
-    }
-
     /// Waits until there is nothing to compact: each worker has looked since this call began and
     /// found nothing to reserve, or has ended. No worker has a job then.
     pub fn wait_until_idle<R: Wait>(&self, rt: &R) {

@@ -51,8 +51,8 @@ fn start_drawing<'s, 'e, N: Boarded, S: Shelf, K: Invariant, R: Threads + Wait +
     thread.is_ok()
 }
 
-/// Runs a worker for each shelf beside the body, which joins small files too, and a thread that
-/// draws numbers for them; there is room for threads and for what comes back.
+/// Runs a worker for each shelf beside the body, which gathers and joins small files, and a thread
+/// that draws numbers for them; there is room for threads and for what comes back.
 fn run_beside<
     N: Boarded,
     S: Shelf,
@@ -138,13 +138,15 @@ fn run_beside<
 /// shelf of the thread that removed tables, none where there is no such thread. The shelves are
 /// forks of the store's, of any number; 1 to 8 are meant.
 ///
-/// Each worker has a thread of its own, in which it reserves under the lock what comes next, so that
+/// Each worker has a thread of its own, in which it gathers the newest small files of level 0 under
+/// the lock (`State::gather`); where there are none, it reserves there what comes next, so that
 /// small files are joined (`State::reserve_next`), merges outside it, and installs under it; before
-/// each merge the gate is told. Where nothing is left to reserve it sleeps, until it is woken
-/// (`Background::wake`) or another worker has installed a result. One more thread draws the numbers
-/// of the outputs under the lock. And one, over a fork of the last shelf, removes after installs
-/// the tables that nothing needs any more, one at a taking of the lock; what it cannot remove it
-/// leaves to the next time. Its shelf was told no more (`laws::what_sweeping_did_is_told`).
+/// each merge the gate is told. Where nothing is left to do it sleeps, until it is woken
+/// (`Background::wake`) or another worker has gathered or installed. One more thread draws the
+/// numbers of the outputs under the lock. And one, over a fork of the last shelf, removes after
+/// gathers and installs the tables that nothing needs any more, one at a taking of the lock; what
+/// it cannot remove it leaves to the next time. Its shelf was told no more
+/// (`laws::what_sweeping_did_is_told`).
 ///
 /// The body runs in the thread of the caller, and is lent the workers. Once it has answered, each
 /// worker ends after the merge at hand, and all threads are joined. A body after which nothing

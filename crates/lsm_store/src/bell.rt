@@ -9,7 +9,7 @@ use std::sync::{Condvar, Mutex, Wait};
 struct Rung {
     // How often it was rung. The count wraps.
     rings: u64,
-    // How often a result was installed. The count wraps.
+    // How often a result was installed, or files were gathered. The count wraps.
     installs: u64,
     // How many workers have not ended.
     working: usize,
@@ -79,7 +79,7 @@ impl Bell {
         rung.rings
     }
 
-    /// Rings after an install.
+    /// Rings after a version became current, by an install or a gather.
     pub(crate) fn installed<R: Wait>(&self, rt: &R) {
         let mut rung = self.rung.lock(rt);
         rung.installs = rung.installs.wrapping_add(1);

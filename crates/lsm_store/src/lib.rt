@@ -26,6 +26,7 @@ mod manual_compaction;
 mod picks;
 mod sweeper;
 mod sweeping;
+mod turn;
 mod worker;
 mod worker_end;
 mod worker_fault;

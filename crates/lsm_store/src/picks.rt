@@ -7,7 +7,8 @@ use crate::manual_compaction::ManualCompaction;
 pub enum Picks {
     /// The chosen one, as `State::reserve` does.
     Choice,
-    /// The next one, as `State::reserve_next` does: small files are joined.
+    /// The next one, as `State::reserve_next` does, so that small files are joined. Before it looks
+    /// for one it gathers the newest small files of level 0 (`State::gather`).
     Joining,
     /// That of a range of keys, level by level, due or not, and no other.
     Manual(ManualCompaction),

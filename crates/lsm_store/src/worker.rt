@@ -1,13 +1,20 @@
 //! What a worker does in its thread.
 
-ghost use Rattle.std.specs.Prelude.{◌≡◌, IfErr, IfOk, MatchBool, OnOk};
+ghost use Rattle.std.specs.Prelude.{◌≡◌, ℕ, ◌-◌, ◌^◌, min, List, ◌∷◌, IfErr, IfOk, MatchBool};
+ghost use Rattle.std.specs.Prelude.{MatchOption, OnOk};
 ghost use Rattle.lsm_live.specs.Booked.{HasTicket, without};
+ghost use Rattle.lsm_state.specs.Gathering.{GatherRefused, Gathers, HasNoneToGather};
+ghost use Rattle.lsm_state.specs.Gathering.{IsGatherRefusal};
 ghost use Rattle.lsm_store.specs.Compacting.{IsCompactingStep, IsKeptByCompaction};
 ghost use Rattle.lsm_store.specs.Picking.{IsBooked, IsManual, IsPicked, IsPickedUnder};
 ghost use Rattle.lsm_store.specs.declared.picks.Picks.TheVariants.{Choice, Joining};
+ghost use Rattle.lsm_store.specs.declared.turn.Turn.{Turn};
+ghost use Rattle.lsm_store.specs.WorkerFault.{of_gather};
 ghost use Rattle.lsm_store.specs.Workers.{IsOfInstalling, IsOfReserving, IsOfTurn, IsWorkersEnd};
-ghost use Rattle.lsm_store.specs.Working.{FindsNone, IsDone, IsStoppedBy, IsTaken, IsTurn};
-ghost use Rattle.lsm_store.specs.Working.{IsUntaken, IsWorked, LeavesOut, TakesIn, given_one};
+ghost use Rattle.lsm_store.specs.Working.{FailsToGather, FindsNone, FindsNoJob, FindsNoneToGather};
+ghost use Rattle.lsm_store.specs.Working.{GathersUnder, IsCompaction, IsDone, IsStoppedBy, IsTaken};
+ghost use Rattle.lsm_store.specs.Working.{IsTurn, IsUndone, IsUntaken, IsWorked, LeavesOut};
+ghost use Rattle.lsm_store.specs.Working.{TakesIn, compactions, given_one};
 
 use crate::bell::Bell;
 use crate::gate::Gate;
@@ -17,14 +24,77 @@ use crate::number_service::NumberService;
 use crate::picks::Picks;
 use crate::store::Store;
 use crate::ticket_numbers::TicketNumbers;
+use crate::turn::Turn;
 use crate::worker_end::WorkerEnd;
 use crate::worker_fault::WorkerFault;
 use lsm_merge::{Finished, Job, compact};
 use lsm_slots::Boarded;
-use lsm_state::{State, StateFault};
+use lsm_state::{GatherFault, State, StateFault};
 use lsm_table::{NamedShelf, Registry, Shelf};
 use std::alloc::{AllocError, Global};
 use std::sync::{Arc, Wait};
+
+/// Gathers files of level 0. Whether there were any to be gathered.
+fn gather_in<N: Boarded, S: Shelf, R: Wait>(
+    state: &mut State<N, S>,
+    rt: &R,
+    alloc: Global,
+    shelf: &mut NamedShelf<N, S>,
+) -> Result<bool, GatherFault>
+    ensures gathers { IfOk result (λ did. MatchBool did
+        ((n : ℕ) × Gathers S.honest state.old state.new n shelf.old shelf.new)
+        (HasNoneToGather state.old × (shelf.new ≡ shelf.old))) }
+    ensures refused { IfErr result (λ e.
+        IsGatherRefusal S.honest state.old state.new e shelf.old shelf.new) }
+    ensures asked { IfErr result (GatherRefused (S.refuses N.place) state.old) }
+    ensures step { IsCompactingStep S.honest state.old state.new }
+{
+    match state.gather(rt, alloc, shelf) {
+        Ok(Some(_number)) => Ok(true),
+        Ok(None) => Ok(false),
+        Err(fault) => Err(fault),
+    }
+}
+
+/// Gathers files of level 0 under the lock. Whether there were any to be gathered.
+fn gather_under_lock<N: Boarded, S: Shelf, K: Invariant, R: Wait>(
+    rt: &R,
+    alloc: Global,
+    store: &Store<N, S, K>,
+    shelf: &mut NamedShelf<N, S>,
+) -> Result<bool, GatherFault>
+    requires kept { IsKeptByCompaction S.honest K.keeps }
+    ensures gathers { IfOk result (λ did. MatchBool did
+        (GathersUnder S.honest K.keeps Joining shelf.old shelf.new)
+        (FindsNoneToGather K.keeps Joining × (shelf.new ≡ shelf.old))) }
+    ensures fails { IfErr result (λ e.
+        FailsToGather S.honest (S.refuses N.place) K.keeps Joining e shelf.old shelf.new) }
+    ensures refused { IfErr result (λ e. IsOfTurn S.honest (of_gather e)) }
+{
+    gather_in(&mut store.lock(rt).state, rt, alloc, shelf)
+}
+
+/// Gathers files of level 0, where a worker who picks so gathers. Whether it has gathered any.
+fn gather<N: Boarded, S: Shelf, K: Invariant, R: Wait>(
+    rt: &R,
+    alloc: Global,
+    store: &Store<N, S, K>,
+    shelf: &mut NamedShelf<N, S>,
+    picks: &Picks,
+) -> Result<bool, GatherFault>
+    requires kept { IsKeptByCompaction S.honest K.keeps }
+    ensures gathers { IfOk result (λ did. MatchBool did
+        (GathersUnder S.honest K.keeps picks.now shelf.old shelf.new)
+        (FindsNoneToGather K.keeps picks.now × (shelf.new ≡ shelf.old))) }
+    ensures fails { IfErr result (λ e.
+        FailsToGather S.honest (S.refuses N.place) K.keeps picks.now e shelf.old shelf.new) }
+    ensures refused { IfErr result (λ e. IsOfTurn S.honest (of_gather e)) }
+{
+    match picks {
+        Picks::Joining => gather_under_lock(rt, alloc, store, shelf),
+        Picks::Choice | Picks::Manual(_) => Ok(false),
+    }
+}
 
 /// The job of the chosen compaction; none where there is no choice.
 #[tactic(auto, using(crate::proofs::CompactingLaws::step_none))]
@@ -184,8 +254,8 @@ fn finish<N: Boarded, S: Shelf, K: Invariant, R: Wait>(
     requires kept { IsKeptByCompaction S.honest K.keeps }
     ensures refused { IfErr result (IsOfTurn S.honest) }
     ensures done { OnOk result (IsDone S.honest K.keeps job shelf.old shelf.new) }
-    ensures stopped { IfErr result (λ e.
-        IsStoppedBy S.honest (S.refuses N.place) K.keeps e shelf.old shelf.new) }
+    ensures undone { IfErr result (λ e.
+        IsUndone S.honest (S.refuses N.place) K.keeps e shelf.old shelf.new) }
 {
     let mut numbers = TicketNumbers::of(service);
     let done = match compact(rt, alloc, shelf, registry, job, &mut numbers) {
@@ -201,7 +271,7 @@ fn finish<N: Boarded, S: Shelf, K: Invariant, R: Wait>(
 }
 
 /// One compaction: whether there was one to do. After a fault its job is not live.
-fn turn<N: Boarded, S: Shelf, K: Invariant, G: Gate, R: Wait>(
+fn compact_next<N: Boarded, S: Shelf, K: Invariant, G: Gate, R: Wait>(
     rt: &R,
     alloc: Global,
     store: &Store<N, S, K>,
@@ -214,11 +284,11 @@ fn turn<N: Boarded, S: Shelf, K: Invariant, G: Gate, R: Wait>(
 ) -> Result<bool, WorkerFault>
     requires kept { IsKeptByCompaction S.honest K.keeps }
     ensures refused { IfErr result (IsOfTurn S.honest) }
-    ensures turn { IfOk result (λ did.
-        MatchBool did (IsTurn S.honest K.keeps picks.now shelf.old shelf.new)
-        ((shelf.new ≡ shelf.old) × FindsNone S.honest K.keeps picks.now)) }
-    ensures stopped { IfErr result (λ e.
-        IsStoppedBy S.honest (S.refuses N.place) K.keeps e shelf.old shelf.new) }
+    ensures compaction { IfOk result (λ did.
+        MatchBool did (IsCompaction S.honest K.keeps picks.now shelf.old shelf.new)
+        ((shelf.new ≡ shelf.old) × FindsNoJob S.honest K.keeps picks.now)) }
+    ensures undone { IfErr result (λ e.
+        IsUndone S.honest (S.refuses N.place) K.keeps e shelf.old shelf.new) }
 {
     let job = match reserve(rt, alloc, store, picks) {
         Ok(Some(job)) => job,
@@ -236,6 +306,51 @@ fn turn<N: Boarded, S: Shelf, K: Invariant, G: Gate, R: Wait>(
     }
 }
 
+/// One turn: files are gathered, where a worker who picks so gathers and there are some; and else
+/// there is a compaction. None where there was neither to do.
+fn turn<N: Boarded, S: Shelf, K: Invariant, G: Gate, R: Wait>(
+    rt: &R,
+    alloc: Global,
+    store: &Store<N, S, K>,
+    registry: &Registry<N, S>,
+    service: &NumberService,
+    shelf: &mut NamedShelf<N, S>,
+    gate: &G,
+    worker: usize,
+    picks: &Picks,
+) -> Result<Option<Turn>, WorkerFault>
+    requires kept { IsKeptByCompaction S.honest K.keeps }
+    ensures refused { IfErr result (IsOfTurn S.honest) }
+    ensures turn { IfOk result (λ did. MatchOption did
+        ((shelf.new ≡ shelf.old) × FindsNone S.honest K.keeps picks.now)
+        (λ t. IsTurn S.honest K.keeps picks.now t shelf.old shelf.new)) }
+    ensures stopped { IfErr result (λ e.
+        IsStoppedBy S.honest (S.refuses N.place) K.keeps picks.now e shelf.old shelf.new) }
+{
+    if gather(rt, alloc, store, shelf, picks)? {
+        return Ok(Some(Turn::Gathered));
+    }
+    match compact_next(
+        rt, alloc, store, registry, service, shelf, gate, worker, picks,
+    ) {
+        Ok(true) => Ok(Some(Turn::Compacted)),
+        Ok(false) => Ok(None),
+        Err(fault) => Err(fault),
+    }
+}
+
+/// So many results are installed after a turn more.
+#[tactic(auto, using(crate::proofs::WorkingLaws::one_turn_more))]
+fn counted(installed: u64, did: Turn) -> u64
+    ensures more { (turns : List Turn) → installed ≡ min (compactions turns) (2 ^ 64 - 1)
+        → result ≡ min (compactions (did ∷ turns)) (2 ^ 64 - 1) }
+{
+    match did {
+        Turn::Gathered => installed,
+        Turn::Compacted => installed.saturating_add(1),
+    }
+}
+
 /// The registry of the store's tables.
 fn registry_of<N: Boarded, S: Shelf, K: Invariant, R: Wait>(
     rt: &R,
@@ -244,9 +359,9 @@ fn registry_of<N: Boarded, S: Shelf, K: Invariant, R: Wait>(
     Arc::try_clone(store.lock(rt).state.registry())
 }
 
-/// One compaction after another, until the bell is closed, or a fault; where it closes at the end,
-/// until nothing is left to reserve. Meanwhile, where there is nothing, it sleeps until the bell
-/// rings. It rings after each install.
+/// One turn after another, until the bell is closed, or a fault; where it closes at the end, until
+/// nothing is left to gather or to reserve. Meanwhile, where there is nothing, it sleeps until the
+/// bell rings. It rings after each install and each gather.
 pub(crate) fn work<N: Boarded, S: Shelf, K: Invariant, G: Gate, R: Wait>(
     rt: &R,
     alloc: Global,
@@ -280,11 +395,11 @@ pub(crate) fn work<N: Boarded, S: Shelf, K: Invariant, G: Gate, R: Wait>(
         match turn(
             rt, alloc, store, &registry, service, shelf, gate, worker, picks,
         ) {
-            Ok(true) => {
-                installed = installed.saturating_add(1);
+            Ok(Some(did)) => {
+                installed = counted(installed, did);
                 bell.installed(rt);
             }
-            Ok(false) => {
+            Ok(None) => {
                 if !bell.wait_for_work(rt, rings) {
                     return WorkerEnd {
                         installed,

@@ -4,7 +4,7 @@ ghost use Rattle.std.specs.Prelude.{◌≡◌};
 ghost use Rattle.lsm_store.specs.WorkerFault.{name_of, number_of};
 
 use lsm_merge::MergeFault;
-use lsm_state::StateFault;
+use lsm_state::{GatherFault, StateFault};
 use thiserror::Error;
 
 /// Why a worker ended before nothing was left to do.
@@ -13,10 +13,10 @@ pub enum WorkerFault {
     /// Its thread could not be made: it has done nothing.
     #[error("OutOfMemory")]
     NoThread,
-    /// The state refused a reservation or an install.
+    /// The state refused a reservation, an install or a gather.
     #[error("{0}")]
     State(StateFault),
-    /// A job was not finished.
+    /// A job was not finished, or files were not gathered.
     #[error("{0}")]
     Merge(MergeFault),
 }
@@ -53,5 +53,18 @@ impl From<StateFault> for WorkerFault {
 
     fn from(fault: StateFault) -> WorkerFault {
         WorkerFault::State(fault)
+    }
+}
+
+impl From<GatherFault> for WorkerFault {
+    ghost use Rattle.lsm_store.specs.WorkerFault.{of_gather};
+
+    ghost from_gives = { λ fault e. e ≡ of_gather fault };
+
+    fn from(fault: GatherFault) -> WorkerFault {
+        match fault {
+            GatherFault::State(fault) => WorkerFault::State(fault),
+            GatherFault::Merge(fault) => WorkerFault::Merge(fault),
+        }
     }
 }

@@ -1,17 +1,18 @@
 -- What calls of a state leave of its answers, and of the tables that it keeps.
-use Rattle.std.proofs.Common.{◌≡◌, ℕ, ◌≤◌, Bool, false, true, List, ◌++◌, Result, Ok, Err, refl, sym, ap, ◌∙◌, subst, inr, arith}
-use Rattle.std.specs.Prelude.{IfOk, IsTrue, OnOk, ◌↔◌, ◌==◌, not}
+use Rattle.std.proofs.Common.{◌≡◌, ℕ, ◌≤◌, Bool, false, true, List, ◌++◌, Option, None, Some, Result, Ok, Err, refl, sym, ap, ◌∙◌, subst, inl, inr, arith}
+use Rattle.std.specs.Prelude.{IfNone, IfOk, IfSome, IsTrue, OnErr, OnOk, ◌↔◌, ◌==◌, not}
 use Rattle.std.proofs.lemmas.Bool.{eq-eqb}
 use Rattle.lsm_codec.specs.Keys.{UserKey}
 use Rattle.lsm_codec.specs.Lists.{Has}
 use Rattle.lsm_codec.specs.Entries.{Entry, answer, value_in}
 use Rattle.lsm_codec.proofs.CallerLemmas.{any_at, filter_has}
 use Rattle.lsm_model.specs.Law.{Books, Law}
-use Rattle.lsm_model.specs.Plain.{Ingests, Plain}
+use Rattle.lsm_model.specs.Plain.{Ingests, IsReadable, Plain, Spends}
 use Rattle.lsm_model.specs.Runs.{Agrees}
 use Rattle.lsm_shelf.specs.Told.{Told}
 use Rattle.lsm_slots.specs.Snapshots.{Taken}
 use Rattle.lsm_state.specs.Collecting.{AreCollected, IsKeptNumber, IsRemovedOrKept, is_in, outside}
+use Rattle.lsm_state.specs.Gathering.{IsGathering}
 use Rattle.lsm_state.specs.Held.{Held, plain}
 use Rattle.lsm_store.specs.Compacting.{IsLeftByWorkers}
 use Rattle.lsm_store.specs.Readers.{IsMet, Learnt}
@@ -33,6 +34,28 @@ pub snapshots_so : {T E : Type 0} (H : Type 0) (r : Result T E) (was is : Held) 
     → (H → Agrees (plain was) was.history) → (H → Agrees (plain is) is.history) → H → OnOk r ((id seq : ℕ) (k : UserKey) → Has was.snapshots.taken (id, seq) → read_of is k seq ≡ read_of was k seq)
 snapshots_so H (Ok v) was is new i history law before after fair = snapshot_so was is new i history law.books (before fair) (after fair)
 snapshots_so H (Err e) was is new i history law before after fair = tt
+
+-- ---- files that become one
+
+-- nothing came in, and the machine's last sequence and snapshots are the same
+unchanged_so : (H : Type 0) (old new : Held) → new.history ≡ old.history → (plain new).last ≡ (plain old).last → (plain new).snapshots ≡ (plain old).snapshots
+    → (H → Agrees (plain old) old.history) → (H → Agrees (plain new) new.history) → IsUnchanged H old new
+unchanged_so H old new history last snapshots before after = record {
+  history = history;
+  last = last;
+  snapshots = snapshots;
+  reads = λ fair k seq readable. (after fair).reads k seq (still seq readable) ∙ (ap (λ (es : List Entry). answer es k seq) history ∙ sym ((before fair).reads k seq readable));
+}
+  where
+    still : (seq : ℕ) → IsReadable (plain old) seq → IsReadable (plain new) seq
+    still seq (inl e) = inl (e ∙ sym last)
+    still seq (inr (p, h, is)) = inr (p, subst (λ (ps : List (ℕ × ℕ)). Has ps p) (sym snapshots) h, is)
+
+pub gathered_so : {E : Type 0} (H : Type 0) (r : Result (Option ℕ) E) (old new : Held) (Same : Type 0) → IfOk r (λ o. IfSome o (λ n. IsGathering H old new)) → IfOk r (λ o. IfNone o ((new ≡ old) × Same))
+    → OnErr r (Spends (plain old) (plain new)) → new.history ≡ old.history → (H → Agrees (plain old) old.history) → (H → Agrees (plain new) new.history) → IsUnchanged H old new
+gathered_so H (Ok (Some n)) old new Same event none err history before after = unchanged_so H old new history (ap (λ (p : Plain). p.last) event.is) (ap (λ (p : Plain). p.snapshots) event.is) before after
+gathered_so H (Ok None) old new Same event none err history before after = unchanged_so H old new history (ap (λ (h : Held). h.slots.version.last) none.0) (ap (λ (h : Held). h.snapshots.taken) none.0) before after
+gathered_so H (Err e) old new Same event none err history before after = unchanged_so H old new history (ap (λ (p : Plain). p.last) err.2) (ap (λ (p : Plain). p.snapshots) err.2) before after
 
 -- ---- workers
 

@@ -1,6 +1,6 @@
 -- Each call's contract, as what the call is in a chain.
 use Rattle.std.proofs.Common.{◌≡◌, ℕ, suc, List, [], ◌∷◌, ◌++◌, Option, Some, None, Result, Ok, Err, refl, ◌∙◌, ap, arith}
-use Rattle.std.specs.Prelude.{IfNone, IfOk, IfSome, OnErr, OnOk}
+use Rattle.std.specs.Prelude.{IfNone, IfOk, IfSome, MatchOption, OnErr, OnOk}
 use Rattle.lsm_codec.specs.Entries.{answer}
 use Rattle.lsm_codec.specs.Keys.{UserKey}
 use Rattle.lsm_model.specs.Files.{all_entries}
@@ -15,6 +15,7 @@ use Rattle.lsm_journal.specs.Difference.{Difference, changed_by}
 use Rattle.lsm_live.specs.Booked.{HasTicket, booked, without}
 use Rattle.lsm_merge.specs.Work.{Done, Work}
 use Rattle.lsm_slots.specs.Snapshots.{HasId}
+use Rattle.lsm_state.specs.Gathering.{Gathers, IsGathering}
 use Rattle.lsm_state.specs.Held.{Held, plain}
 use Rattle.lsm_state.specs.Ingesting.{Ingests, coming_in, entries_of, last_of}
 use Rattle.lsm_state.specs.Installing.{IsInstalling}
@@ -22,7 +23,7 @@ use Rattle.lsm_state.specs.Reading.{IsSequence}
 use Rattle.lsm_state.specs.Reserving.{IsReserving, reserved}
 use Rattle.lsm_state.specs.declared.ingest.Ingested.{Ingested}
 use Rattle.lsm_store.specs.Background as store
-use Rattle.lsm_theorems.specs.Calls.{BringsNone, Call, Cancel, Draw, Get, Ingest, Install, IsCall, Look, Refused, Release, Reserve, Snapshot}
+use Rattle.lsm_theorems.specs.Calls.{BringsNone, Call, Cancel, Draw, Gather, Get, Ingest, Install, IsCall, Look, Refused, Release, Reserve, Snapshot}
 
 -- ---- what changes nothing that the machine or the history sees
 
@@ -117,6 +118,17 @@ draw_so H (Err e) old new ticket Live Unspent p event = tt
 pub install_so : {T E : Type 0} (H : Type 0) (r : Result T E) (old new : Held) (d : Done) → OnOk r (IsInstalling H old d.work.ticket new) → BringsNone old new → OnOk r (IsCall H (Install d) old new)
 install_so H (Ok v) old new d event h = (event, h)
 install_so H (Err e) old new d event h = tt
+
+pub gather_so : {E : Type 0} (H : Type 0) (r : Result (Option ℕ) E) (old new : Held) (was is : Told) (Without : Type 0) → IfOk r (λ o. MatchOption o Without (λ n. Gathers H old new n was is))
+    → IfOk r (λ o. IfSome o (λ n. IsGathering H old new)) → BringsNone old new → IfOk r (λ o. IfSome o (λ n. IsCall H (Gather n) old new))
+gather_so H (Ok (Some n)) old new was is Without g event h = (event, g.number_is, h)
+gather_so H (Ok None) old new was is Without g event h = tt
+gather_so H (Err e) old new was is Without g event h = tt
+
+pub ungathered_so : {X E : Type 0} (H : Type 0) (r : Result (Option X) E) (old new : Held) (Same : Type 0) → IfOk r (λ o. IfNone o ((new ≡ old) × Same)) → IfOk r (λ o. IfNone o (IsCall H Look old new))
+ungathered_so H (Ok (Some x)) old new Same e = tt
+ungathered_so H (Ok None) old new Same e = look_so H old old new e.0 refl refl
+ungathered_so H (Err x) old new Same e = tt
 
 pub unspent_so : {T E : Type 0} (H : Type 0) (r : Result T E) (old new : Held) → OnErr r (Spends (plain old) (plain new)) → BringsNone old new → OnErr r (IsCall H Refused old new)
 unspent_so H (Ok v) old new s h = tt

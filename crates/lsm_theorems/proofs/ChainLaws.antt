@@ -6,7 +6,7 @@ use Rattle.lsm_codec.specs.Keys.{UserKey}
 use Rattle.lsm_codec.specs.Lists.{Has}
 use Rattle.lsm_model.specs.Law.{Law}
 use Rattle.lsm_model.specs.Plain.{IsReadable, Plain, without_snapshot}
-use Rattle.lsm_model.specs.Runs.{Agrees, Event, Ingest, Snapshot, Release, Reserve, Cancel, Draw, Install, Spend, Nothing, Run, ingested}
+use Rattle.lsm_model.specs.Runs.{Agrees, Event, Ingest, Snapshot, Release, Reserve, Cancel, Draw, Install, Gather, Spend, Nothing, Run, ingested}
 use Rattle.lsm_model.proofs.CallerLemmas.{run_law, step_agrees, step_law}
 use Rattle.lsm_shelf.specs.Asked.{Asked}
 use Rattle.lsm_shelf.specs.declared.shelf_fault.ShelfFault.{ShelfFault}
@@ -43,6 +43,7 @@ ingested_step (Reserve plan job) events xs = refl
 ingested_step (Cancel ticket) events xs = refl
 ingested_step (Draw ticket) events xs = refl
 ingested_step (Install ticket) events xs = refl
+ingested_step Gather events xs = refl
 ingested_step Spend events xs = refl
 ingested_step Nothing events xs = refl
 
@@ -65,6 +66,7 @@ works_none (Reserve plan job ∷ es) only xs = works_none es (λ e h. only e (in
 works_none (Cancel ticket ∷ es) only xs = works_none es (λ e h. only e (inr h)) xs
 works_none (Draw ticket ∷ es) only xs = works_none es (λ e h. only e (inr h)) xs
 works_none (Install ticket ∷ es) only xs = works_none es (λ e h. only e (inr h)) xs
+works_none (Gather ∷ es) only xs = works_none es (λ e h. only e (inr h)) xs
 works_none (Spend ∷ es) only xs = works_none es (λ e h. only e (inr h)) xs
 works_none (Nothing ∷ es) only xs = works_none es (λ e h. only e (inr h)) xs
 
@@ -91,6 +93,7 @@ call_moves H (calls.Release id) old new k = record { events = Release id ∷ [];
 call_moves H (calls.Reserve work) old new k = record { events = Reserve (plan_of (plan_in work)) (job_of work) ∷ []; run = (plain new, k.0, refl); history = k.1 }
 call_moves H (calls.Draw ticket number) old new k = record { events = Draw ticket ∷ []; run = (plain new, k.0, refl); history = k.2 }
 call_moves H (calls.Install done) old new k = record { events = Install done.work.ticket ∷ Spend ∷ []; run = k.0; history = k.1 }
+call_moves H (calls.Gather number) old new k = record { events = Gather ∷ []; run = (plain new, k.0, refl); history = k.2 }
 call_moves H (calls.Cancel ticket) old new k = record { events = Cancel ticket ∷ []; run = (plain new, k.0, refl); history = k.1 }
 call_moves H calls.Look old new k = record { events = []; run = k.0; history = k.1 }
 call_moves H calls.Refused old new k = record { events = Spend ∷ []; run = (plain new, k.0, refl); history = k.1 }
@@ -161,6 +164,7 @@ call_answered H (calls.Install done) old new l a k =
     let run = k.0 in
     same_database old new k.1 (ap (λ (p : Plain). p.last) run.2.2 ∙ (ap (λ (p : Plain). p.last) run.2.1.2 ∙ ap (λ (p : Plain). p.last) run.1.is))
     (ap (λ (p : Plain). p.snapshots) run.2.2 ∙ (ap (λ (p : Plain). p.snapshots) run.2.1.2 ∙ ap (λ (p : Plain). p.snapshots) run.1.is))
+call_answered H (calls.Gather number) old new l a k = same_database old new k.2 (ap (λ (p : Plain). p.last) k.0.is) (ap (λ (p : Plain). p.snapshots) k.0.is)
 call_answered H (calls.Cancel ticket) old new l a k = same_database old new k.1 (ap (λ (p : Plain). p.last) k.0) (ap (λ (p : Plain). p.snapshots) k.0)
 call_answered H calls.Look old new l a k = same_database old new k.1 (ap (λ (p : Plain). p.last) k.0) (ap (λ (p : Plain). p.snapshots) k.0)
 call_answered H calls.Refused old new l a k = same_database old new k.1 (ap (λ (p : Plain). p.last) k.0.2) (ap (λ (p : Plain). p.snapshots) k.0.2)
@@ -188,6 +192,7 @@ call_came H (calls.Draw ticket number) cs old new k = came_same cs _ _ _ _ (ap (
 call_came H (calls.Install done) cs old new k =
     let run = k.0 in
     came_same cs _ _ _ _ (ap (λ (p : Plain). p.last) run.2.2 ∙ (ap (λ (p : Plain). p.last) run.2.1.2 ∙ ap (λ (p : Plain). p.last) run.1.is)) k.1
+call_came H (calls.Gather number) cs old new k = came_same cs _ _ _ _ (ap (λ (p : Plain). p.last) k.0.is) k.2
 call_came H (calls.Cancel ticket) cs old new k = came_same cs _ _ _ _ (ap (λ (p : Plain). p.last) k.0) k.1
 call_came H calls.Look cs old new k = came_same cs _ _ _ _ (ap (λ (p : Plain). p.last) k.0) k.1
 call_came H calls.Refused cs old new k = came_same cs _ _ _ _ (ap (λ (p : Plain). p.last) k.0.2) k.1

@@ -9,6 +9,7 @@ use Rattle.lsm_version.specs.Versions.{files}
 use Rattle.lsm_batch.specs.declared.write.Write.{Write}
 use Rattle.lsm_merge.specs.Work.{Done, Work}
 use Rattle.lsm_slots.specs.Snapshots.{HasId}
+use Rattle.lsm_state.specs.Gathering.{IsGathering}
 use Rattle.lsm_state.specs.Held.{Held, plain}
 use Rattle.lsm_state.specs.Ingesting.{entries_of, last_of}
 use Rattle.lsm_state.specs.Installing.{IsInstalling}
@@ -26,6 +27,8 @@ pub data Call : Type 0 where
   Reserve : (work : Work) → Call
   Draw : (ticket number : ℕ) → Call
   Install : (done : Done) → Call
+  -- the newest files of level 0 became one, of this number
+  Gather : (number : ℕ) → Call
   Cancel : (ticket : ℕ) → Call
   -- a collect, a pin that comes or goes, a reader that learns the version or asks for its tables
   Look : Call
@@ -60,6 +63,8 @@ IsCall honest (Reserve work) old new = IsReserving honest old work new × Brings
 IsCall honest (Draw ticket number) old new = Draws (plain old) ticket (plain new)
     × (number ≡ old.next) × BringsNone old new
 IsCall honest (Install done) old new = IsInstalling honest old done.work.ticket new
+    × BringsNone old new
+IsCall honest (Gather number) old new = IsGathering honest old new × (number ≡ old.next)
     × BringsNone old new
 IsCall honest (Cancel ticket) old new = Cancels (plain old) ticket (plain new)
     × BringsNone old new

@@ -2,7 +2,7 @@
 
 ghost use Rattle.std.specs.Prelude.{◌≡◌, IfNone, IfOk, IfSome, OnErr, OnOk};
 ghost use Rattle.std.specs.Option.{option_map};
-ghost use Rattle.lsm_theorems.specs.Calls.{Cancel, Draw, Get, Ingest, Install, IsCall, Look};
+ghost use Rattle.lsm_theorems.specs.Calls.{Cancel, Draw, Gather, Get, Ingest, Install, IsCall, Look};
 ghost use Rattle.lsm_theorems.specs.Calls.{Refused, Release, Reserve, Snapshot};
 
 use lsm_batch::Batch;
@@ -10,7 +10,7 @@ use lsm_history::Memory;
 use lsm_merge::{Finished, Job};
 use lsm_pins::Pinner;
 use lsm_slots::Boarded;
-use lsm_state::{Ingested, State, StateFault};
+use lsm_state::{GatherFault, Ingested, State, StateFault};
 use lsm_store::{Reader, View};
 use lsm_table::{NamedShelf, Shelf};
 use std::alloc::{AllocError, Global};
@@ -115,6 +115,21 @@ pub fn installs_are_calls<N: Boarded, S: Shelf, R: Wait>(
     ensures err { OnErr result (IsCall S.honest Refused state.old state.new) }
 {
     state.install(rt, alloc, shelf, done)
+}
+
+/// Newest files of level 0 that become one; where there are none to gather nothing changes.
+pub fn gatherings_are_calls<N: Boarded, S: Shelf, R: Wait>(
+    rt: &R,
+    alloc: Global,
+    state: &mut State<N, S>,
+    shelf: &mut NamedShelf<N, S>,
+) -> Result<Option<u64>, GatherFault>
+    ensures ok { IfOk result (λ r. IfSome r (λ n.
+        IsCall S.honest (Gather n) state.old state.new)) }
+    ensures none { IfOk result (λ r. IfNone r (IsCall S.honest Look state.old state.new)) }
+    ensures err { OnErr result (IsCall S.honest Refused state.old state.new) }
+{
+    state.gather(rt, alloc, shelf)
 }
 
 /// A compaction that is cancelled.

@@ -8,7 +8,7 @@ ghost use Rattle.lsm_theorems.specs.Unchanged.{IsUnchanged};
 
 use lsm_merge::{Finished, Job};
 use lsm_slots::Boarded;
-use lsm_state::{State, StateFault};
+use lsm_state::{GatherFault, State, StateFault};
 use lsm_store::laws::what_was_found_is_kept;
 use lsm_store::{Invariant, NoGate, Store, run_workers};
 use lsm_table::{NamedShelf, Shelf, ShelfFault};
@@ -32,6 +32,21 @@ pub fn installs_change_no_answer<N: Boarded, S: Shelf, R: Wait>(
     let installed = state.install(rt, alloc, shelf, done);
     state.law();
     installed
+}
+
+/// Newest files of level 0 that become one, or are refused.
+pub fn gatherings_change_no_answer<N: Boarded, S: Shelf, R: Wait>(
+    rt: &R,
+    alloc: Global,
+    state: &mut State<N, S>,
+    shelf: &mut NamedShelf<N, S>,
+) -> Result<Option<u64>, GatherFault>
+    ensures { IsUnchanged S.honest state.old state.new }
+{
+    state.law();
+    let gathered = state.gather(rt, alloc, shelf);
+    state.law();
+    gathered
 }
 
 /// The reservation of a compaction.

@@ -22,10 +22,11 @@ ghost use Rattle.lsm_version.specs.Versions.{files_from, level_in};
 use crate::check_fault::CheckFault;
 use lsm_codec::Bytes;
 use lsm_iterators::{Merger, against_age};
-use lsm_query::{Unread, open_runs};
+use lsm_query::{SharedLevels, Unread, open_runs};
 use lsm_reader::{Blocks, Direct};
 use lsm_table::{NamedShelf, Naming, Registry, Shelf, TableRef};
 use std::alloc::{AllocError, Global};
+use std::sync::Arc;
 
 /// Whether a number is one of ascending ones.
 pub(crate) fn is_among(numbers: &[u64], number: u64) -> bool
@@ -72,23 +73,36 @@ fn choose<N: Naming, S: Shelf>(
     Ok(chosen)
 }
 
+/// Such tables, to be shared with their sources.
+fn choose_shared<N: Naming, S: Shelf>(
+    alloc: Global,
+    registry: &Arc<Registry<N, S>>,
+    levels: &[Vec<TableRef<N, S>>],
+    numbers: &[u64],
+) -> Result<SharedLevels<N, S>, AllocError>
+    requires ascending { IsNonDecreasing numbers.now }
+    ensures { IfOk result (λ l. l ≡ chosen numbers.now (map (λ l. l.items) levels.now)) }
+{
+    let chosen = choose(alloc, registry, levels, numbers)?;
+    let chosen = Arc::new(alloc, chosen)?;
+    Ok(SharedLevels::of(Arc::try_clone(registry)?, chosen))
+}
+
 /// Goes through the tables of all levels in the order of keys, block by block: the least user key
 /// of which a deeper entry has no lesser sequence than a shallower one, if there is one. A refusal
 /// names the file of one of these tables, unless memory ran out beside them.
 fn look_again<N: Naming, S: Shelf, B: Blocks<N, S>>(
     blocks: &mut B,
     alloc: Global,
-    registry: &Registry<N, S>,
-    levels: &[Vec<TableRef<N, S>>],
+    levels: &SharedLevels<N, S>,
 ) -> Result<Option<Bytes>, Unread>
     requires seven { length levels.now ≡ 7 }
-    requires mergeable { S.honest → AreMergeable (map (λ l. l.items) levels.now) }
-    ensures judged { S.honest → IfOk result (λ r. (ls : List (List Placed)) × AreRunsOf (level_in
-        (map (λ l. l.items) levels.now) 0) (Has (files_from 0 (map (λ l. l.items) levels.now))) ls
+    requires mergeable { S.honest → AreMergeable levels.now }
+    ensures judged { S.honest → IfOk result (λ r. (ls : List (List Placed))
+        × AreRunsOf (level_in levels.now 0) (Has (files_from 0 levels.now)) ls
         × MatchOption r (IsAgeOrder (merge_all ls)) (λ k. IsLeastAgainstAge (merge_all ls) k)) }
     ensures sound { S.honest → IfErr result (λ e. IsMemoryOrShelf e.fault) }
-    ensures number { IfErr result (λ e.
-        NamesOne (IsNumberIn (map (λ l. l.items) levels.now)) e.file e.fault) }
+    ensures number { IfErr result (λ e. NamesOne (IsNumberIn levels.now) e.file e.fault) }
     ensures told { Becomes (B.told blocks.old) (B.told blocks.new) }
     ensures loan { B.loan blocks.new ≡ B.loan blocks.old }
     ensures cause { IfErr result (λ e.
@@ -96,7 +110,7 @@ fn look_again<N: Naming, S: Shelf, B: Blocks<N, S>>(
     ensures refused { IfErr result (λ e.
         IsOfFile (IsReadRefusal (S.refuses N.place)) e.file e.fault) }
 {
-    let runs = open_runs(blocks, alloc, registry, levels)?;
+    let runs = open_runs(blocks, alloc, levels)?;
     let mut merger = Merger::new(alloc, runs)?;
     match against_age(blocks, alloc, &mut merger) {
         Ok(user) => Ok(user),
@@ -114,7 +128,7 @@ fn look_again<N: Naming, S: Shelf, B: Blocks<N, S>>(
 pub(crate) fn judge_ages<N: Naming, S: Shelf>(
     shelf: &mut NamedShelf<N, S>,
     alloc: Global,
-    registry: &Registry<N, S>,
+    registry: &Arc<Registry<N, S>>,
     levels: &[Vec<TableRef<N, S>>],
     unsettled: &[u64],
 ) -> Result<(), CheckFault>
@@ -133,9 +147,9 @@ pub(crate) fn judge_ages<N: Naming, S: Shelf>(
     if unsettled.is_empty() {
         return Ok(());
     }
-    let chosen = choose(alloc, registry, levels, unsettled)?;
+    let chosen = choose_shared(alloc, registry, levels, unsettled)?;
     let mut direct = Direct::new(shelf);
-    match look_again(&mut direct, alloc, registry, &chosen) {
+    match look_again(&mut direct, alloc, &chosen) {
         Ok(None) => Ok(()),
         Ok(Some(user)) => Err(CheckFault::AgeOrder(user)),
         Err(unread) => Err(CheckFault::Read(unread.file, unread.fault)),

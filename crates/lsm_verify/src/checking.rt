@@ -31,7 +31,7 @@ fn check_levels<N: Naming, S: Shelf, R: Wait>(
     shelf: &mut NamedShelf<N, S>,
     rt: &R,
     alloc: Global,
-    registry: &Registry<N, S>,
+    registry: &Arc<Registry<N, S>>,
     ahead: JudgedTables<N, S>,
     shape: &Shape,
 ) -> Result<(Vec<Vec<TableRef<N, S>>>, Vec<u64>), CheckFault>
@@ -143,7 +143,7 @@ pub fn check_by<N: Naming, S: Shelf, R: Wait>(
 {
     let (levels, counts) = check_levels(shelf, rt, alloc, &registry, ahead, shape)?;
     let pointers = copies_of(alloc, &shape.pointers)?;
-    let version = Version::of(registry, levels, pointers, shape.last);
+    let version = Version::of(alloc, registry, levels, pointers, shape.last)?;
     Ok((version, counts))
 }
 

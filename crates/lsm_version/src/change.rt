@@ -129,19 +129,9 @@ impl<N: Naming, S: Shelf> Version<N, S> {
         ensures { IfOk result (λ v. v ≡ changed deleted.now added.now pointer last self.now) }
     {
         let pointers = with_pointer(alloc, self.pointers.as_slice(), pointer)?;
-        let levels = levels_after(
-            alloc,
-            &self.registry,
-            self.levels.as_slice(),
-            deleted,
-            added,
-        )?;
-        Ok(Version {
-            registry: Arc::try_clone(&self.registry)?,
-            levels,
-            pointers,
-            last,
-        })
+        let levels = levels_after(alloc, &self.registry, self.levels(), deleted, added)?;
+        let registry = Arc::try_clone(&self.registry)?;
+        Version::of(alloc, registry, levels, pointers, last)
     }
 }
 

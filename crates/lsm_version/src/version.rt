@@ -2,6 +2,7 @@
 
 ghost use Rattle.std.specs.Prelude.{◌≡◌, ◌≤◌, ◌++◌, ℕ, List, length, map, get_or, None, IfOk};
 ghost use Rattle.std.specs.Prelude.{OnErr, OnOk};
+ghost use Rattle.std.specs.Arc.{arc_value};
 ghost use Rattle.std.specs.Option.{option_map};
 ghost use Rattle.lsm_version.specs.Versions.{IsSound, files_from, level_in, no_levels, numbers_in};
 
@@ -16,7 +17,8 @@ use std::sync::Arc;
 /// keys, and a key's entries are newer the shallower they lie.
 pub struct Version<N: Naming, S: Shelf> {
     pub(crate) registry: Arc<Registry<N, S>>,
-    pub(crate) levels: Vec<Vec<TableRef<N, S>>>,
+    // Shared, since a scan may outlive its version.
+    pub(crate) levels: Arc<Vec<Vec<TableRef<N, S>>>>,
     pub(crate) pointers: Vec<Option<Bytes>>,
     pub(crate) last: u64,
 }
@@ -34,20 +36,21 @@ impl<N: Naming, S: Shelf> Drop for Version<N, S> {
 
 impl<N: Naming, S: Shelf> Model for Version<N, S> {
     ghost use Rattle.std.specs.Prelude.{◌≡◌, map, length};
+    ghost use Rattle.std.specs.Arc.{arc_value};
     ghost use Rattle.lsm_version.specs.Versions.{AreInOrder, IsSound, Levels};
 
     ghost Value = { Levels };
 
     ghost view = { λ v. record {
-      tables = map (λ l. l.items) v.levels.items;
+      tables = map (λ l. l.items) (arc_value v.levels).items;
       pointers = v.pointers.items;
       last = v.last;
     } };
 
-    ghost invariant = { λ v. (length v.levels.items ≡ 7) × (length v.pointers.items ≡ 7)
-        × AreInOrder (map (λ l. l.items) v.levels.items)
+    ghost invariant = { λ v. (length (arc_value v.levels).items ≡ 7) × (length v.pointers.items ≡ 7)
+        × AreInOrder (map (λ l. l.items) (arc_value v.levels).items)
         × (S.honest → IsSound record {
-          tables = map (λ l. l.items) v.levels.items;
+          tables = map (λ l. l.items) (arc_value v.levels).items;
           pointers = v.pointers.items;
           last = v.last;
         }) };
@@ -118,8 +121,20 @@ impl<N: Naming, S: Shelf> Version<N, S> {
         self.levels.as_slice()
     }
 
+    /// The same levels, for one that holds them beside the version.
+    pub fn shared_levels(&self) -> &Arc<Vec<Vec<TableRef<N, S>>>>
+        ensures tables { map (λ l. l.items) (arc_value result.now).items ≡ self.now.tables }
+    {
+        &self.levels
+    }
+
     /// The registry, which has a record for each of the tables.
     pub fn registry(&self) -> &Registry<N, S> {
+        &self.registry
+    }
+
+    /// The same registry, for one that holds it beside the version.
+    pub fn shared_registry(&self) -> &Arc<Registry<N, S>> {
         &self.registry
     }
 
@@ -135,13 +150,14 @@ impl<N: Naming, S: Shelf> Version<N, S> {
     }
 
     /// The version of these tables, the levels 0 to 6, of the compaction pointers of these levels,
-    /// and of this last sequence.
+    /// and of this last sequence. `AllocError` where a growth was refused.
     pub fn of(
+        alloc: Global,
         registry: Arc<Registry<N, S>>,
         levels: Vec<Vec<TableRef<N, S>>>,
         pointers: Vec<Option<Bytes>>,
         last: u64,
-    ) -> Version<N, S>
+    ) -> Result<Version<N, S>, AllocError>
         requires levels { length levels.items ≡ 7 }
         requires pointers { length pointers.items ≡ 7 }
         requires order { AreInOrder (map (λ l. l.items) levels.items) }
@@ -150,18 +166,18 @@ impl<N: Naming, S: Shelf> Version<N, S> {
           pointers = pointers.items;
           last = last;
         } }
-        ensures { result ≡ record {
+        ensures { IfOk result (λ v. v ≡ record {
           tables = map (λ l. l.items) levels.items;
           pointers = pointers.items;
           last = last;
-        } }
+        }) }
     {
-        Version {
+        Ok(Version {
             registry,
-            levels,
+            levels: Arc::new(alloc, levels)?,
             pointers,
             last,
-        }
+        })
     }
 
     /// A version without tables and pointers, whose last sequence is 0. `AllocError` where a growth
@@ -182,7 +198,7 @@ impl<N: Naming, S: Shelf> Version<N, S> {
         let pointers = Vec::from_array(alloc, [None, None, None, None, None, None, None])?;
         Ok(Version {
             registry,
-            levels,
+            levels: Arc::new(alloc, levels)?,
             pointers,
             last: 0,
         })

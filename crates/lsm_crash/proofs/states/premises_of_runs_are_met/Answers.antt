@@ -1,4 +1,4 @@
-use Rattle.lsm_crash.proofs.Examples.{all_fail, builds_can, first_lives, ingest_cut, looks_can, refused_collect, refused_ingest, refused_install, small_ages}
+use Rattle.lsm_crash.proofs.Examples.{all_fail, builds_can, first_lives, ingest_cut, looks_can, refused_collect, refused_gather, refused_ingest, refused_install, small_ages}
 use Rattle.lsm_crash.proofs.Possible.{given_shows, opened_can, small_run, works_can}
 use Rattle.lsm_crash.proofs.states.premises_of_runs_are_met.Goals as goal
 
@@ -25,6 +25,9 @@ returns-clause-fails g c = all_fail
 
 pub returns-clause-ingest_err : goal.returns-clause-ingest_err
 returns-clause-ingest_err g c = λ board. refused_ingest g.P.Premise.holds board
+
+pub returns-clause-gather_err : goal.returns-clause-gather_err
+returns-clause-gather_err g c = λ board. refused_gather g.P.Premise.holds board
 
 pub returns-clause-install_err : goal.returns-clause-install_err
 returns-clause-install_err g c = λ board. refused_install g.P.Premise.holds board

@@ -1,10 +1,11 @@
-use Rattle.std.proofs.Common.{List, [], ◌∷◌, subst}
+use Rattle.std.proofs.Common.{List, [], ◌∷◌, inl, inr, subst}
 use Rattle.std.specs.Prelude.{ℕ}
 use Rattle.lsm_shelf.specs.Asked.{Put}
 use Rattle.lsm_state.specs.Asked.{changes_by}
 use Rattle.lsm_state.specs.Ingesting.{coming_in, last_of, with_number}
 use Rattle.lsm_crash.specs.Database.{HasMade}
-use Rattle.lsm_crash.proofs.Asking.{collect_err_made, create_made, ingest_err_made, ingest_made, install_made, only_going, open_made}
+use Rattle.lsm_crash.proofs.Asking.{collect_err_made, create_made, gather_made, ingest_err_made, ingest_made, install_made, only_going, open_made}
+use Rattle.lsm_crash.proofs.Refusals.{gather_made_err}
 use Rattle.lsm_crash.proofs.states.shelves_tell_what_was_asked.Goals as goal
 
 pub returns-clause-one : goal.returns-clause-one
@@ -14,6 +15,12 @@ pub returns-clause-ingest : goal.returns-clause-ingest
 returns-clause-ingest g c = λ old new ws r was is i.
     subst (λ (image : List ℕ). HasMade (Put old.next image ∷ changes_by (with_number old i.slots) (coming_in i.table (last_of old ws)) ∷ []) was is) i.bytes
     (ingest_made old new ws r was is i)
+
+pub returns-clause-gather : goal.returns-clause-gather
+returns-clause-gather g c = gather_made g.P.Premise.holds
+
+pub returns-clause-gather_err : goal.returns-clause-gather_err
+returns-clause-gather_err g c = λ old new fault was is r. elim (gather_made_err g.P.Premise.holds old new fault was is r) [ inl none ↦ inl none | inr put ↦ inr (put.image, put.made) ]
 
 pub returns-clause-install : goal.returns-clause-install
 returns-clause-install g c = install_made

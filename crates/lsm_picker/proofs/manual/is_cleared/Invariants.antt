@@ -1,5 +1,5 @@
 use Rattle.std.proofs.Common.{◌≡◌, ℕ, ◌<◌, None}
-use Rattle.lsm_picker.specs.Joining.{first_over}
+use Rattle.lsm_picker.specs.Manual.{first_over}
 use Rattle.lsm_picker.proofs.manual.is_cleared.Given as goal
 
 abbrev pub invariant-loop-level : goal.invariant-loop-level

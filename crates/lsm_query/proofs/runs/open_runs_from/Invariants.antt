@@ -9,6 +9,6 @@ abbrev pub invariant-loop-number : goal.invariant-loop-number
 invariant-loop-number g l = record {
   told : Becomes (g.B.Blocks.told l.fn.blocks) (g.B.Blocks.told l.blocks);
   loan : g.B.Blocks.loan l.blocks ≡ g.B.Blocks.loan l.fn.blocks;
-  named : AreNamed (IsNumberIn (map (λ v. v.items) l.levels)) (flat_map (λ r. r.files) l.runs.items);
-  made : g.S.Shelf.honest → AreRunsFrom l.from (level_in (map (λ v. v.items) l.levels) 0) (IsAbove l.number (map (λ v. v.items) l.levels)) (map (λ r. r.placed) l.runs.items);
+  named : AreNamed (IsNumberIn l.levels) (flat_map (λ r. r.files) l.runs.items);
+  made : g.S.Shelf.honest → AreRunsFrom l.from (level_in l.levels 0) (IsAbove l.number l.levels) (map (λ r. r.placed) l.runs.items);
 }

@@ -15,12 +15,12 @@ use Rattle.lsm_verify.proofs.ages.judge_ages.Goals as goal
 
 pub look_again-requires-clause-seven : goal.look_again-requires-clause-seven
 look_again-requires-clause-seven g c κs within =
-    ap length c.deref.ensures.value ∙ sym (length-map c.in_ok-chosen.chosen.items (λ l. l.items)) ∙ ap length c.in_ok-chosen.ensures
+    ap length c.in_ok-chosen.ensures
     ∙ length-chosen c.args.unsettled.now (map (λ l. l.items) c.args.levels.now) ∙ length-map c.args.levels.now (λ l. l.items) ∙ c.requires.seven
 
 pub look_again-requires-clause-mergeable : goal.look_again-requires-clause-mergeable
 look_again-requires-clause-mergeable g c κs within = λ h.
-    subst AreMergeable (sym (ap (map (λ l. l.items)) c.deref.ensures.value ∙ c.in_ok-chosen.ensures)) (chosen_mergeable c.args.unsettled.now (map (λ l. l.items) c.args.levels.now) c.requires.mergeable)
+    subst AreMergeable (sym c.in_ok-chosen.ensures) (chosen_mergeable c.args.unsettled.now (map (λ l. l.items) c.args.levels.now) c.requires.mergeable)
 
 pub returns-then-is_empty-clause-ok : goal.returns-then-is_empty-clause-ok
 returns-then-is_empty-clause-ok g c = λ h.
@@ -30,25 +30,25 @@ returns-then-is_empty-clause-ok g c = λ h.
 pub returns-in-Ok-None-clause-ok : goal.returns-in-Ok-None-clause-ok
 returns-in-Ok-None-clause-ok g c = λ h.
     let levels : List (List Table) = map (λ l. l.items) c.args.levels.now in
-    let some : map (λ l. l.items) c.deref.result.now ≡ chosen c.args.unsettled.now levels = ap (map (λ l. l.items)) c.deref.ensures.value ∙ c.in_ok-chosen.ensures in
+    let some : c.in_ok-chosen.chosen ≡ chosen c.args.unsettled.now levels = c.in_ok-chosen.ensures in
     let judged = rw c.in-Ok-None.field-0-is at (c.in-Ok-None.ensures.judged h) in
-    looked_none c.args.unsettled.now levels (map (λ l. l.items) c.deref.result.now) judged.0 (merge_all judged.0) c.requires.unsettled some judged.1 c.requires.fits refl (λ o. judged.2)
+    looked_none c.args.unsettled.now levels c.in_ok-chosen.chosen judged.0 (merge_all judged.0) c.requires.unsettled some judged.1 c.requires.fits refl (λ o. judged.2)
 
 pub returns-in-Ok-Some-clause-refused : goal.returns-in-Ok-Some-clause-refused
 returns-in-Ok-Some-clause-refused g c =
     let levels : List (List Table) = map (λ l. l.items) c.args.levels.now in
-    let some : map (λ l. l.items) c.deref.result.now ≡ chosen c.args.unsettled.now levels = ap (map (λ l. l.items)) c.deref.ensures.value ∙ c.in_ok-chosen.ensures in
+    let some : c.in_ok-chosen.chosen ≡ chosen c.args.unsettled.now levels = c.in_ok-chosen.ensures in
     let some_there : length c.args.unsettled.now ≡ 0 → ⊥ = λ e. (let ne = eqb-false (length c.args.unsettled.now) 0 (sym c.is_empty.ensures ∙ c.if-is_empty.false) in absurd (omega (arith, ne, e))) in (
       not_settled levels c.args.unsettled.now c.requires.unsettled some_there,
       λ h. (let judged = rw c.in-Ok-Some.field-0-is at (c.in-Ok-Some.ensures.judged h) in
-          looked_some c.args.unsettled.now levels (map (λ l. l.items) c.deref.result.now) judged.0 (merge_all judged.0) c.in-Ok-Some.user c.requires.unsettled some judged.1 c.requires.fits refl (λ o. judged.2)),
+          looked_some c.args.unsettled.now levels c.in_ok-chosen.chosen judged.0 (merge_all judged.0) c.in-Ok-Some.user c.requires.unsettled some judged.1 c.requires.fits refl (λ o. judged.2)),
     )
 
 pub returns-clause-refused : goal.returns-clause-refused
 returns-clause-refused g c =
     let levels : List (List Table) = map (λ l. l.items) c.args.levels.now in
-    let some : map (λ l. l.items) c.deref.result.now ≡ chosen c.args.unsettled.now levels = ap (map (λ l. l.items)) c.deref.ensures.value ∙ c.in_ok-chosen.ensures in (
-      names_as (IsNumberIn (map (λ l. l.items) c.deref.result.now)) (IsOneUnsettled (files_from 0 levels)) c.in-Err.unread.file c.in-Err.unread.fault
-          (λ n. chosen_unsettled c.args.unsettled.now levels (map (λ l. l.items) c.deref.result.now) n c.requires.unsettled some) c.in-Err.ensures.number,
+    let some : c.in_ok-chosen.chosen ≡ chosen c.args.unsettled.now levels = c.in_ok-chosen.ensures in (
+      names_as (IsNumberIn c.in_ok-chosen.chosen) (IsOneUnsettled (files_from 0 levels)) c.in-Err.unread.file c.in-Err.unread.fault
+          (λ n. chosen_unsettled c.args.unsettled.now levels c.in_ok-chosen.chosen n c.requires.unsettled some) c.in-Err.ensures.number,
       λ h. c.in-Err.ensures.sound h,
     )

@@ -6,19 +6,19 @@ use Rattle.lsm_verify.proofs.Judged.{placed_fit}
 use Rattle.lsm_verify.proofs.UnsettledFiles.{settled_keeps}
 use Rattle.lsm_verify.proofs.checking.check_by.Goals as goal
 
-pub of-version-requires-clause-sound : goal.of-version-requires-clause-sound
-of-version-requires-clause-sound g c κs within = λ h. c.in_ok-levels.ensures.judged c.in_ok-pointers.pointers.items (c.in_ok-levels.ensures.ages h)
+pub of-requires-clause-sound : goal.of-requires-clause-sound
+of-requires-clause-sound g c κs within = λ h. c.in_ok-levels.ensures.judged c.in_ok-pointers.pointers.items (c.in_ok-levels.ensures.ages h)
 
 pub returns-clause-sound : goal.returns-clause-sound
 returns-clause-sound g c = λ h.
-    subst IsSound (sym c.of-version.ensures) (c.in_ok-levels.ensures.judged c.in_ok-pointers.pointers.items (c.in_ok-levels.ensures.ages h))
+    subst IsSound (sym c.in_ok-version.ensures) (c.in_ok-levels.ensures.judged c.in_ok-pointers.pointers.items (c.in_ok-levels.ensures.ages h))
 
 pub returns-clause-judged : goal.returns-clause-judged
 returns-clause-judged g c =
-    subst (λ (v : Levels). KeepsAge (files v) → IsSound v) (sym c.of-version.ensures) (c.in_ok-levels.ensures.judged c.in_ok-pointers.pointers.items)
+    subst (λ (v : Levels). KeepsAge (files v) → IsSound v) (sym c.in_ok-version.ensures) (c.in_ok-levels.ensures.judged c.in_ok-pointers.pointers.items)
 
 pub returns-clause-settled : goal.returns-clause-settled
-returns-clause-settled g c = subst (λ (v : Levels). IsSettled (files v) → IsSound v) (sym c.of-version.ensures) (λ settled.
+returns-clause-settled g c = subst (λ (v : Levels). IsSettled (files v) → IsSound v) (sym c.in_ok-version.ensures) (λ settled.
     (let r = c.in_ok-levels.ensures.tables in
     let tables : List (List Table) = map (λ l. l.items) c.in_ok-levels.levels.items in
     c.in_ok-levels.ensures.judged c.in_ok-pointers.pointers.items

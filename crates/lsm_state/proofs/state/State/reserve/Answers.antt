@@ -1,4 +1,4 @@
-use Rattle.std.proofs.Common.{◌≡◌, false, refl, sym, subst}
+use Rattle.std.proofs.Common.{refl, sym, subst}
 use Rattle.lsm_picker.specs.Choice.{HasNoChoice}
 use Rattle.lsm_picker.specs.TablePlans.{TablePlan}
 use Rattle.lsm_live.specs.Reserving.{reserved_jobs}

@@ -1,4 +1,5 @@
 use Rattle.std.proofs.Common.{◌≡◌, ◌∙◌, List, length, ap, sym, subst, arith}
+use Rattle.std.specs.Arc.{arc_value}
 use Rattle.std.specs.List.{filter}
 use Rattle.std.proofs.lemmas.List.{length-map}
 use Rattle.lsm_table.specs.Registry.{Table}
@@ -21,7 +22,7 @@ pub returns-else-level-eq0-clause-tables : goal.returns-else-level-eq0-clause-ta
 returns-else-level-eq0-clause-tables g c = λ h.
     let v = c.args.self.now in
     let n = c.args.level in
-    let seven = subst (λ (w : Levels). length w.tables ≡ 7) c.self.view_is (length-map c.self.inside.levels.items (λ l. l.items) ∙ c.self.invariant.0) in
+    let seven = subst (λ (w : Levels). length w.tables ≡ 7) c.self.view_is (length-map (arc_value c.self.inside.levels).items (λ l. l.items) ∙ c.self.invariant.0) in
     let order = subst (λ (w : Levels). AreInOrder w.tables) c.self.view_is c.self.invariant.2 in
     let rises = version_rises v n (subst IsSound c.self.view_is (c.self.invariant.3 h)) order (omega (arith, c.if-level-eq0.false)) (omega arith) in
     IfOk-weaker c.run_over.result _ _

@@ -1,0 +1,36 @@
+//! What is said of a copy.
+
+ghost use Rattle.std.specs.Prelude.{OnOk};
+ghost use Rattle.std.specs.Io.KnownBytes.{Appends};
+ghost use Rattle.lsm_cmd_import.specs.Imported.{made_text};
+
+use std::io::{self, Write};
+
+/// A copy: how many tables it has; of how many logs the writes came in; how many entries the tables
+/// have; and how many bytes at the ends of the manifest and of the logs hold no whole record, and
+/// are not read.
+#[derive(Clone, Copy, Debug)]
+pub struct CopyMade {
+    pub tables: u64,
+    pub logs: u64,
+    pub entries: u64,
+    pub rest: u64,
+}
+
+/// Writes `tables T logs L entries E rest B`, and flushes.
+pub(crate) fn reply<O: Write>(out: &mut O, made: CopyMade) -> io::Result<()>
+    ensures written { OnOk result
+        (Appends (O.contents out.old) (O.contents out.new) (made_text made)) }
+{
+    let CopyMade {
+        tables,
+        logs,
+        entries,
+        rest,
+    } = made;
+    writeln!(
+        out,
+        "tables {tables} logs {logs} entries {entries} rest {rest}"
+    )?;
+    out.flush()
+}
