@@ -185,7 +185,7 @@ table_meaning table_faults.BadMagic = []
 table_meaning table_faults.BadHandle = []
 table_meaning (table_faults.BadChecksum offset) = []
 table_meaning (table_faults.Compressed kind) =
-    codes "compressed tables are not read: COMMANDS has the line that copies all pairs\n"
+    codes "compressed tables are read by lsm import alone, which copies: lsm import DIR NEW\n"
 table_meaning (table_faults.BadBlockType kind) = []
 table_meaning table_faults.BadIndex = []
 
@@ -211,7 +211,7 @@ meaning_of (Read fault) = read_meaning fault
 meaning_of NumbersSpent = []
 meaning_of Locked = codes "another program has the folder open\n"
 meaning_of (UnflushedLog number) =
-    codes "the log is not read: open the folder with the program that wrote it, and close it\n"
+    codes "the log is read by lsm import alone, which copies: lsm import DIR NEW\n"
 meaning_of (TornManifest rest) =
     codes "the manifest's cut end may name tables; --accept-rest, or no --strict, lets them go\n"
 meaning_of Absent = []

@@ -90,7 +90,7 @@ pub(crate) fn of_table(fault: TableFault) -> &'static str
 {
     match fault {
         TableFault::Compressed(_) => {
-            "compressed tables are not read: COMMANDS has the line that copies all pairs\n"
+            "compressed tables are read by lsm import alone, which copies: lsm import DIR NEW\n"
         }
         _ => "",
     }
@@ -126,7 +126,7 @@ pub(crate) fn meaning_of(fault: &DirectoryFault) -> &'static str
         DirectoryFault::Read(fault) => of_read(*fault),
         DirectoryFault::Locked => "another program has the folder open\n",
         DirectoryFault::UnflushedLog(_) => {
-            "the log is not read: open the folder with the program that wrote it, and close it\n"
+            "the log is read by lsm import alone, which copies: lsm import DIR NEW\n"
         }
         DirectoryFault::TornManifest(_) => {
             "the manifest's cut end may name tables; --accept-rest, or no --strict, lets them go\n"
