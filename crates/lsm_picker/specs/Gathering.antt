@@ -31,18 +31,20 @@ abbrev pub HasEight : ℕ → List Reserved → List Table → Type 0
 HasEight target_size rs ts =
     (t : Table) × Has ts t × AllMayGather target_size rs ts t.number × (8 ≤ length (newest t.number ts))
 
--- one of the two newest, or with at most one and a half times the bytes of the newer ones together
-abbrev pub IsWorthAdding : List Table → Table → Type 0
-IsWorthAdding ts t = (length (newest (suc t.number) ts) ≤ 1)
-    ⊎ (2 * size_of t ≤ 3 * bytes_of (newest (suc t.number) ts))
+-- At most one file is newer; or the newer ones together are below half the target size, and the
+-- file has at most one and a half times their bytes.
+abbrev pub IsWorthAdding : ℕ → List Table → Table → Type 0
+IsWorthAdding target_size ts t = (length (newest (suc t.number) ts) ≤ 1)
+    ⊎ ((2 * bytes_of (newest (suc t.number) ts) < target_size)
+    × (2 * size_of t ≤ 3 * bytes_of (newest (suc t.number) ts)))
 
--- The files from this one on may all be gathered, they are two at least, and it is worth adding to
--- the newer ones.
+-- The files from this one on may all be gathered, each is worth adding to the newer ones, and they
+-- are two at least.
 pub record CanGather (target_size : ℕ) (rs : List Reserved) (ts : List Table) (oldest : Table)
     : Type 0 where
   pub all : AllMayGather target_size rs ts oldest.number
+  pub worth : (t : Table) → Has ts t → oldest.number ≤ t.number → IsWorthAdding target_size ts t
   pub two : 2 ≤ length (newest oldest.number ts)
-  pub worth : IsWorthAdding ts oldest
 
 -- As many of the newest files as can be, where eight may be; said by the number of the oldest.
 pub record IsToGather (v : Levels) (rs : List Reserved) (target_size number : ℕ) : Type 0 where
@@ -72,9 +74,33 @@ IsReady v rs target_size =
     (4 ≤ length (filter (is_large target_size rs) (level_in v.tables 0)))
     ⊎ (11 ≤ length (free_tables rs (level_in v.tables 0)))
 
--- ---- how the code looks for the least number
+-- ---- how the code looks for the oldest
+
+-- it may be gathered, and is worth adding to the newer ones
+abbrev pub Joins : ℕ → List Reserved → List Table → Table → Type 0
+Joins target_size rs ts t = (may_gather target_size rs t ≡ true) × IsWorthAdding target_size ts t
 
 -- less than the other one, if there is one
 abbrev pub IsLesser : ℕ → Option ℕ → Type 0
 IsLesser number None = Unit {0}
 IsLesser number (Some other) = number < other
+
+-- greater than the other one, if there is one
+abbrev pub IsGreater : ℕ → Option ℕ → Type 0
+IsGreater number None = Unit {0}
+IsGreater number (Some other) = other < number
+
+-- the greatest number of the first tables of which one does not join
+abbrev pub IsLastToStay : ℕ → List Reserved → (ts first : List Table) → Option ℕ → Type 0
+IsLastToStay target_size rs ts first None =
+    (t : Table) → Has first t → Joins target_size rs ts t
+IsLastToStay target_size rs ts first (Some n) =
+    ((t : Table) × Has ts t × (t.number ≡ n) × (Joins target_size rs ts t → ⊥))
+    × ((t : Table) → Has first t → n < t.number → Joins target_size rs ts t)
+
+-- the least number of the first tables that is above the other one
+abbrev pub IsFirstAbove : Option ℕ → (ts first : List Table) → Option ℕ → Type 0
+IsFirstAbove last ts first None = (t : Table) → Has first t → IsGreater t.number last → ⊥
+IsFirstAbove last ts first (Some n) =
+    ((t : Table) × Has ts t × (t.number ≡ n) × IsGreater n last)
+    × ((t : Table) → Has first t → IsGreater t.number last → n ≤ t.number)

@@ -3,8 +3,9 @@
 ghost use Rattle.std.specs.Prelude.{◌≡◌, ◌<◌, ◌≤◌, ◌^◌, ◌*◌, ◌↔◌, IsTrue, MatchOption, length};
 ghost use Rattle.lsm_table.specs.Registry.{bytes_of};
 ghost use Rattle.std.specs.List.{filter};
-ghost use Rattle.lsm_picker.specs.Gathering.{AllMayGather, CanGather, HasEight, HasNoneToGather};
-ghost use Rattle.lsm_picker.specs.Gathering.{IsLesser, IsReady, IsToGather, IsWorthAdding};
+ghost use Rattle.lsm_picker.specs.Gathering.{AllMayGather, HasEight, HasNoneToGather};
+ghost use Rattle.lsm_picker.specs.Gathering.{IsFirstAbove, IsGreater, IsLastToStay, IsLesser};
+ghost use Rattle.lsm_picker.specs.Gathering.{IsReady, IsToGather, IsWorthAdding, Joins};
 ghost use Rattle.lsm_picker.specs.Gathering.{is_large, is_small, may_gather, newest};
 
 use crate::conflicts::is_taken;
@@ -113,35 +114,35 @@ fn has_eight<N: Naming, S: Shelf>(
     false
 }
 
-/// Whether a table is one of the two newest, or has at most one and a half times the bytes of the
-/// newer ones together.
+/// Whether a table is worth adding to the newer ones.
 fn is_worth_adding<N: Naming, S: Shelf>(
     registry: &Registry<N, S>,
     tables: &[TableRef<N, S>],
     table: &TableRef<N, S>,
+    target_size: u64,
 ) -> bool
-    ensures { IsTrue result ↔ IsWorthAdding tables.now table.now }
+    ensures { IsTrue result ↔ IsWorthAdding target_size tables.now table.now }
 {
     let record = registry.record(table);
     let above = u128::from(record.number()) + 1;
+    let newer = newest_bytes(registry, tables, above);
     newest_count(registry, tables, above) <= 1
-        || 2 * u128::from(record.receipt.size()) <= 3 * newest_bytes(registry, tables, above)
+        || (2 * newer < u128::from(target_size)
+            && 2 * u128::from(record.receipt.size()) <= 3 * newer)
 }
 
-/// Whether the tables from this one on can be gathered.
-fn can_gather<N: Naming, S: Shelf>(
+/// Whether a table may be gathered, and is worth adding to the newer ones.
+fn joins<N: Naming, S: Shelf>(
     registry: &Registry<N, S>,
     tables: &[TableRef<N, S>],
     live: &[Reservation],
-    oldest: &TableRef<N, S>,
+    table: &TableRef<N, S>,
     target_size: u64,
 ) -> bool
-    ensures { IsTrue result ↔ CanGather target_size live.now tables.now oldest.now }
+    ensures { IsTrue result ↔ Joins target_size live.now tables.now table.now }
 {
-    let number = registry.record(oldest).number();
-    newest_count(registry, tables, u128::from(number)) >= 2
-        && is_worth_adding(registry, tables, oldest)
-        && all_may_gather(registry, tables, live, number, target_size)
+    may_gather(registry, live, table, target_size)
+        && is_worth_adding(registry, tables, table, target_size)
 }
 
 /// Whether a number is less than another one, if there is one.
@@ -152,6 +153,53 @@ fn is_lesser(number: u64, other: Option<u64>) -> bool
         None => true,
         Some(other) => number < other,
     }
+}
+
+/// Whether a number is greater than another one, if there is one.
+fn is_greater(number: u64, other: Option<u64>) -> bool
+    ensures { IsTrue result ↔ IsGreater number other }
+{
+    match other {
+        None => true,
+        Some(other) => number > other,
+    }
+}
+
+/// The greatest number of a table that does not join the newer ones.
+fn last_to_stay<N: Naming, S: Shelf>(
+    registry: &Registry<N, S>,
+    tables: &[TableRef<N, S>],
+    live: &[Reservation],
+    target_size: u64,
+) -> Option<u64>
+    ensures { IsLastToStay target_size live.now tables.now tables.now result }
+{
+    let mut last = None;
+    for table in tables {
+        let number = registry.record(table).number();
+        if is_greater(number, last) && !joins(registry, tables, live, table, target_size) {
+            last = Some(number);
+        }
+    }
+    last
+}
+
+/// The least number of the tables that is above another one, if there is one.
+fn first_above<N: Naming, S: Shelf>(
+    registry: &Registry<N, S>,
+    tables: &[TableRef<N, S>],
+    last: Option<u64>,
+) -> Option<u64>
+    ensures { IsFirstAbove last tables.now tables.now result }
+{
+    let mut least = None;
+    for table in tables {
+        let number = registry.record(table).number();
+        if is_greater(number, last) && is_lesser(number, least) {
+            least = Some(number);
+        }
+    }
+    least
 }
 
 /// How many tables are neither small nor inputs of a live job.
@@ -176,8 +224,9 @@ fn large_count<N: Naming, S: Shelf>(
 /// answers; none where there is nothing to gather.
 ///
 /// A file is small below half the target size. Where eight newest files of level 0, or more, are
-/// small and inputs of no live job, the two newest are gathered, and as many more as can be so that
-/// the oldest has at most one and a half times the bytes of the newer ones together.
+/// small and inputs of no live job, the two newest are gathered, and then one older file after
+/// another, as long as it is small and no such input, the newer ones together are below half the
+/// target size, and it has at most one and a half times their bytes.
 pub fn to_gather<N: Naming, S: Shelf>(
     registry: &Registry<N, S>,
     version: &Version<N, S>,
@@ -192,14 +241,12 @@ pub fn to_gather<N: Naming, S: Shelf>(
     if !has_eight(registry, tables, live, target_size) {
         return None;
     }
-    let mut least = None;
-    for table in tables {
-        let number = registry.record(table).number();
-        if is_lesser(number, least) && can_gather(registry, tables, live, table, target_size) {
-            least = Some(number);
-        }
+    let last = last_to_stay(registry, tables, live, target_size);
+    let oldest = first_above(registry, tables, last)?;
+    if newest_count(registry, tables, u128::from(oldest)) < 2 {
+        return None;
     }
-    least
+    Some(oldest)
 }
 
 /// Whether level 0 itself may be compacted: it has four files at least that are not small, as
