@@ -460,8 +460,9 @@ Limits: 8388608 bytes of a line, 4096 bytes of a key, 1048576 bytes of a value.
 Of --begin and --beside-log, and of all that is refused before the first line,
 the page of `ingest` says more.
 
-Exit status: 0 all lines are in, and nothing is due, 1 refused, 2 bad command line. After a `write fault` all lines are in; after `refused 9
-Device` one batch more than is said may be in.",
+Exit status: 0 all lines are in, and nothing is due, 1 refused, 2 bad command
+line. After a `write fault` all lines are in; after `refused 9 Device` one batch
+more than is said may be in.",
     example: "Examples: lsm scan old --text | lsm load db --text
           lsm load db words.txt --text --workers 4 --progress
           lsm load db words.txt --text --from-line 131073",
