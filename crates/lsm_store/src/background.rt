@@ -91,8 +91,8 @@ impl Background {
     /// (`State::recall`) at any later one, whose history goes on from it.
     ///
     /// The refusals are those of `State::ingest`. `LevelZeroFull` only where no worker can make
-    /// room: each has ended, or found nothing to reserve, as where a job of the caller's own holds
-    /// the files of level 0.
+    /// room: each has ended, or found nothing to do, as where a job of the caller's own holds the
+    /// files of level 0.
     #[tactic(auto, using(crate::proofs::BackgroundLaws::full_asks_nothing))]
     pub fn ingest<N: Boarded, S: Shelf, K: Invariant, R: Wait>(
         &self,

@@ -149,9 +149,9 @@ fn run_beside<
 /// (`laws::what_sweeping_did_is_told`).
 ///
 /// The body runs in the thread of the caller, and is lent the workers. Once it has answered, each
-/// worker ends after the merge at hand, and all threads are joined. A body after which nothing
-/// shall be left to compact calls `Background::wait_until_idle` at its end. It holds no guard of
-/// the store when it answers.
+/// worker ends after the merge at hand, and all threads are joined. A body after which workers
+/// shall have nothing left to do calls `Background::wait_until_idle` at its end. It holds no guard
+/// of the store when it answers.
 ///
 /// At a fault a worker cancels its ticket and ends, and the others go on. A thread that cannot be
 /// made is that worker's fault, `NoThread`, and its shelf does not come back. Where there is no

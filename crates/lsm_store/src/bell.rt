@@ -13,7 +13,7 @@ struct Rung {
     installs: u64,
     // How many workers have not ended.
     working: usize,
-    // How many of these have found nothing to reserve since it was rung last.
+    // How many of these have found nothing to do since it was rung last.
     idle: usize,
     // Whether workers are to end.
     closed: bool,
@@ -27,7 +27,7 @@ impl Rung {
     }
 }
 
-/// A bell that is rung after each change by which there may be more to reserve, or room at level 0.
+/// A bell that is rung after each change by which there may be more to do, or room at level 0.
 /// Workers sleep until it rings, and so do writers that found level 0 full.
 ///
 /// Nothing here takes the lock of the store. Whoever waits has read before its last look at the
@@ -114,7 +114,7 @@ impl Bell {
         Some(rung.rings)
     }
 
-    /// A worker has found nothing to reserve since the bell had rung so often. It waits until it
+    /// A worker has found nothing to do since the bell had rung so often. It waits until it
     /// rings again: true; or is closed: false.
     pub(crate) fn wait_for_work<R: Wait>(&self, rt: &R, rings: u64) -> bool {
         let mut rung = self.rung.lock(rt);

@@ -108,8 +108,8 @@ fn sweep<N: Boarded, S: Shelf, K: Invariant, R: Wait>(
     remove_each(rt, alloc, store, shelf, &numbers);
 }
 
-/// Sweeps once results were installed, again and again, until the bell is closed, each worker has
-/// ended, and what they did is swept.
+/// Sweeps once results were installed, or files gathered, again and again, until the bell is closed,
+/// each worker has ended, and what they did is swept.
 pub(crate) fn sweep_on<N: Boarded, S: Shelf, K: Invariant, R: Wait>(
     rt: &R,
     alloc: Global,

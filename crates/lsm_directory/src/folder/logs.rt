@@ -1,4 +1,4 @@
-//! The write-ahead logs beside the tables, which no command reads.
+//! The write-ahead logs beside the tables, which commands but `import` do not read.
 
 ghost use Rattle.std.specs.Prelude.{◌≡◌, ◌≢◌, ◌<◌, ◌++◌, ◌∷◌, [], MatchBool, MatchOption, OnOk};
 ghost use Rattle.std.specs.Prelude.{decimal, string_bytes};
