@@ -1,6 +1,7 @@
 use Rattle.std.proofs.lemmas.Result.{err_from_is_err_and}
 use Rattle.lsm_bulk_load.proofs.CallerLemmas.{come_compacting, come_ingests, come_taken}
 use Rattle.lsm_bulk_load.specs.Keeping.{IsOfLines}
+use Rattle.lsm_directory.proofs.CallerLemmas.{keeps_same}
 use Rattle.lsm_cmd_load.proofs.LoadedLaws.{loads_whole, unswept}
 use Rattle.lsm_cmd_load.proofs.into_directory.load_named.Goals as goal
 
@@ -48,6 +49,11 @@ returns-in_err-sweep-in-Ok-clause-fault g c =
       idle = λ h. c.sweep.ensures.idle (idle h);
       same = c.sweep.ensures.same;
     }) c.load_beside-done.ensures.told c.in_err-sweep-in-Ok.ensures.refused)
+
+pub returns-in_err-sweep-in-Ok-clause-left : goal.returns-in_err-sweep-in-Ok-clause-left
+returns-in_err-sweep-in-Ok-clause-left g c =
+    let p = err_from_is_err_and c.from_residual-in_err-sweep-in-Ok.result c.from_residual-in_err-sweep-in-Ok.ensures.1 in
+    rw (p.1, p.2) (λ other. keeps_same (g.O.Write.contents c.args.out.now))
 
 pub returns-in-Ok-reply-clause-done : goal.returns-in-Ok-reply-clause-done
 returns-in-Ok-reply-clause-done g c =
