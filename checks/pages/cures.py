@@ -20,6 +20,8 @@ below:
 
 - `lsm import`: the block of shell lines of that part of COMMANDS is run, over a folder that LevelDB
   compressed, with a log; `lsm` refuses that one and reads the new one.
+- Compressed tables, and a log that is not flushed: the line of `lsm import` that the second line of
+  the refusal has copies all pairs.
 - A log that is not flushed: `lsm put` is refused; once LevelDB has opened the folder without
   compression, all is read, and the put comes in.
 - A lost manifest: after LevelDB's `RepairDB` all is read.
@@ -199,18 +201,30 @@ def examples(folder):
     judge((folder / picture.split()[-1]).read_text().startswith("<svg"), f"{picture}: no picture")
 
 
+def imported(folder, name, refused, count):
+    """Follows the second line of a refusal, where the folder has so many pairs."""
+    cure = re.search(r"lsm import DIR NEW", refused)
+    line = cure[0].replace("DIR", name).replace("NEW", f"{name}-new") if cure else "false"
+    said = printed(f"mkdir {name}-new; ./{line}", folder)
+    judge(printed(f"./lsm scan {name}-new --count", folder) == str(count), f"{refused} does not cure: {said}")
+
+
 def compressed(folder):
     part = (TOP / "docs" / "COMMANDS.md").read_text().split("## lsm import", 1)[1]
     cure = re.search(r"^```text\n(.*?)^```", part, re.S | re.M)[1]
     fill(folder, "old", PAIRS, "db.compact_range()\n")
-    judge("refused 16 Compressed" in printed("./lsm check old", folder), "a compressed folder is not refused")
+    refused = printed("./lsm check old", folder)
+    judge("refused 16 Compressed" in refused, "a compressed folder is not refused")
+    imported(folder, "old", refused, PAIRS)
     said = printed(cure, folder)
     judge(printed("./lsm scan new --count", folder) == str(PAIRS), f"the lines of `lsm import` do not cure: {said}")
 
 
 def logged(folder):
     fill(folder, "logged", 100)
-    judge("refused 51 UnflushedLog" in printed("./lsm put logged 61 62", folder), "a log that is not flushed is not refused")
+    refused = printed("./lsm put logged 61 62", folder)
+    judge("refused 51 UnflushedLog" in refused, "a log that is not flushed is not refused")
+    imported(folder, "logged", refused, 100)
     printed("python3 -c \"import plyvel; plyvel.DB('logged', compression=None).close()\"", folder)
     judge(printed("./lsm put logged 61 62", folder).startswith("file "), "an opening without compression does not cure a log")
     judge(printed("./lsm scan logged --count", folder) == "101", "an opening without compression does not flush the log")

@@ -1,6 +1,7 @@
-// The writes of one kind of writer, by LevelDB: leveldb DIR KIND FIRST COUNT BATCH SIZE. Prints how many
-// bytes the folder's files have after each eighth of the writes, in a line, and then how many bytes the
-// process wrote. The keys are those of soak.py.
+// The writes of one kind of writer, by a LevelDB that stays open: leveldb DIR KIND BATCH SIZE. For each
+// line `FIRST COUNT` of its input it writes so many from this one on, and prints a line: how many bytes
+// the folder's files have after each eighth of them, and how many bytes it has written since it opened.
+// The keys are those of soak.py.
 #include <cinttypes>
 #include <cstdio>
 #include <cstdlib>
@@ -48,17 +49,10 @@ static std::uint64_t key_at(const std::string& kind, std::uint64_t i) {
   abort();
 }
 
-int main(int count, char** words) {
-  if (count != 7) return 2;
+// So many writes from this one on. Prints how many bytes the files have after each eighth.
+static bool round_of(leveldb::DB* db, char** words, std::uint64_t first, std::uint64_t all) {
   const std::string kind = words[2];
-  const std::uint64_t first = strtoull(words[3], nullptr, 10), all = strtoull(words[4], nullptr, 10);
-  const std::uint64_t batch = strtoull(words[5], nullptr, 10), size = strtoull(words[6], nullptr, 10);
-  leveldb::Options options;
-  options.create_if_missing = true;
-  options.compression = leveldb::kNoCompression;
-  leveldb::DB* db;
-  if (!leveldb::DB::Open(options, words[1], &db).ok()) return 1;
-  const unsigned long long before = written();
+  const std::uint64_t batch = strtoull(words[3], nullptr, 10), size = strtoull(words[4], nullptr, 10);
   leveldb::WriteBatch writes;
   std::uint64_t eighths = 0;
   for (std::uint64_t i = first; i < first + all; i++) {
@@ -70,13 +64,28 @@ int main(int count, char** words) {
     text.resize(size);
     writes.Put(key, text);
     if ((i - first + 1) % batch == 0 || i + 1 == first + all) {
-      if (!db->Write(leveldb::WriteOptions(), &writes).ok()) return 1;
+      if (!db->Write(leveldb::WriteOptions(), &writes).ok()) return false;
       writes.Clear();
       const std::uint64_t done = i - first + 1;
       for (; eighths < 8 && done * 8 >= all * (eighths + 1); eighths++) printf("%llu ", used(words[1]));
     }
   }
-  printf("\n");
+  return true;
+}
+
+int main(int count, char** words) {
+  if (count != 5) return 2;
+  leveldb::Options options;
+  options.create_if_missing = true;
+  options.compression = leveldb::kNoCompression;
+  leveldb::DB* db;
+  if (!leveldb::DB::Open(options, words[1], &db).ok()) return 1;
+  const unsigned long long before = written();
+  std::uint64_t first, all;
+  while (scanf("%" SCNu64 " %" SCNu64, &first, &all) == 2) {
+    if (!round_of(db, words, first, all)) return 1;
+    printf("%llu\n", written() - before);
+    fflush(stdout);
+  }
   delete db;
-  printf("%llu\n", written() - before);
 }

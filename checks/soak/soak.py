@@ -3,9 +3,9 @@
 Writers of each kind bring their keys in by `lsm shell --workers 1`, round after round, each kind into
 a folder of its own, with single puts and with batches. After each eighth of a round the folder is
 looked at, and once more after the round, when the worker has come to rest; the shell is asked how many
-tables and bytes the levels have. LevelDB has the same writes, and its folder is looked at after the
-same ones. At the end each database is closed and opened twice. A line is printed for each round, and
-at the first figure that is out of its bounds the status is 1.
+tables and bytes the levels have. LevelDB has the same writes, stays open too, and its folder is looked
+at after the same ones. At the end each database is closed and opened twice. A line is printed for each
+round, and at the first figure that is out of its bounds the status is 1.
 """
 
 import os
@@ -167,13 +167,39 @@ class Shell:
             sys.exit(f"the shell of {self.folder} ended with status {self.child.returncode}")
 
 
+class LevelDB:
+    """A database that is open in LevelDB."""
+
+    def __init__(self, leveldb, folder, kind, batch):
+        self.folder = folder
+        self.child = subprocess.Popen(
+            [leveldb, folder, kind, str(batch), str(SIZE)],
+            stdin=subprocess.PIPE,
+            stdout=subprocess.PIPE,
+        )
+
+    def bring_in(self, first, count):
+        """Brings so many pairs in: what the files had after each eighth, and all it wrote so far."""
+        self.child.stdin.write(f"{first} {count}\n".encode())
+        self.child.stdin.flush()
+        *looks, wrote = [int(word) for word in self.child.stdout.readline().split()]
+        return looks, wrote
+
+    def end(self):
+        self.child.stdin.close()
+        if self.child.wait() != 0:
+            sys.exit(f"LevelDB of {self.folder} ended with status {self.child.returncode}")
+
+
 class Writer:
     """One kind of writer with batches of one size, into a database of its own and into LevelDB."""
 
     def __init__(self, lsm, leveldb, folder, kind, batch):
         self.name = f"{kind}-{batch}"
-        self.kind, self.batch, self.leveldb = kind, batch, leveldb
-        self.lsm, self.theirs = lsm, os.path.join(folder, self.name + "-leveldb")
+        self.kind, self.batch = kind, batch
+        self.lsm, self.leveldb = lsm, leveldb
+        self.theirs = os.path.join(folder, self.name + "-leveldb")
+        self.other = LevelDB(leveldb, self.theirs, kind, batch)
         self.count = self.they_wrote = 0
         self.newest = {}
         self.shell = Shell(lsm, os.path.join(folder, self.name))
@@ -196,14 +222,7 @@ class Writer:
             while (first - self.count + self.batch) * 8 >= all_ * (len(ours) + 1):
                 ours.append(used(self.shell.folder))
         took = time.monotonic() - began
-        said = subprocess.run(
-            [self.leveldb, self.theirs, self.kind, str(self.count), str(all_), str(self.batch), str(SIZE)],
-            check=True,
-            capture_output=True,
-        )
-        theirs, wrote = said.stdout.decode().splitlines()
-        theirs = [int(word) for word in theirs.split()]
-        self.they_wrote += int(wrote)
+        theirs, self.they_wrote = self.other.bring_in(self.count, all_)
         self.count += all_
         return took, worst, list(zip(ours, theirs, strict=True))
 
@@ -246,9 +265,13 @@ class Writer:
             self.shell.end()
             self.shell = Shell(self.lsm, self.shell.folder)
             self.shell.levels()
+            self.other.end()
+            self.other = LevelDB(self.leveldb, self.theirs, self.kind, self.batch)
+            self.other.bring_in(self.count, 0)
         disk, theirs = at_rest(self.shell.folder), used(self.theirs)
         left = manifests(self.shell.folder)
         self.shell.end()
+        self.other.end()
         print(f"{self.name}: opened twice: {left} manifests; disk {disk}, LevelDB {theirs}", flush=True)
         bad = []
         if left > 2:
