@@ -1,6 +1,8 @@
 mod WordTexts
 mod AskLaws
 mod ScanWords
+mod MistakeLaws
+mod BadLines
 mod PairLaws
 mod ScanTalk
 mod Sums

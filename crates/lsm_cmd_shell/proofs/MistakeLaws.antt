@@ -1,7 +1,8 @@
 -- Words of a line, one after another, up to the first that is not as it is wanted.
-use Rattle.std.proofs.Common.{◌≡◌, ℕ, ◌+◌, ◌-◌, ◌<◌, ◌≤◌, Bool, true, false, List, [], ◌∷◌, ◌++◌, length, get_or, drop, codes, Option, Some, None, refl, sym, ap, ◌∙◌, append_assoc, arith, inl, inr}
+use Rattle.std.proofs.Common.{◌≡◌, ℕ, ◌+◌, ◌-◌, ◌<◌, ◌≤◌, Bool, true, false, nat_lt, List, [], ◌∷◌, ◌++◌, length, get_or, drop, codes, Option, Some, None, refl, sym, ap, ◌∙◌, append_assoc, arith, inl, inr}
 use Rattle.std.specs.Prelude.{IfNone, IfSome, IsTrue, OnOk, Result, Ok, Err, is_some, ◌↔◌}
 use Rattle.std.specs.Str.{bytes_eq}
+use Rattle.std.proofs.lemmas.Bool.Decides.{nat_tests}
 use Rattle.std.proofs.lemmas.List.{get_or-map, length-map}
 use Rattle.lsm_batch.specs.declared.write.Write.{Write}
 use Rattle.lsm_text.specs.BatchText.{IsWriteLine}
@@ -21,13 +22,26 @@ no_from form word none other wrong (inl h) = none wrong h
 no_from form word none other wrong (inr h) = other h.1
 
 pub found : (word : List ℕ) (r : Option Write) → IfSome r (IsWriteLine Text word) → IfNone r ((w : Write) → IsWriteLine Text word w → ⊥) → IsTrue (is_some r) ↔ ((w : Write) × IsWriteLine Text word w)
-found word (Some w) yes no = (λ h. (w, yes), λ h. refl)
-found word None yes no = (λ h. absurd (cc), λ h. absurd (no h.0 h.1))
+found word (Some w) is none = (λ h. (w, is), λ h. refl)
+found word None is none = (λ h. absurd (cc), λ h. absurd (none h.0 h.1))
 
--- one text behind another
-pub joined : {T E : Type 0} (r : Result T E) (x y z a b : List ℕ) → y ≡ x ++ a → OnOk r (z ≡ y ++ b) → OnOk r (z ≡ x ++ (a ++ b))
-joined (Ok t) x y z a b e h = h ∙ ap (λ (l : List ℕ). l ++ b) e ∙ append_assoc
-joined (Err f) x y z a b e h = tt
+-- texts, one behind another
+pub two : (x y z a b : List ℕ) → y ≡ x ++ a → z ≡ y ++ b → z ≡ x ++ (a ++ b)
+two x y z a b e h = h ∙ ap (λ (l : List ℕ). l ++ b) e ∙ append_assoc x a b
+
+three : (x y z v a b d : List ℕ) → y ≡ x ++ a → z ≡ y ++ b → v ≡ z ++ d → v ≡ x ++ (a ++ (b ++ d))
+three x y z v a b d e f g = two x y v a (b ++ d) e (two y z v b d f g)
+
+pub four : (x y z v w a b d e : List ℕ) → y ≡ x ++ a → z ≡ y ++ b → v ≡ z ++ d → w ≡ v ++ e → w ≡ x ++ (a ++ (b ++ (d ++ e)))
+four x y z v w a b d e f g h k = two x y w a (b ++ (d ++ e)) f (three y z v w b d e g h k)
+
+pub last_of_two : {T E : Type 0} (r : Result T E) (x y z a b : List ℕ) → y ≡ x ++ a → OnOk r (z ≡ y ++ b) → OnOk r (z ≡ x ++ (a ++ b))
+last_of_two (Ok t) x y z a b e h = two x y z a b e h
+last_of_two (Err f) x y z a b e h = tt
+
+pub last_of_four : {T E : Type 0} (r : Result T E) (x y z v w a b d e : List ℕ) → y ≡ x ++ a → z ≡ y ++ b → v ≡ z ++ d → OnOk r (w ≡ v ++ e) → OnOk r (w ≡ x ++ (a ++ (b ++ (d ++ e))))
+last_of_four (Ok t) x y z v w a b d e f g h k = four x y z v w a b d e f g h k
+last_of_four (Err i) x y z v w a b d e f g h k = tt
 
 -- the last word but one
 pub too_few : (ws : List Word) → length ws < 2 → false ≡ ends_by_limit (texts ws)
@@ -36,14 +50,17 @@ too_few [] few = refl
 too_few (a ∷ []) few = refl
 too_few (a ∷ b ∷ ws) few = absurd (omega (arith, few))
 
+not_few : (n : ℕ) → 2 ≤ n → nat_lt n 2 ≡ false
+not_few n h = grind (arith, nat_tests)
+
 pub before_last : (ws : List Word) → 2 ≤ length ws → ends_by_limit (texts ws) ≡ bytes_eq (get_or ws (length ws - 2) blank).now (codes "limit")
 unfolding ends_by_limit
-before_last [] low = absurd (omega (arith, low))
-before_last (a ∷ []) low = absurd (omega (arith, low))
-before_last (a ∷ b ∷ ws) low =
-    let inside : length (a ∷ b ∷ ws) - 2 < length (a ∷ b ∷ ws) = omega (arith, low) in
-    ap (λ (w : List ℕ). bytes_eq w (codes "limit"))
-    (ap (λ k. get_or (texts (a ∷ b ∷ ws)) (k - 2) []) (length-map (a ∷ b ∷ ws) (λ (w : Word). w.now)) ∙ get_or-map (λ (w : Word). w.now) (a ∷ b ∷ ws) (length (a ∷ b ∷ ws) - 2) blank [] inside)
+before_last ws low =
+    let count = length-map ws (λ (w : Word). w.now) in
+    let many : 2 ≤ length (texts ws) = omega (arith, low, count) in
+    let test : nat_lt (length (texts ws)) 2 ≡ false = not_few (length (texts ws)) many in
+    let inside : length ws - 2 < length ws = omega (arith, low) in
+    rw test (ap (λ (w : List ℕ). bytes_eq w (codes "limit")) (ap (λ k. get_or (texts ws) (k - 2) []) count ∙ get_or-map (λ (w : Word). w.now) ws (length ws - 2) blank [] inside))
 
 -- the first wrong word of those that are still to be looked at is the first of all
 abbrev pub Alike : Form → ℕ → List Want → List Word → List Want → List Word → Type 0
