@@ -1,4 +1,4 @@
-use Rattle.std.proofs.Common.{◌++◌, codes, decimal}
+use Rattle.std.proofs.Common.{codes, decimal}
 use Rattle.lsm_cmd_shell.specs.MistakeText.{between, no_number_text}
 use Rattle.lsm_cmd_shell.specs.Mistakes.{most_of}
 use Rattle.lsm_cmd_shell.proofs.MistakeLaws.{last_of_two}

@@ -1,4 +1,4 @@
-use Rattle.std.proofs.Common.{◌≡◌, ◌≢◌, codes, rules}
+use Rattle.std.proofs.Common.{◌≢◌, codes, rules}
 use Rattle.lsm_cmd_shell.proofs.MistakeLaws.{no_from}
 use Rattle.lsm_cmd_shell.proofs.wrong_word.wrong_from.Goals as goal
 
