@@ -2,6 +2,7 @@ mod WordTexts
 mod AskLaws
 mod ScanWords
 mod MistakeLaws
+mod OneMistake
 mod BadLines
 mod PairLaws
 mod ScanTalk

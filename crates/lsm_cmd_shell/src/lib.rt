@@ -52,7 +52,7 @@ pub use ask_line::ask_in;
 pub use beside::talk_beside;
 pub use conversing::converse;
 pub use conversing_beside::converse_beside;
-pub use laws::talks_are_of_the_history;
+pub use laws::{a_bad_line_has_one_reply, talks_are_of_the_history};
 pub use line_kind::LineKind;
 pub use mistake::{Mistake, Wrong};
 pub use outcome::Outcome;

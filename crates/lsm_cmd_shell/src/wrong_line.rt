@@ -2,13 +2,14 @@
 
 ghost use Rattle.std.specs.Prelude.{◌≡◌, IfNone, IfOk, IfSome, map, replicate};
 ghost use Rattle.lsm_cmd_shell.specs.Mistakes.{IsFirstWrong, IsMistake, IsWordMistake};
-ghost use Rattle.lsm_cmd_shell.specs.Mistakes.{begins_blank, ends_by_limit, ends_in_return};
+ghost use Rattle.lsm_cmd_shell.specs.Mistakes.{begins_blank, ends_in_return};
 ghost use Rattle.lsm_cmd_shell.specs.Mistakes.{scan_wants, wants_of};
 ghost use Rattle.lsm_cmd_shell.specs.declared.mistake.Mistake.{Mistake};
 ghost use Rattle.lsm_cmd_shell.specs.declared.want.Want.TheVariants.{KeyWrite};
 
 use crate::line_kind::{LineKind, kind_of};
 use crate::mistake::{Mistake, Wrong};
+use crate::scan_line::has_limit;
 use crate::want::Want;
 use crate::wrong_word::wrong_word;
 use lsm_script::words_in;
@@ -45,17 +46,6 @@ fn first_wrong(
         [] => Ok(None),
         [want, ..] => Ok(Some(Mistake::Word(number, Wrong::Missing(*want)))),
     }
-}
-
-/// Whether the last word but one is `limit`.
-fn ends_by_limit(words: &[&[u8]]) -> bool
-    ensures { result ≡ ends_by_limit (map (λ w. w.now) words.now) }
-{
-    let count = words.len();
-    if count < 2 {
-        return false;
-    }
-    words[count - 2] == b"limit".as_slice()
 }
 
 /// What a scan wants behind its name, where so many words stand there.
@@ -95,7 +85,7 @@ fn wants_of(alloc: Global, kind: LineKind, words: &[&[u8]]) -> Result<Vec<Want>,
         LineKind::Delete => Vec::from_slice(alloc, &[Want::Key]),
         LineKind::Get if words.len() < 2 => Vec::from_slice(alloc, &[Want::Key]),
         LineKind::Get => Vec::from_slice(alloc, &[Want::Key, Want::Snapshot]),
-        LineKind::Scan => scan_wants(alloc, ends_by_limit(words), words.len()),
+        LineKind::Scan => scan_wants(alloc, has_limit(words), words.len()),
         LineKind::Ingest => writes(alloc, words.len()),
         LineKind::Release => Vec::from_slice(alloc, &[Want::Snapshot]),
         LineKind::Reserve if words.is_empty() => Ok(Vec::new(alloc)),
