@@ -133,7 +133,7 @@ fn ends_in_return(line: &[u8]) -> bool
 }
 
 /// What is wrong with a line, its words for bytes in this form. None where its first word is the
-/// name of none, and where nothing is wrong with it.
+/// name of no line, and where nothing is wrong with it.
 pub fn mistake_in(alloc: Global, form: Form, line: &[u8]) -> Result<Option<Mistake>, AllocError>
     ensures some { IfOk result (λ o. IfSome o (IsMistake form line.now)) }
     ensures none { IfOk result (λ o. IfNone o ((m : Mistake) → IsMistake form line.now m → ⊥)) }
