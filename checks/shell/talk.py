@@ -65,8 +65,12 @@ def lines_and_lists():
     want(shell.list("scan b limit 1"), ["cherry=dark", "end"])
     want(shell.list("list")[-1], "end")
     want(shell.list("help")[-1], "end")
-    for line in ("", "frob", "put apple", "put a b c", "quit now"):
+    for line in ("", "frob"):
         want(shell.ask(line), BAD)
+    want(shell.ask("put apple"), "bad line: word 3: VALUE is missing")
+    for line, number in (("put a b c", 4), ("quit now", 2), ("stats ", 2)):
+        want(shell.ask(line), f"bad line: word {number} is one too many, where one blank parts two words")
+    want(shell.ask("put a b\r"), "bad line: it ends with a carriage return")
     want(shell.ask("x" * 9_000_000), "bad line: it has more than 8388608 bytes")
     want(shell.ask("ingest"), "refused 37 EmptyBatch")
     want(shell.ask("install 7"), "refused 45 UnknownTicket 7")
@@ -75,6 +79,10 @@ def lines_and_lists():
     status, said = second.end()
     assert status == 1 and said.startswith("refused 52 Locked"), (status, said)
     shell.send("quit")
+    want(shell.end(), FAILED)
+    shell = Shell("db")
+    want(shell.ask("get apple"), "bad line: word 2: KEY is no word in hex: column 2: `p`, which is no hex digit; with --text it is one")
+    want(shell.ask("get 6170706c65"), "value 726564")
     want(shell.end(), FAILED)
 
 

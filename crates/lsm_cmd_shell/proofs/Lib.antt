@@ -1,6 +1,9 @@
 mod WordTexts
 mod AskLaws
 mod ScanWords
+mod MistakeLaws
+mod OneMistake
+mod BadLines
 mod PairLaws
 mod ScanTalk
 mod Sums

@@ -1,5 +1,7 @@
 -- What clauses cite
 pub mod Asks
+pub mod Mistakes
+pub mod MistakeText
 pub mod Pairs
 pub mod Said
 pub mod Batching

@@ -25,6 +25,8 @@ use Rattle.lsm_opening.specs.Compactions.{installed_text}
 use Rattle.lsm_cmd_shell.specs.Asks.{IsAsk}
 use Rattle.lsm_cmd_shell.specs.Batching.{IsAbort, IsBegin, IsCommitReply, IsPutReply, Says}
 use Rattle.lsm_cmd_shell.specs.Batching.{Standing, no_memory, reply_said, standing}
+use Rattle.lsm_cmd_shell.specs.MistakeText.{mistake_text}
+use Rattle.lsm_cmd_shell.specs.Mistakes.{IsMistake}
 use Rattle.lsm_cmd_shell.specs.Pairs.{pairs_text, shown}
 use Rattle.lsm_cmd_shell.specs.Rounds.{IsCompacted, IsUncompacted}
 use Rattle.lsm_cmd_shell.specs.Said.{IsTold, Said, StopsAtFirst, done, failed, outcome_of, saying}
@@ -34,6 +36,7 @@ use Rattle.lsm_cmd_shell.specs.declared.ask.Ask.{Ask}
 use Rattle.lsm_cmd_shell.specs.declared.ask.Ask.TheVariants.{Do, Put, Scan, Begin, Commit, Abort}
 use Rattle.lsm_cmd_shell.specs.declared.ask.Ask.TheVariants.{Compact, Stats, Help}
 use Rattle.lsm_cmd_shell.specs.declared.help.TheConstants.{HELP}
+use Rattle.lsm_cmd_shell.specs.declared.mistake.Mistake.{Mistake}
 use Rattle.lsm_cmd_shell.specs.declared.outcome.Outcome.{Outcome}
 use Rattle.lsm_cmd_shell.specs.declared.outcome.Outcome.TheVariants.{Done, Failed}
 use Rattle.lsm_cmd_shell.specs.declared.talk_fault.TalkFault.{TalkFault}
@@ -42,9 +45,16 @@ use Rattle.lsm_cmd_shell.specs.declared.talk_fault.TalkFault.TheVariants.{LineFa
 
 -- ---- replies to lines that are no command of a script
 
--- the line asks for nothing
+-- no place of the line is told
 abbrev pub bad_line : Said
 bad_line = failed (codes "bad line: help tells what lines there are\n")
+
+-- What is said to a line that asks for nothing: its mistake, or that where it has none that is told,
+-- as where its first word is the name of no line.
+abbrev pub IsBadLine : Form → List ℕ → Said → Type 0
+IsBadLine form line said =
+    ((m : Mistake) × IsMistake form line m × (said ≡ failed (mistake_text m)))
+    ⊎ (((m : Mistake) → IsMistake form line m → ⊥) × (said ≡ bad_line))
 
 -- the line is too long
 abbrev pub long_line : Said
@@ -121,8 +131,8 @@ pub data IsReplied (honest : Type 0) (form : Form) (line : List ℕ) (said : Sai
   Obeyed : (a : Ask) → IsAsk form line a → Obeys honest form a said s t
       → IsReplied honest form line said s t
   -- nothing is asked for, nor is it `quit`
-  Bad : ((a : Ask) → IsAsk form line a → ⊥) → line ≢ codes "quit" → said ≡ bad_line → t ≡ s
-      → IsReplied honest form line said s t
+  Bad : ((a : Ask) → IsAsk form line a → ⊥) → line ≢ codes "quit" → IsBadLine form line said
+      → t ≡ s → IsReplied honest form line said s t
   -- the line is too long
   Long : most_of_line < length line → said ≡ long_line → t ≡ s → IsReplied honest form line said s t
   -- memory was refused, and nothing was done

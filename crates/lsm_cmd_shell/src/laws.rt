@@ -1,6 +1,6 @@
-//! A law of conversations, as the contract of a function that does nothing.
+//! Laws of conversations, as contracts of functions that do nothing.
 
-ghost use Rattle.std.specs.Prelude.{List, None, ℕ};
+ghost use Rattle.std.specs.Prelude.{◌≡◌, List, None, ℕ};
 ghost use Rattle.lsm_shelf.specs.Told.{Told};
 ghost use Rattle.lsm_text.specs.declared.form.Form.{Form};
 ghost use Rattle.lsm_script.specs.History.{History, IsAnswered, IsOf, history_of};
@@ -11,7 +11,7 @@ ghost use Rattle.lsm_script.specs.declared.reply.Reply.{Reply};
 ghost use Rattle.lsm_cmd_shell.specs.Asked.{AreDone};
 ghost use Rattle.lsm_cmd_shell.specs.Batching.{Standing, standing};
 ghost use Rattle.lsm_cmd_shell.specs.Said.{Said};
-ghost use Rattle.lsm_cmd_shell.specs.Talk.{AreReplied};
+ghost use Rattle.lsm_cmd_shell.specs.Talk.{AreReplied, IsBadLine};
 
 use lsm_script::steps_are_of_the_history;
 use lsm_slots::Boarded;
@@ -30,3 +30,9 @@ pub fn talks_are_of_the_history<N: Boarded, S: Shelf>(state: &State<N, S>)
 {
     steps_are_of_the_history(state);
 }
+
+/// A law: what is said to a bad line is told by its bytes alone, and by the form of words.
+pub fn a_bad_line_has_one_reply()
+    ensures { (form : Form) (line : List ℕ) (a b : Said) → IsBadLine form line a
+        → IsBadLine form line b → a ≡ b }
+{}

@@ -13,6 +13,14 @@ mod ask_line;
 mod scan_line;
 mod writes;
 
+// What is wrong with a line that asks for nothing.
+mod line_kind;
+mod mistake;
+mod mistake_text;
+mod want;
+mod wrong_line;
+mod wrong_word;
+
 // The replies.
 mod answering;
 mod batching;
@@ -44,10 +52,14 @@ pub use ask_line::ask_in;
 pub use beside::talk_beside;
 pub use conversing::converse;
 pub use conversing_beside::converse_beside;
-pub use laws::talks_are_of_the_history;
+pub use laws::{a_bad_line_has_one_reply, talks_are_of_the_history};
+pub use line_kind::LineKind;
+pub use mistake::{Mistake, Wrong};
 pub use outcome::Outcome;
 pub use pairs::{ScanFault, Step};
 pub use program::run_shell;
 pub use shell_fault::ShellFault;
 pub use talk_fault::TalkFault;
 pub use talking::talk;
+pub use want::Want;
+pub use wrong_line::mistake_in;

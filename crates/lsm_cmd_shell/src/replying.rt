@@ -5,9 +5,10 @@ ghost use Rattle.lsm_script.specs.Steps.{OnDesk, stage};
 ghost use Rattle.lsm_script.specs.declared.command_fault.CommandFault.TheVariants.{State as StateRefusal};
 ghost use Rattle.lsm_script.specs.declared.reply.Reply.TheVariants.{Refused};
 ghost use Rattle.lsm_cmd_shell.specs.Batching.{no_memory, reply_said, standing};
-ghost use Rattle.lsm_cmd_shell.specs.Said.{IsTold, Said, done};
+ghost use Rattle.lsm_cmd_shell.specs.MistakeText.{mistake_text};
+ghost use Rattle.lsm_cmd_shell.specs.Said.{IsTold, Said, done, failed};
 ghost use Rattle.lsm_cmd_shell.specs.Statistics.{statistics_text};
-ghost use Rattle.lsm_cmd_shell.specs.Talk.{IsReplied, IsScanned, Obeys};
+ghost use Rattle.lsm_cmd_shell.specs.Talk.{IsBadLine, IsReplied, IsScanned, Obeys};
 
 use crate::answering::answer;
 use crate::ask::Ask;
@@ -15,10 +16,13 @@ use crate::ask_line::ask_in;
 use crate::batching::{abort, begin, commit, put};
 use crate::compacting::compact;
 use crate::help::HELP;
+use crate::mistake::Mistake;
+use crate::mistake_text::push_mistake;
 use crate::outcome::Outcome;
 use crate::pairs::{ScanFault, print_version};
 use crate::saying::{Unsaid, say, say_failed};
 use crate::statistics::push_statistics;
+use crate::wrong_line::mistake_in;
 use lsm_lines::WriteBuffer;
 use lsm_requests::KeyBounds;
 use lsm_script::{CommandFault, Desk, Reply, push_reply};
@@ -121,6 +125,40 @@ fn obey<N: Boarded, S: Shelf, R: Wait, O: Write>(
     }
 }
 
+/// Says that a line has this mistake. `text` is memory for it.
+fn say_mistake<O: Write>(
+    mistake: Mistake,
+    text: &mut Vec<u8>,
+    out: &mut O,
+) -> Result<Outcome, Unsaid>
+    ensures { (said : Said) × ((said ≡ failed (mistake_text mistake)) ⊎ (said ≡ no_memory))
+        × IfOk result (IsTold said (O.contents out.old) (O.contents out.new)) }
+{
+    text.clear();
+    match push_mistake(text, mistake) {
+        Ok(()) => say_failed(out, text.as_slice()),
+        Err(_) => say_failed(out, b"refused 1 OutOfMemory\n"),
+    }
+}
+
+/// Says what is wrong with a line that asks for nothing. `text` is memory for it.
+fn say_bad<O: Write>(
+    alloc: Global,
+    form: Form,
+    line: &[u8],
+    text: &mut Vec<u8>,
+    out: &mut O,
+) -> Result<Outcome, Unsaid>
+    ensures { (said : Said) × (IsBadLine form line.now said ⊎ (said ≡ no_memory))
+        × IfOk result (IsTold said (O.contents out.old) (O.contents out.new)) }
+{
+    match mistake_in(alloc, form, line) {
+        Ok(Some(mistake)) => say_mistake(mistake, text, out),
+        Ok(None) => say_failed(out, b"bad line: help tells what lines there are\n"),
+        Err(_) => say_failed(out, b"refused 1 OutOfMemory\n"),
+    }
+}
+
 /// Replies to a line: does what it asks for, and says what that gives. `text` is memory for it.
 pub(crate) fn reply_to<N: Boarded, S: Shelf, R: Wait, O: Write>(
     rt: &R,
@@ -142,7 +180,7 @@ pub(crate) fn reply_to<N: Boarded, S: Shelf, R: Wait, O: Write>(
 {
     match ask_in(alloc, form, line) {
         Ok(Some(ask)) => obey(rt, alloc, state, desk, begun, shelf, form, ask, text, out),
-        Ok(None) => say_failed(out, b"bad line: help tells what lines there are\n"),
+        Ok(None) => say_bad(alloc, form, line, text, out),
         Err(_) => say_failed(out, b"refused 1 OutOfMemory\n"),
     }
 }

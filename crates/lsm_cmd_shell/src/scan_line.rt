@@ -1,8 +1,9 @@
 //! Lines that ask for a scan.
 
-ghost use Rattle.std.specs.Prelude.{ℕ, Option, IfNone, IfOk, IfSome, IsTrue, ◌↔◌, map};
+ghost use Rattle.std.specs.Prelude.{◌≡◌, ℕ, Option, IfNone, IfOk, IfSome, IsTrue, ◌↔◌, map};
 ghost use Rattle.lsm_requests.specs.declared.key_bounds.KeyBounds.{KeyBounds};
 ghost use Rattle.lsm_cmd_shell.specs.Asks.{AreEnds, HasLimit, IsScanRest, IsScanWords};
+ghost use Rattle.lsm_cmd_shell.specs.Mistakes.{ends_by_limit};
 
 use lsm_requests::KeyBounds;
 use lsm_text::{Form, number_in};
@@ -49,8 +50,9 @@ fn bounds_in(alloc: Global, form: Form, ends: &[&[u8]]) -> Result<Option<KeyBoun
 }
 
 /// Whether the last word but one is `limit`.
-fn has_limit(rest: &[&[u8]]) -> bool
-    ensures { IsTrue result ↔ HasLimit (map (λ w. w.now) rest.now) }
+pub(crate) fn has_limit(rest: &[&[u8]]) -> bool
+    ensures has { IsTrue result ↔ HasLimit (map (λ w. w.now) rest.now) }
+    ensures same { result ≡ ends_by_limit (map (λ w. w.now) rest.now) }
 {
     let count = rest.len();
     if count < 2 {
