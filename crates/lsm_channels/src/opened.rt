@@ -23,7 +23,10 @@ use std::sync::Wait;
 fn blocks_over<N: Boarded, S: Shelf>(
     alloc: Global,
     shelf: NamedShelf<N, S>,
-) -> Result<Cached<N, S>, AllocError> {
+) -> Result<Cached<N, S>, AllocError>
+    requires { shelf ≡ fresh N.place }
+    ensures { IfOk result (λ c. c ≡ fresh N.place) }
+{
     let Some(blocks) = NonZeroUsize::new(Options::usual().cache_blocks) else {
         unreachable!()
     };
