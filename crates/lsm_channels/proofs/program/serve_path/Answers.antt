@@ -1,8 +1,9 @@
-use Rattle.std.proofs.Common.{inl, inr, refl, map}
-use Rattle.std.specs.Option.{option_map}
+use Rattle.std.proofs.Common.{inl, inr, refl}
+use Rattle.lsm_directory.specs.Folders.{stored_at, told_by}
+use Rattle.lsm_folder.specs.Calls.{AreHonest}
 use Rattle.lsm_opening.specs.Preparing.{IsPrepared, plainly}
 use Rattle.lsm_frames.specs.OpeningView.{opened_of}
-use Rattle.lsm_channels.specs.Serving.{End, end}
+use Rattle.lsm_shelf.specs.Refusals.{MayRefuse}
 use Rattle.lsm_channels.proofs.RunLaws.{barred, back_as, err_at, ok_at, served_as, shelf_on, unprepared, unserved_as}
 use Rattle.lsm_channels.proofs.program.serve_path.Goals as goal
 
@@ -45,7 +46,9 @@ returns-clause-refused g c =
       begun = c.over-shelf.result;
       on = shelf_on g.C.FolderCalls c.args.opening.now.path.now (IsPrepared plainly start logs) c.in-Ok.found.0 c.over-shelf.result c.in-Ok.ensures.prepared c.over-shelf.ensures.folder c.over-shelf.ensures.fresh;
       ended = c.serve_on-done.result.1;
-      refused = unserved_as _ _ _ _ _ _ _ _ _ _ c.requires.channels (err_at _ c.serve_on-done.result.0 c.in-Err-done.unserved c.in-Err-done.is c.serve_on-done.ensures.refused);
+      refused = unserved_as (stored_at g.C.FolderCalls g.C.Mark.Mark (told_by g.C.FolderCalls c.over-shelf.result).place) MayRefuse (AreHonest g.C.FolderCalls.calls) c.args.plan.channels
+          c.args.opening.now.channels start logs c.in-Err-done.unserved.fault (told_by g.C.FolderCalls c.over-shelf.result) (told_by g.C.FolderCalls c.serve_on-done.result.1) c.requires.channels
+          (err_at _ c.serve_on-done.result.0 c.in-Err-done.unserved c.in-Err-done.is c.serve_on-done.ensures.refused);
     })
 
 pub returns-clause-back : goal.returns-clause-back
