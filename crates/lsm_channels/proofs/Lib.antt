@@ -11,3 +11,5 @@ mod AnswerLaws
 mod OptionLaws
 mod PairLaws
 mod WriteLaws
+mod WorkLaws
+mod ForkLaws

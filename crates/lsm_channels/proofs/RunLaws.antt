@@ -1,88 +1,220 @@
 -- How a run ends.
-use Rattle.std.proofs.Common.{◌≡◌, ℕ, ◌≤◌, ℤ, pos, Bool, List, [], ◌∷◌, ◌++◌, Option, Result, Ok, Err, IfOk, refl, sym, ap, ◌∙◌, subst, inl, inr, ◌⊎◌, arith}
-use Rattle.std.specs.Prelude.{◌^◌, MatchResult}
+use Rattle.std.proofs.Common.{◌≡◌, ℕ, zero, suc, ◌+◌, ◌<◌, ◌≤◌, ℤ, pos, Bool, List, [], ◌∷◌, ◌++◌, length, map, take, drop, Option, Result, Ok, Err, IfErr, IfOk, refl, sym, ap, ◌∙◌, subst, inl, inr, ◌⊎◌, arith}
+use Rattle.std.specs.Prelude.{◌^◌, MatchResult, slice_index_or}
+use Rattle.std.specs.Int.{w32, from_le_bytes}
+use Rattle.lsm_folder.specs.Calls.{Call, opened}
+use Rattle.lsm_folder.specs.declared.folder_calls.FolderCalls.{Ghosts}
+use Rattle.lsm_folder.specs.declared.mark.Mark as mark
 use Rattle.lsm_frames.specs.Answers.{IsRefused}
 use Rattle.lsm_frames.specs.Openings.{IsOpening, Opened}
-use Rattle.lsm_directory.specs.declared.folder.folder_file.FolderFile.{FolderFile}
-use Rattle.lsm_opening.specs.declared.prepared.Start.{Start}
+use Rattle.lsm_shelf.specs.Place.{IsAtPath, Place}
 use Rattle.lsm_shelf.specs.Asked.{Asked}
-use Rattle.lsm_shelf.specs.Place.{Place}
 use Rattle.lsm_shelf.specs.Told.{Told, fresh}
 use Rattle.lsm_shelf.specs.declared.shelf_fault.ShelfFault.{ShelfFault}
+use Rattle.lsm_storage.specs.FileShelf.{folder_of}
+use Rattle.lsm_storage.specs.declared.file.file_shelf.FileShelf.{FileShelf}
+use Rattle.lsm_directory.specs.Folders.{IsFolderAt, IsShelfAt, told_by}
+use Rattle.lsm_directory.specs.declared.folder.folder_file.FolderFile.{FolderFile}
+use Rattle.lsm_opening.specs.Preparing.{IsPrepared, plainly}
+use Rattle.lsm_opening.specs.declared.faults.writer_fault.WriterFault.{WriterFault}
+use Rattle.lsm_opening.specs.declared.faults.writer_fault.WriterFault.TheVariants.{OutOfMemory}
+use Rattle.lsm_opening.specs.declared.prepared.Start.{Start}
+use Rattle.lsm_opening.specs.declared.prepared.Start.TheVariants.{Begin, Open}
 use Rattle.lsm_wire.specs.Happenings.{Happening, Came, Went, IsUnanswered, IsWritten, unanswered}
 use Rattle.lsm_channels.specs.Answered.{answer_frame}
-use Rattle.lsm_channels.specs.Opening.{AreMadeFor, IsContentServed, IsNoContent, IsRefusal, IsRefusedOn, IsRun, NoneOpened, Outcome, RefusedOn, ServedTo}
-use Rattle.lsm_channels.specs.Serving.{End, IsDatabaseServed, end, opened_from}
+use Rattle.lsm_channels.specs.Opening.{AreLeft, AreLost, IsBarred, IsContentServed, IsNoContent, IsNoOpening, IsRun, IsUnpreparedAt, IsUnserved, Names, NoneOpened, Outcome, RefusedOn, SaysRefusal, ServedTo}
+use Rattle.lsm_channels.specs.OpeningFault.{name_of, number_of}
+use Rattle.lsm_channels.specs.Refusal.{AreOpened, IsFirst, IsSaidOn, none_said}
+use Rattle.lsm_channels.specs.Serving.{AreHandedBack, End, IsDatabaseServed, IsDatabaseUnserved, end, ends_from, opened_from}
 use Rattle.lsm_channels.specs.Starting.{options_for}
+use Rattle.lsm_channels.specs.declared.opening_fault.OpeningFault.{OpeningFault}
+use Rattle.lsm_channels.specs.declared.opening_fault.OpeningFault.TheVariants.{BadOpening, Folder, IsThere, NoDatabase}
 
 -- ---- a refusal
 
--- a refusal was said over a wire at which nothing had happened
-pub refused_on : {V E : Type 0} (bytes : V → List ℕ) (number : ℕ) (name : List ℕ) (r : Result V E) (whole : Bool) (was : List Happening) (w : End)
-    → IfOk r (λ v. bytes v ≡ answer_frame (IsRefused number name)) → was ≡ []
-    → MatchResult r (λ v. IsWritten (bytes v) whole was w.happened) (λ e. IsUnanswered whole was w.happened) → IsRefusedOn w
-refused_on bytes number name (Ok v) whole was w made new said =
-    (number, name, whole, inl (said ∙ ap (λ (b : List ℕ). Went b whole ∷ was) made ∙ ap (λ (hs : List Happening). Went (answer_frame (IsRefused number name)) whole ∷ hs) new))
-refused_on bytes number name (Err e) whole was w made new said =
-    (number, name, said.1.0, inr (said.1.1 ∙ ap (λ (hs : List Happening). Went unanswered said.1.0 ∷ hs) new))
+-- it was said over a wire at which nothing had happened
+pub refusal_said : {V E : Type 0} (bytes : V → List ℕ) (e : OpeningFault) (first number : ℕ) (name : List ℕ) (r : Result V E) (whole : Bool) (old w : End) → number ≡ number_of e → name ≡ name_of e
+    → IfOk r (λ v. bytes v ≡ answer_frame (IsRefused number name)) → w.descriptor ≡ old.descriptor
+    → MatchResult r (λ v. IsWritten (bytes v) whole old.happened w.happened) (λ x. IsUnanswered whole old.happened w.happened) → old ≡ end (pos first) [] → SaysRefusal e first w
+refusal_said bytes e first number name (Ok v) whole old w num nam made same said new = (
+  same ∙ ap (λ (x : End). x.descriptor) new,
+  (
+    whole,
+    inl (said ∙ ap (λ (b : List ℕ). Went b whole ∷ old.happened) made ∙ ap (λ (x : End). Went (answer_frame (IsRefused number name)) whole ∷ x.happened) new
+        ∙ ap (λ (n : ℕ). Went (answer_frame (IsRefused n name)) whole ∷ []) num ∙ ap (λ (m : List ℕ). Went (answer_frame (IsRefused (number_of e) m)) whole ∷ []) nam),
+  ),
+)
+refusal_said bytes e first number name (Err x) whole old w num nam made same said new = (
+  same ∙ ap (λ (x : End). x.descriptor) new,
+  (said.1.0, inr (said.1.1 ∙ ap (λ (x : End). Went unanswered said.1.0 ∷ x.happened) new)),
+)
 
--- ---- the database of a folder
+-- the first one was taken out
+pub removed_first : {X : Type 0} (old new : List X) (x : X) → 0 < length old → x ≡ slice_index_or old 0 x → new ≡ take 0 old ++ drop (0 + 1) old → old ≡ x ∷ new
+removed_first [] new x some value items = absurd (omega (arith, some))
+removed_first {X} (y ∷ ys) new x some value items =
+    ap (λ (z : X). z ∷ ys) (sym value) ∙ ap (λ (zs : List X). x ∷ zs) (sym items)
 
--- what was served over a shelf that was just made is served at its folder's place
-pub database_at : (Honest : Type 0) (Refused : Asked → ShelfFault → Type 0) (gives : List ℕ → Type 0) (n m : ℕ) (start : Start) (logs : List FolderFile) (was : Told) (p q : Place) (ws : List End)
-    (rs : List (Option End)) → n ≡ m → was ≡ fresh p → p ≡ q → IsDatabaseServed Honest Refused gives (options_for n) start logs was ws rs
-    → IsDatabaseServed Honest Refused gives (options_for m) start logs (fresh q) ws rs
-database_at Honest Refused gives n m start logs was p q ws rs count new same served =
-    subst (λ (k : ℕ). IsDatabaseServed Honest Refused gives (options_for k) start logs (fresh q) ws rs) count
-    (subst (λ (t : Told). IsDatabaseServed Honest Refused gives (options_for n) start logs t ws rs) (new ∙ ap (λ (r : Place). fresh r) same) served)
+none_is : {X : Type 0} (x : X) (xs : List X) → [] ≡ x ∷ xs → ⊥
+none_is x xs e = cc
+
+heads : {X : Type 0} (x y : X) (xs ys : List X) → x ∷ xs ≡ y ∷ ys → x ≡ y
+heads x y xs ys e = cc
+
+tails : {X : Type 0} (x y : X) (xs ys : List X) → x ∷ xs ≡ y ∷ ys → xs ≡ ys
+tails x y xs ys e = cc
+
+-- wires from one number on: the first, and those behind it
+ends_first : (first n : ℕ) → ends_from first (suc n) ≡ end (pos first) [] ∷ ends_from (suc first) n
+ends_first first zero = ap (λ (k : ℕ). end (pos k) [] ∷ []) (let e : first + 0 ≡ first = omega arith in e)
+ends_first first (suc n) =
+    ap (λ (es : List End). es ++ end (pos (first + suc n)) [] ∷ []) (ends_first first n)
+    ∙ ap (λ (k : ℕ). end (pos first) [] ∷ (ends_from (suc first) n ++ end (pos k) [] ∷ [])) (let e : first + suc n ≡ suc first + n = omega arith in e)
+
+first_none : (first : ℕ) (old : End) (others : List End) (was is : List ℤ) → IsFirst first [] old others was is → (old ≡ end (pos first) []) × (others ≡ []) × (is ≡ pos first ∷ was)
+first_none first old others was is (inl h) = (h.1, h.2, h.3)
+first_none first old others was is (inr h) = absurd (none_is old others h.0)
+
+first_some : (first n : ℕ) (old : End) (others : List End) (was is : List ℤ) → IsFirst first (ends_from first (suc n)) old others was is
+    → (old ≡ end (pos first) []) × (others ≡ ends_from (suc first) n) × (is ≡ was)
+first_some first n old others was is (inl h) = absurd (none_is (end (pos first) []) (ends_from (suc first) n) (sym h.0 ∙ ends_first first n))
+first_some first n old others was is (inr h) =
+    let same : old ∷ others ≡ end (pos first) [] ∷ ends_from (suc first) n = sym h.0 ∙ ends_first first n in
+    (heads old (end (pos first) []) others (ends_from (suc first) n) same, tails old (end (pos first) []) others (ends_from (suc first) n) same, h.1)
+
+-- which wires are left of an opening that was refused
+wires_left : (e : OpeningFault) (first channels : ℕ) (ws : List End) (old : End) (others : List End) (was mid is : List ℤ) → 1 ≤ channels → AreOpened e first channels ws was mid
+    → IsFirst first ws old others mid is → (old ≡ end (pos first) []) × (AreLeft first channels others was is ⊎ AreLost e first channels others was is)
+wires_left e first channels ws old others was mid is some (inl h) taken =
+    let t = first_none first old others mid is (subst (λ (vs : List End). IsFirst first vs old others mid is) h.0 taken) in
+    (t.0, inl (inl (t.1, t.2 ∙ ap (λ (ds : List ℤ). pos first ∷ ds) h.1)))
+wires_left e first zero ws old others was mid is some (inr (inl h)) taken = absurd (omega (arith, some))
+wires_left e first (suc n) ws old others was mid is some (inr (inl h)) taken =
+    let t = first_some first n old others mid is (subst (λ (vs : List End). IsFirst first vs old others mid is) h.0 taken) in
+    (t.0, inl (inr (n, refl, t.1, t.2 ∙ h.1)))
+wires_left e first channels ws old others was mid is some (inr (inr h)) taken =
+    let t = first_none first old others mid is (subst (λ (vs : List End). IsFirst first vs old others mid is) h.1 taken) in
+    (t.0, inr (h.0, t.1, t.2 ∙ ap (λ (ds : List ℤ). pos first ∷ ds) h.2))
+
+-- the wires that come back are those that were made, or none
+pub opened_back : {W : Type 0} (seen : W → End) (e : OpeningFault) (first channels : ℕ) (wires back : List W) (was is : List ℤ) → AreHandedBack (Folder OutOfMemory) wires back e
+    → map seen wires ≡ ends_from first channels → is ≡ opened_from first channels ++ was → AreOpened e first channels (map seen back) was is
+opened_back {W} seen e first channels wires back was is (inl same) made opens = inr (inl (ap (λ (ws : List W). map seen ws) same ∙ made, opens))
+opened_back {W} seen e first channels wires back was is (inr lost) made opens = inr (inr (lost.0, ap (λ (ws : List W). map seen ws) lost.1, opens))
+
+-- ---- the folder of a path
+
+module _ {C M : Type 0} (folders : Ghosts C M) where
+  -- a folder that was opened there, and asked for this since
+  pub folder_at : (path : List ℕ) (Called : List Call → List Call → Type 0) (first now : C) → IsAtPath path (folders.place first) → folders.calls first ≡ opened ∷ []
+      → Called (folders.calls first) (folders.calls now) → folders.place now ≡ folders.place first → IsFolderAt folders path Called now
+  folder_at path Called first now at none called same = record {
+    at = subst (λ (p : Place). IsAtPath path p) (sym same) at;
+    called = subst (λ (cs : List Call). Called cs (folders.calls now)) none called;
+  }
+
+  -- a shelf on it
+  pub shelf_on : (path : List ℕ) (Called : List Call → List Call → Type 0) (folder : C) (shelf : FileShelf C M) → IsFolderAt folders path Called folder → folder_of shelf ≡ folder
+      → told_by folders shelf ≡ fresh (folders.place folder) → IsShelfAt folders path Called shelf
+  shelf_on path Called folder shelf at on new = record {
+    on = subst (λ (f : C). IsFolderAt folders path Called f) (sym on) at;
+    new = subst (λ (f : C). told_by folders shelf ≡ fresh (folders.place f)) (sym on) new;
+  }
 
 -- ---- what becomes of an opening
 
--- what was made, behind the wires of an opening or behind none, is one more
-one_more_made : (content : List ℕ) (o : Opened) (d : ℤ) (was mid is : List ℤ) → IsOpening content o → (mid ≡ was) ⊎ (mid ≡ opened_from o.first o.channels ++ was) → d ≡ pos o.first → is ≡ pos o.first ∷ mid
-    → (made : List ℤ) × AreMadeFor content made × (is ≡ d ∷ (made ++ was))
-one_more_made content o d was mid is opening (inl none) named more =
-    ([], inl refl, more ∙ ap (λ (ds : List ℤ). pos o.first ∷ ds) none ∙ ap (λ (n : ℤ). n ∷ was) (sym named))
-one_more_made content o d was mid is opening (inr each) named more =
-    let made : List ℤ = opened_from o.first o.channels in
-    (made, inr (o, opening, refl), more ∙ ap (λ (ds : List ℤ). pos o.first ∷ ds) each ∙ ap (λ (n : ℤ). n ∷ (made ++ was)) (sym named))
+module _ {C M : Type 0} (folders : Ghosts C M) (marks : mark.Ghosts M) where
+  -- where of no descriptor anything was said
+  pub unserved_open : (says : ℤ → Bool → Type 0) (o : Opened) (e : OpeningFault) → IsUnserved folders marks none_said o e → IsUnserved folders marks says o e
+  unserved_open says o BadOpening why = absurd why.2
+  unserved_open says o NoDatabase why = why
+  unserved_open says o IsThere why = why
+  unserved_open says o (Folder f) why = why
 
--- an opening was refused over its first channel
-pub opening_refused : (Honest : Type 0) (Refused : Asked → ShelfFault → Type 0) (gives : List ℕ → Type 0) (content : List ℕ) (o : Opened) (outcome : Outcome) (was mid is : List ℤ)
-    → IsOpening content o → ((other : Opened) → IsOpening content other → o ≡ other) → (mid ≡ was) ⊎ (mid ≡ opened_from o.first o.channels ++ was)
-    → IsRefusal o.first mid is outcome → IsContentServed Honest Refused gives content outcome was is
-opening_refused Honest Refused gives content o NoneOpened was mid is opening only wires refusal =
-    let numbers = opening.fits.descriptors in
-    let some = opening.fits.some_channel in
-    let past : 2 ^ 31 ≤ o.first = refusal.0 in
-    absurd (omega (arith, numbers, some, past))
-opening_refused Honest Refused gives content o (RefusedOn w) was mid is opening only wires refusal =
-    (refusal.1, (λ other same. refusal.0 ∙ ap (λ (x : Opened). pos x.first) (only other same)), one_more_made content o w.descriptor was mid is opening wires refusal.0 refusal.2)
-opening_refused Honest Refused gives content o (ServedTo rs) was mid is opening only wires refusal = absurd refusal
+  -- there is none, or one, and that was to be refused
+  pub barred : (o : Opened) (start : Start) (logs : List FolderFile) (folder : C) (e : OpeningFault) → IsBarred start o.make o.refuse e
+      → IsFolderAt folders o.path (IsPrepared plainly start logs) folder → IsUnserved folders marks none_said o e
+  barred o Open logs folder BadOpening why at = absurd why
+  barred o Open logs folder NoDatabase why at = absurd why
+  barred o Open logs folder IsThere why at = record { start = Open; logs = logs; barred = why; folder = folder; at = at }
+  barred o Open logs folder (Folder f) why at = absurd why
+  barred o (Begin n) logs folder BadOpening why at = absurd why
+  barred o (Begin n) logs folder NoDatabase why at = record { start = Begin n; logs = logs; barred = why; folder = folder; at = at }
+  barred o (Begin n) logs folder IsThere why at = absurd why
+  barred o (Begin n) logs folder (Folder f) why at = absurd why
 
--- what is no opening was refused over the channel that it names
-pub content_refused : (Honest : Type 0) (Refused : Asked → ShelfFault → Type 0) (gives : List ℕ → Type 0) (content : List ℕ) (first : ℕ) (outcome : Outcome) (was is : List ℤ)
-    → ((other : Opened) → IsOpening content other → ⊥) → IsRefusal first was is outcome → IsContentServed Honest Refused gives content outcome was is
-content_refused Honest Refused gives content first NoneOpened was is none refusal = (none, refusal.1)
-content_refused Honest Refused gives content first (RefusedOn w) was is none refusal =
-    (refusal.1, (λ other same. absurd (none other same)), ([], inl refl, refusal.2 ∙ ap (λ (n : ℤ). n ∷ was) (sym refusal.0)))
-content_refused Honest Refused gives content first (ServedTo rs) was is none refusal = absurd refusal
+  -- memory ran out, or the folder was not prepared
+  pub unprepared : (o : Opened) (e : WriterFault) → (e ≡ OutOfMemory) ⊎ IsUnpreparedAt folders o.path e → IsUnserved folders marks none_said o (Folder e)
+  unprepared o e (inl h) = inl h
+  unprepared o e (inr h) = inr (inl h)
 
--- ---- what came at descriptor 0
+  -- an opening was refused over its first channel
+  pub opening_refused : (says : ℤ → Bool → Type 0) (gives : List ℕ → Type 0) (content : List ℕ) (o : Opened) (e : OpeningFault) (ws : List End) (outcome : Outcome) (was mid is : List ℤ)
+      → IsOpening content o → IsUnserved folders marks says o e → AreOpened e o.first o.channels ws was mid → IsSaidOn e o.first ws mid is outcome
+      → IsContentServed folders marks says gives content outcome was is
+  opening_refused says gives content o e ws NoneOpened was mid is opening why wires said =
+      let numbers = opening.fits.descriptors in
+      let some = opening.fits.some_channel in
+      let past : 2 ^ 31 ≤ o.first = said.0 in
+      absurd (omega (arith, numbers, some, past))
+  opening_refused says gives content o e ws (RefusedOn w others) was mid is opening why wires said =
+      let left = wires_left e o.first o.channels ws said.0 others was mid is opening.fits.some_channel wires said.1 in
+      inr (o, opening, record { fault = e; why = why; said = said.2 left.0; wires = left.1 })
+  opening_refused says gives content o e ws (ServedTo rs) was mid is opening why wires said = absurd said
+
+  -- what is no opening was refused over the channel that it names
+  pub content_refused : (says : ℤ → Bool → Type 0) (gives : List ℕ → Type 0) (content : List ℕ) (first : ℕ) (ws : List End) (outcome : Outcome) (was is : List ℤ) → IsNoOpening content → Names content first
+      → ws ≡ [] → IsSaidOn BadOpening first ws was is outcome → IsContentServed folders marks says gives content outcome was is
+  content_refused says gives content first ws NoneOpened was is none named empty said =
+      (none, (λ other names. subst (λ (n : ℕ). 2 ^ 31 ≤ n) (named.1 ∙ sym names.1) said.0), said.1)
+  content_refused says gives content first ws (RefusedOn w others) was is none named empty said =
+      let t = first_none first said.0 others was is (subst (λ (vs : List End). IsFirst first vs said.0 others was is) empty said.1) in
+      inl (none, (first, named, (said.2 t.0, t.1, t.2)))
+  content_refused says gives content first ws (ServedTo rs) was is none named empty said = absurd said
+
+  -- and what names none was not
+  pub content_short : (says : ℤ → Bool → Type 0) (gives : List ℕ → Type 0) (content : List ℕ) (was is : List ℤ) → IsNoOpening content → length content < 4 → is ≡ was
+      → IsContentServed folders marks says gives content NoneOpened was is
+  content_short says gives content was is none short same = (none, (λ other names. let long = names.0 in absurd (omega (arith, short, long))), same)
+
+  -- ---- what came at descriptor 0
+
+  pub nothing_came : (says : ℤ → Bool → Type 0) (gives : List ℕ → Type 0) (came : Happening) (opening : End) (was is : List ℤ) → IsNoContent came → opening ≡ end (pos 0) (came ∷ [])
+      → is ≡ pos 0 ∷ was → IsRun folders marks says gives opening NoneOpened was is
+  nothing_came says gives came opening was is none seen made = inl (came, none, seen, refl, made)
+
+  pub content_came : (says : ℤ → Bool → Type 0) (gives : List ℕ → Type 0) (content : List ℕ) (opening : End) (outcome : Outcome) (was mid is : List ℤ) → opening ≡ end (pos 0) (Came content ∷ [])
+      → mid ≡ pos 0 ∷ was → IsContentServed folders marks says gives content outcome mid is → IsRun folders marks says gives opening outcome was is
+  content_came says gives content opening outcome was mid is seen made served =
+      inr (content, seen, subst (λ (ds : List ℤ). IsContentServed folders marks says gives content outcome ds is) made served)
 
 pub seen_end : (d e : ℤ) (was is : List Happening) (came : Happening) → d ≡ pos 0 → e ≡ d → was ≡ [] → is ≡ came ∷ was → end e is ≡ end (pos 0) (came ∷ [])
-seen_end d e was is came zero same none noted =
-    ap (λ (n : ℤ). end n is) (same ∙ zero) ∙ ap (λ (hs : List Happening). end (pos 0) hs) (noted ∙ ap (λ (hs : List Happening). came ∷ hs) none)
+seen_end d e was is came opening same none noted =
+    ap (λ (n : ℤ). end n is) (same ∙ opening) ∙ ap (λ (hs : List Happening). end (pos 0) hs) (noted ∙ ap (λ (hs : List Happening). came ∷ hs) none)
 
-pub nothing_came : (Honest : Type 0) (Refused : Asked → ShelfFault → Type 0) (gives : List ℕ → Type 0) (came : Happening) (opening : End) (was is : List ℤ) → IsNoContent came
-    → opening ≡ end (pos 0) (came ∷ []) → is ≡ pos 0 ∷ was → IsRun Honest Refused gives opening NoneOpened was is
-nothing_came Honest Refused gives came opening was is none seen made = inl (came, none, seen, refl, made)
+-- ---- what is said of a result
 
-pub content_came : (Honest : Type 0) (Refused : Asked → ShelfFault → Type 0) (gives : List ℕ → Type 0) (content : List ℕ) (opening : End) (outcome : Outcome) (was mid is : List ℤ)
-    → opening ≡ end (pos 0) (Came content ∷ []) → mid ≡ pos 0 ∷ was → IsContentServed Honest Refused gives content outcome mid is → IsRun Honest Refused gives opening outcome was is
-content_came Honest Refused gives content opening outcome was mid is seen made served =
-    inr (content, seen, subst (λ (ds : List ℤ). IsContentServed Honest Refused gives content outcome ds is) made served)
-
--- what is said of a result that is Ok
+-- of one that is Ok, or is not
 pub ok_at : {T E : Type 0} (P : T → Type 0) (r : Result T E) (v : T) → r ≡ Ok v → IfOk r P → P v
 ok_at {T} {E} P r v is ok = subst (λ (x : Result T E). IfOk x P) is ok
+
+pub err_at : {T E : Type 0} (P : E → Type 0) (r : Result T E) (e : E) → r ≡ Err e → IfErr r P → P e
+err_at {T} {E} P r e is err = subst (λ (x : Result T E). IfErr x P) is err
+
+-- by as many channels and workers as the opening has
+pub served_as : (Honest : Type 0) (Refused : Asked → ShelfFault → Type 0) (gives : List ℕ → Type 0) (n m k l : ℕ) (start : Start) (logs : List FolderFile) (was is : Told) (ws : List End)
+    (rs : List (Option End)) → n ≡ m → k ≡ l → IsDatabaseServed Honest Refused gives (options_for n) k start logs was is ws rs
+    → IsDatabaseServed Honest Refused gives (options_for m) l start logs was is ws rs
+served_as Honest Refused gives n m k l start logs was is ws rs channels workers served =
+    subst (λ (x : ℕ). IsDatabaseServed Honest Refused gives (options_for x) l start logs was is ws rs) channels
+    (subst (λ (x : ℕ). IsDatabaseServed Honest Refused gives (options_for n) x start logs was is ws rs) workers served)
+
+pub unserved_as : (Stored : ℕ → List ℕ → Type 0) (Refused : Asked → ShelfFault → Type 0) (Honest : Type 0) (n m : ℕ) (start : Start) (logs : List FolderFile) (e : WriterFault) (was is : Told)
+    → n ≡ m → IsDatabaseUnserved Stored Refused Honest (options_for n) start logs e was is → IsDatabaseUnserved Stored Refused Honest (options_for m) start logs e was is
+unserved_as Stored Refused Honest n m start logs e was is channels refused =
+    subst (λ (x : ℕ). IsDatabaseUnserved Stored Refused Honest (options_for x) start logs e was is) channels refused
+
+-- the wires come back with the refusal of the opening
+pub back_as : {W : Type 0} (given back : List W) (e : WriterFault) → AreHandedBack OutOfMemory given back e → AreHandedBack (Folder OutOfMemory) given back (Folder e)
+back_as given back e (inl same) = inl same
+back_as given back e (inr lost) = inr (ap (λ (f : WriterFault). Folder f) lost.0, lost.1)

@@ -5,10 +5,11 @@ use Rattle.std.specs.Prelude.{◌&&◌}
 use Rattle.std.specs.List.{list_all}
 use Rattle.std.specs.Option.{is_some, option_map}
 use Rattle.std.proofs.lemmas.List.Elements.{All-cons, All-head, All-nil, All-tail}
-use Rattle.std.proofs.lemmas.List.{append-nil, append_assoc, map-append, nil_from_length, reverse-append}
+use Rattle.std.proofs.lemmas.List.{append-nil, append_assoc, length-map, map-append, nil_from_length, reverse-append}
 use Rattle.std.proofs.lemmas.List.Folds.{list_all-append}
 use Rattle.lsm_wire.specs.Happenings.{Happening}
-use Rattle.lsm_channels.specs.Serving.{AreBack, AreServedBy, End, IsBack, end, ends_from, opened_from}
+use Rattle.lsm_shelf.specs.Told.{Becomes, Told, forking}
+use Rattle.lsm_channels.specs.Serving.{AreBack, AreServedBy, End, IsBack, end, ends_from, forks_for, opened_from}
 
 abbrev pub Relates : Type 1
 Relates = List Happening → List Happening → Type 0
@@ -159,3 +160,9 @@ all_last {X} P xs ys x last all = (split_last P ys x (subst (λ (zs : List X). A
 
 pub all_first : {X : Type 0} (P : X → Type 0) (xs ys : List X) (x : X) → xs ≡ x ∷ ys → All P xs → P x
 all_first {X} P xs ys x first all = All-head P x ys (subst (λ (zs : List X). All P zs) first all)
+
+-- ---- forks for them
+
+pub told_for : {W : Type 0} (seen : W → End) (wires : List W) (workers : ℕ) (was is : Told) → Becomes (forking (forks_for (length wires) workers) was) is
+    → Becomes (forking (forks_for (length (map seen wires)) workers) was) is
+told_for seen wires workers was is p = subst (λ (n : ℕ). Becomes (forking (forks_for n workers) was) is) (sym (length-map wires seen)) p

@@ -9,7 +9,6 @@ use Rattle.lsm_frames.specs.declared.when.When.{When}
 use Rattle.lsm_history.specs.History.{IsLater}
 use Rattle.lsm_manifest.specs.FileOrder.{TableFile}
 use Rattle.lsm_shelf.specs.Asked as shelf
-use Rattle.lsm_shelf.specs.Told as tellings
 use Rattle.lsm_shelf.specs.declared.shelf_fault.ShelfFault.{ShelfFault}
 use Rattle.lsm_state.specs.Held.{Held}
 use Rattle.lsm_state.specs.declared.ingest.Ingested.{Ingested}
@@ -19,7 +18,7 @@ use Rattle.lsm_state.specs.declared.state_fault.StateFault.TheVariants.{OutOfMem
 use Rattle.lsm_store.specs.declared.worker_fault.WorkerFault.{WorkerFault}
 use Rattle.lsm_channels.specs.Answered.{done_frame, refusal_frame, worker_refusal_frame}
 use Rattle.lsm_channels.specs.Collecting.{IsCollectFault, IsCollected}
-use Rattle.lsm_channels.specs.Compacting.{IsCompactFault, IsCompacted}
+use Rattle.lsm_channels.specs.Compacting.{IsCompactFault, IsCompacted, StopsWorking, Works}
 use Rattle.lsm_channels.specs.Counting.{IsListed, sizes_of}
 use Rattle.lsm_channels.specs.Reading.{IsRead, IsReadFault}
 use Rattle.lsm_channels.specs.Scanning.{IsScanFault, IsScanned}
@@ -84,12 +83,17 @@ AnswersRelease keeps number before after frame =
     × IfErr done (λ e. IsUnreleased keeps number e before.known after.known
     × (after.taken ≡ before.taken)) × Says (λ r. Nothing) done frame
 
--- Nothing was left to compact; or the answer says the fault of the worker that looked last.
-abbrev pub AnswersCompact : Type 0 → (Held → Type 0) → (before after : Served) → List ℕ → Type 0
-AnswersCompact Honest keeps before after frame =
+-- Nothing was left to compact; or the answer says the fault of the worker that looked last. Of the
+-- shelf, workers had forks alone.
+abbrev pub AnswersCompact : Type 0 → (shelf.Asked → ShelfFault → Type 0) → (Held → Type 0)
+    → (before after : Served) → List ℕ → Type 0
+AnswersCompact Honest Refused keeps before after frame =
     (done : Result (Unit {0}) WorkerFault)
     × OnOk done (IsCompacted Honest keeps before.known after.known)
-    × IfErr done (IsCompactFault Honest) × SaysWork done frame
+    × OnOk done (Works Honest Refused keeps before.shelf after.shelf)
+    × IfErr done (IsCompactFault Honest)
+    × IfErr done (λ e. StopsWorking Honest Refused keeps e before.shelf after.shelf)
+    × SaysWork done frame
 
 -- The answer has how many tables were removed, or the refusal.
 abbrev pub AnswersCollect : (Held → Type 0) → (before after : Served) → List ℕ → Type 0
@@ -134,7 +138,7 @@ IsAnswered Honest Refused keeps (Releases number) before after frame =
     LeavesThese before after × AnswersRelease keeps number before after frame
 IsAnswered Honest Refused keeps Compacts before after frame =
     (after.reader ≡ before.reader) × (after.taken ≡ before.taken)
-    × tellings.Forked before.shelf after.shelf × AnswersCompact Honest keeps before after frame
+    × AnswersCompact Honest Refused keeps before after frame
 IsAnswered Honest Refused keeps Collects before after frame =
     (after.reader ≡ before.reader) × (after.taken ≡ before.taken)
     × AnswersCollect keeps before after frame

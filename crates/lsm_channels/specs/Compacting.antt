@@ -1,11 +1,19 @@
 -- What a compaction comes to (this project's rule).
-use Rattle.std.specs.Prelude.{⊤, List}
+use Rattle.std.specs.Prelude.{◌≡◌, ⊤, ◌⊎◌, ℕ, zero, suc, true, List, Option, None, Some}
 use Rattle.lsm_picker.specs.Choice.{HasNoChoice}
 use Rattle.lsm_codec.specs.Entries.{Entry}
 use Rattle.lsm_live.specs.Reserving.{reserved_jobs}
+use Rattle.lsm_shelf.specs.Asked.{Asked}
+use Rattle.lsm_shelf.specs.Told.{Becomes, Counted, NotNamed, Told, forking, fresh}
+use Rattle.lsm_shelf.specs.declared.shelf_fault.ShelfFault.{ShelfFault}
 use Rattle.lsm_state.specs.Held.{Held}
-use Rattle.lsm_store.specs.Workers.{IsOfTurn}
+use Rattle.lsm_state.specs.declared.state_fault.StateFault.{StateFault}
+use Rattle.lsm_state.specs.declared.state_fault.StateFault.TheVariants.{OutOfMemory, Shelf}
+use Rattle.lsm_store.specs.Workers.{IsOfReserving, IsOfTurn}
+use Rattle.lsm_store.specs.Working.{IsReturned, given_one}
 use Rattle.lsm_channels.specs.Served.{IsLent}
+use Rattle.lsm_store.specs.declared.picks.Picks.TheVariants.{Choice}
+use Rattle.lsm_store.specs.declared.worker_end.WorkerEnd.{WorkerEnd}
 use Rattle.lsm_store.specs.declared.worker_fault.WorkerFault.{WorkerFault}
 use Rattle.lsm_store.specs.declared.worker_fault.WorkerFault.TheVariants.{NoThread, State, Merge}
 
@@ -25,3 +33,47 @@ abbrev pub IsCompactFault : Type 0 → WorkerFault → Type 0
 IsCompactFault honest NoThread = ⊤
 IsCompactFault honest (State fault) = IsOfTurn honest (State fault)
 IsCompactFault honest (Merge fault) = IsOfTurn honest (Merge fault)
+
+-- ---- by whom
+
+-- One worker more compacted until it found nothing, or ended by a fault. It had a fork of the
+-- shelf, to which nothing was told before: this is what it did with it.
+pub record IsWorkedBy (Honest : Type 0) (Refused : Asked → ShelfFault → Type 0) (keeps : Held
+    → Type 0) (e : WorkerEnd) (was is : Told) : Type 0 where
+  pub forked : Becomes (forking 1 was) is
+  pub lent : Told
+  pub untold : lent ≡ fresh lent.place
+  pub back : Option Told
+  pub returned : IsReturned Honest Refused keeps (given_one Choice true lent) e back
+
+-- so many, one after another, each of which ended without a fault
+abbrev pub AreWorkedBy : Type 0 → (Asked → ShelfFault → Type 0) → (Held → Type 0) → ℕ
+    → (was is : Told) → Type 0
+AreWorkedBy Honest Refused keeps zero was is = is ≡ was
+AreWorkedBy Honest Refused keeps (suc count) was is =
+    (mid : Told) × AreWorkedBy Honest Refused keeps count was mid
+    × ((e : WorkerEnd) × (e.fault ≡ None) × IsWorkedBy Honest Refused keeps e mid is)
+
+-- Why there is no next one, or it is the last: its own fault; the shelf gave it no fork; there was
+-- no memory for it, and its fork was let go; or the look behind those before was refused.
+abbrev pub IsLastWorker : Type 0 → (Asked → ShelfFault → Type 0) → (Held → Type 0) → WorkerFault
+    → (was is : Told) → Type 0
+IsLastWorker Honest Refused keeps fault was is =
+    ((e : WorkerEnd) × (e.fault ≡ Some fault) × IsWorkedBy Honest Refused keeps e was is)
+    ⊎ (((why : ShelfFault) × (fault ≡ State (Shelf why)) × NotNamed why × Counted why was is
+    × Becomes was is)
+    ⊎ (((fault ≡ State OutOfMemory) × Becomes (forking 1 was) is)
+    ⊎ ((why : StateFault) × (fault ≡ State why) × IsOfReserving why × (is ≡ was))))
+
+-- All that the shelf was told by a compaction that is done.
+abbrev pub Works : Type 0 → (Asked → ShelfFault → Type 0) → (Held → Type 0) → (was is : Told)
+    → Type 0
+Works Honest Refused keeps was is =
+    (count : ℕ) × AreWorkedBy Honest Refused keeps count was is
+
+-- And by one that is refused.
+abbrev pub StopsWorking : Type 0 → (Asked → ShelfFault → Type 0) → (Held → Type 0) → WorkerFault
+    → (was is : Told) → Type 0
+StopsWorking Honest Refused keeps fault was is =
+    (mid : Told) × Works Honest Refused keeps was mid
+    × IsLastWorker Honest Refused keeps fault mid is

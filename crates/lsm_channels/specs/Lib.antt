@@ -16,7 +16,9 @@ pub mod Keeping
 pub mod Serving
 -- How a database is opened
 pub mod Starting
+pub mod OpeningFault
 pub mod Opening
 -- What private functions cite alone
 pub mod Refusing
+pub mod Refusal
 pub mod Stepping

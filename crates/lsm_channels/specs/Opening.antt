@@ -1,34 +1,37 @@
 -- How an opening is served, and why it is not (docs/PROTOCOL.md, this project's rule).
-use Rattle.std.specs.Prelude.{◌≡◌, ⊤, ◌⊎◌, ℕ, ◌^◌, ◌≤◌, ℤ, pos, Bool, true, false, List, [], ◌∷◌}
-use Rattle.std.specs.Prelude.{◌++◌, Option, map}
+use Rattle.std.specs.Prelude.{◌≡◌, ⊤, ◌⊎◌, ℕ, suc, ◌+◌, ◌^◌, ◌<◌, ◌≤◌, ℤ, pos, Bool, true, false}
+use Rattle.std.specs.Prelude.{List, [], ◌∷◌, ◌++◌, Option, length, map, take}
+use Rattle.std.specs.Int.{w32, from_le_bytes}
 use Rattle.std.specs.Option.{option_map}
+use Rattle.lsm_directory.specs.Folders.{IsFolderAt, IsShelfAt, stored_at, told_by}
+use Rattle.lsm_directory.specs.Holding.{IsFolderFault}
+use Rattle.lsm_directory.specs.declared.faults.directory_fault.DirectoryFault.{DirectoryFault}
 use Rattle.lsm_directory.specs.declared.folder.folder_file.FolderFile.{FolderFile}
-use Rattle.lsm_folder.specs.Calls.{Call, opened}
+use Rattle.lsm_folder.specs.Calls.{AreHonest}
+use Rattle.lsm_folder.specs.declared.folder_calls.FolderCalls.{Ghosts}
+use Rattle.lsm_folder.specs.declared.mark.Mark as mark
 use Rattle.lsm_frames.specs.Answers.{IsRefused}
 use Rattle.lsm_frames.specs.Openings.{IsOpening, Opened}
-use Rattle.lsm_shelf.specs.Asked.{Asked}
-use Rattle.lsm_shelf.specs.Place.{IsAtPath, Place}
-use Rattle.lsm_shelf.specs.Told.{fresh}
-use Rattle.lsm_shelf.specs.declared.shelf_fault.ShelfFault.{ShelfFault}
-use Rattle.lsm_text.specs.declared.form.Form.TheVariants.{Hex}
-use Rattle.lsm_requests.specs.declared.ingest_options.IngestOptions.{IngestOptions}
-use Rattle.lsm_opening.specs.Preparing.{IsPrepared, IsUnprepared}
+use Rattle.lsm_shelf.specs.Refusals.{MayRefuse}
+use Rattle.lsm_storage.specs.declared.file.file_shelf.FileShelf.{FileShelf}
+use Rattle.lsm_opening.specs.Preparing.{IsPrepared, IsUnprepared, plainly}
+use Rattle.lsm_opening.specs.declared.faults.writer_fault.WriterFault.{WriterFault}
+use Rattle.lsm_opening.specs.declared.faults.writer_fault.WriterFault.TheVariants.{Directory}
+use Rattle.lsm_opening.specs.declared.faults.writer_fault.WriterFault.TheVariants.{OutOfMemory}
 use Rattle.lsm_opening.specs.declared.prepared.Start.{Start}
 use Rattle.lsm_opening.specs.declared.prepared.Start.TheVariants.{Open, Begin}
 use Rattle.lsm_wire.specs.Happenings.{Happening, Came, CameMisfit, CameNone, CameUnheld, Went}
 use Rattle.lsm_wire.specs.Happenings.{unanswered}
 use Rattle.lsm_channels.specs.Answered.{answer_frame}
-use Rattle.lsm_channels.specs.Serving.{End, IsDatabaseServed, end, ends_from, opened_from}
+use Rattle.lsm_channels.specs.OpeningFault.{name_of, number_of}
+use Rattle.lsm_channels.specs.Serving.{End, IsDatabaseServed, IsDatabaseUnserved, end, ends_from}
+use Rattle.lsm_channels.specs.Serving.{opened_from}
 use Rattle.lsm_channels.specs.Starting.{options_for}
 use Rattle.lsm_channels.specs.declared.ended.Ended.{Ended}
 use Rattle.lsm_channels.specs.declared.ended.Ended.TheVariants as ended
 use Rattle.lsm_channels.specs.declared.opening_fault.OpeningFault.{OpeningFault}
-use Rattle.lsm_channels.specs.declared.opening_fault.OpeningFault.TheVariants.{NoDatabase, IsThere}
-use Rattle.lsm_channels.specs.declared.opening_fault.OpeningFault.TheVariants.{Folder}
-
--- a database is begun where there is no file of one, and logs are looked at
-abbrev pub looking : IngestOptions
-looking = record { form = Hex; begins = false; beside_log = false }
+use Rattle.lsm_channels.specs.declared.opening_fault.OpeningFault.TheVariants.{BadOpening, Folder}
+use Rattle.lsm_channels.specs.declared.opening_fault.OpeningFault.TheVariants.{IsThere, NoDatabase}
 
 -- A database that is there is opened unless that is to be refused; one is begun where one is to be
 -- made.
@@ -42,48 +45,102 @@ IsBarred Open make refuse IsThere = refuse ≡ true
 IsBarred (Begin number) make refuse NoDatabase = make ≡ false
 IsBarred start make refuse e = ⊥
 
--- The folder was locked and looked at, and this holds of what there is.
-abbrev pub IsFound : (Start → Type 0) → List Call → Type 0
-IsFound Holds before = (start : Start) × (files : List FolderFile) × (after : List Call)
-    × IsPrepared looking start files before after × Holds start
+-- Of each descriptor that an opening names as a channel it was said that it is open.
+abbrev pub AreOpen : (says : ℤ → Bool → Type 0) → (first channels : ℕ) → Type 0
+AreOpen says first channels = (n : ℕ) → n < channels → says (pos (first + n)) true
 
--- What there is was to be opened, or begun.
-abbrev pub IsMet : (make refuse : Bool) → List Call → Type 0
-IsMet make refuse before = IsFound (λ start. IsAllowed start make refuse) before
+-- Of one it was said that it is not.
+abbrev pub HasClosed : (says : ℤ → Bool → Type 0) → (first channels : ℕ) → Type 0
+HasClosed says first channels = (n : ℕ) × (n < channels) × says (pos (first + n)) false
 
--- The folder of an opening was served over these wires, to the end of each: it was locked and
--- looked at, what there is was to be opened, or begun, and that database was served.
-pub record IsFolderServed (Honest : Type 0) (Refused : Asked → ShelfFault → Type 0)
-    (gives : List ℕ → Type 0) (o : Opened) (before : List Call) (ws : List End)
-    (rs : List (Option End)) : Type 0 where
-  pub start : Start
-  pub logs : List FolderFile
-  pub after : List Call
-  pub prepared : IsPrepared looking start logs before after
-  pub allowed : IsAllowed start o.make o.refuse
-  pub place : Place
-  pub at : IsAtPath o.path place
-  pub served : IsDatabaseServed Honest Refused gives (options_for o.channels) start logs
-      (fresh place) ws rs
+-- ---- in a folder
 
--- Why a folder is not served: it was not locked, or the looking stopped; what there is was not to
--- be opened, or begun; or it was, and the store refused, or a thread could not be made.
-abbrev pub IsUnserved : (make refuse : Bool) → List Call → OpeningFault → Type 0
-IsUnserved make refuse before (Folder e) =
-    ((after : List Call) × IsUnprepared looking e before after) ⊎ IsMet make refuse before
-IsUnserved make refuse before e = IsFound (λ start. IsBarred start make refuse e) before
+module _ {C M : Type 0} (folders : Ghosts C M) where
+  -- The folder of an opening was served over these wires, to the end of each: it was locked and
+  -- looked at, what there is was to be opened, or begun, and on a shelf of it that database was
+  -- served.
+  pub record IsFolderServed (gives : List ℕ → Type 0) (o : Opened) (ws : List End)
+      (rs : List (Option End)) : Type 0 where
+    pub start : Start
+    pub logs : List FolderFile
+    pub allowed : IsAllowed start o.make o.refuse
+    pub begun : FileShelf C M
+    pub on : IsShelfAt folders o.path (IsPrepared plainly start logs) begun
+    pub ended : FileShelf C M
+    pub served : IsDatabaseServed (AreHonest folders.calls) MayRefuse gives
+        (options_for o.channels) o.workers start logs (told_by folders begun)
+        (told_by folders ended) ws rs
+
+  -- No folder was opened at the path; or its lock was not held, or the looking stopped.
+  abbrev pub IsUnpreparedAt : (path : List ℕ) → WriterFault → Type 0
+  IsUnpreparedAt path e = ((fault : DirectoryFault) × (e ≡ Directory fault) × IsFolderFault fault)
+      ⊎ ((folder : C) × IsFolderAt folders path (IsUnprepared plainly e) folder)
+
+  -- It was locked and looked at, and what there is was not to be opened, or begun.
+  pub record IsBarredAt (o : Opened) (e : OpeningFault) : Type 0 where
+    pub start : Start
+    pub logs : List FolderFile
+    pub barred : IsBarred start o.make o.refuse e
+    pub folder : C
+    pub at : IsFolderAt folders o.path (IsPrepared plainly start logs) folder
+
+module _ {C M : Type 0} (folders : Ghosts C M) (marks : mark.Ghosts M) where
+  -- It was to be opened, or begun, and on a shelf of it no database was served.
+  pub record IsUnservedAt (o : Opened) (e : WriterFault) : Type 0 where
+    pub start : Start
+    pub logs : List FolderFile
+    pub allowed : IsAllowed start o.make o.refuse
+    pub begun : FileShelf C M
+    pub on : IsShelfAt folders o.path (IsPrepared plainly start logs) begun
+    pub ended : FileShelf C M
+    pub refused : IsDatabaseUnserved (stored_at folders marks (told_by folders begun).place)
+        MayRefuse (AreHonest folders.calls) (options_for o.channels) start logs e
+        (told_by folders begun) (told_by folders ended)
+
+  -- Why an opening is refused: a channel is not open; memory ran out; the folder was not locked, or
+  -- the looking stopped; what there is was not to be opened, or begun; or it was, and was not.
+  abbrev pub IsUnserved : (says : ℤ → Bool → Type 0) → Opened → OpeningFault → Type 0
+  IsUnserved says o BadOpening = HasClosed says o.first o.channels
+  IsUnserved says o NoDatabase = IsBarredAt folders o NoDatabase
+  IsUnserved says o IsThere = IsBarredAt folders o IsThere
+  IsUnserved says o (Folder e) =
+      (e ≡ OutOfMemory) ⊎ (IsUnpreparedAt folders o.path e ⊎ IsUnservedAt o e)
+
+-- ---- a refusal
+
+-- Over this wire of the first channel that is said, by the number and the name of the refusal, or
+-- that there was no memory for it; and nothing else happened there.
+abbrev pub SaysRefusal : OpeningFault → (first : ℕ) → End → Type 0
+SaysRefusal e first w = (w.descriptor ≡ pos first) × ((whole : Bool)
+    × ((w.happened ≡ Went (answer_frame (IsRefused (number_of e) (name_of e))) whole ∷ [])
+    ⊎ (w.happened ≡ Went unanswered whole ∷ [])))
+
+-- Beside the wire of the first channel none was made; or one of each other channel, at which
+-- nothing happened.
+abbrev pub AreLeft : (first channels : ℕ) → (others : List End) → (was is : List ℤ) → Type 0
+AreLeft first channels others was is = ((others ≡ []) × (is ≡ pos first ∷ was))
+    ⊎ ((n : ℕ) × (channels ≡ suc n) × (others ≡ ends_from (suc first) n)
+    × (is ≡ opened_from first channels ++ was))
+
+-- Memory or a thread could not be had for the workers: the wires of the channels were let go, and
+-- one more was made of the first.
+abbrev pub AreLost : OpeningFault → (first channels : ℕ) → (others : List End) → (was is : List ℤ)
+    → Type 0
+AreLost e first channels others was is = (e ≡ Folder OutOfMemory) × (others ≡ [])
+    × (is ≡ pos first ∷ (opened_from first channels ++ was))
 
 -- ---- a run
 
 -- how it ended, as contracts see it
 pub data Outcome : Type 0 where
   NoneOpened : Outcome
-  RefusedOn : End → Outcome
+  -- the wire over which that was said, and the others
+  RefusedOn : End → List End → Outcome
   ServedTo : List (Option End) → Outcome
 
 abbrev pub outcome_of : {W : Type 0} → (W → End) → Ended W → Outcome
 outcome_of seen ended.Unopened = NoneOpened
-outcome_of seen (ended.Refused wire) = RefusedOn (seen wire)
+outcome_of seen (ended.Refused wire others) = RefusedOn (seen wire) (map seen others.items)
 outcome_of seen (ended.Served wires) = ServedTo (map (option_map seen) wires.items)
 
 -- what came is no frame with a content
@@ -94,46 +151,54 @@ IsNoContent CameNone = ⊤
 IsNoContent CameUnheld = ⊤
 IsNoContent (Went bytes whole) = ⊥
 
--- A refusal was written over the wire, or that there was no memory for it; and nothing else
--- happened there.
-abbrev pub IsRefusedOn : End → Type 0
-IsRefusedOn w = (number : ℕ) × (name : List ℕ) × (whole : Bool)
-    × ((w.happened ≡ Went (answer_frame (IsRefused number name)) whole ∷ [])
-    ⊎ (w.happened ≡ Went unanswered whole ∷ []))
+-- The first four bytes of a content, where it has as many, are this number: that of the first
+-- channel, where a descriptor can have it.
+abbrev pub Names : (content : List ℕ) → (first : ℕ) → Type 0
+Names content first = (4 ≤ length content) × (first ≡ from_le_bytes w32 (take 4 content))
 
--- none was made; or one for each channel of the opening that the content is
-abbrev pub AreMadeFor : (content : List ℕ) → List ℤ → Type 0
-AreMadeFor content made = (made ≡ [])
-    ⊎ ((o : Opened) × IsOpening content o × (made ≡ opened_from o.first o.channels))
+-- It is no opening.
+abbrev pub IsNoOpening : (content : List ℕ) → Type 0
+IsNoOpening content = (o : Opened) → IsOpening content o → ⊥
 
--- An opening that names this first channel was refused over it; or no descriptor has its number.
-abbrev pub IsRefusal : (first : ℕ) → (was is : List ℤ) → Outcome → Type 0
-IsRefusal first was is NoneOpened = (2 ^ 31 ≤ first) × (is ≡ was)
-IsRefusal first was is (RefusedOn w) =
-    (w.descriptor ≡ pos first) × IsRefusedOn w × (is ≡ pos first ∷ was)
-IsRefusal first was is (ServedTo rs) = ⊥
+-- What is no opening was refused as such, over the first channel that it names.
+abbrev pub IsMalformedRefusal : (first : ℕ) → (w : End) → (others : List End) → (was is : List ℤ)
+    → Type 0
+IsMalformedRefusal first w others was is =
+    SaysRefusal BadOpening first w × (others ≡ []) × (is ≡ pos first ∷ was)
 
--- What becomes of an opening frame. It is no opening, and nothing was done; or it was refused over
--- its first channel; or the folder that it names was served over its channels.
-abbrev pub IsContentServed : Type 0 → (Asked → ShelfFault → Type 0) → (gives : List ℕ → Type 0)
-    → (content : List ℕ) → Outcome → (was is : List ℤ) → Type 0
-IsContentServed Honest Refused gives content NoneOpened was is =
-    ((o : Opened) → IsOpening content o → ⊥) × (is ≡ was)
-IsContentServed Honest Refused gives content (RefusedOn w) was is =
-    IsRefusedOn w × ((o : Opened) → IsOpening content o → w.descriptor ≡ pos o.first)
-    × ((made : List ℤ) × AreMadeFor content made × (is ≡ w.descriptor ∷ (made ++ was)))
-IsContentServed Honest Refused gives content (ServedTo rs) was is =
-    (o : Opened) × IsOpening content o
-    × IsFolderServed Honest Refused gives o (opened ∷ []) (ends_from o.first o.channels) rs
-    × (is ≡ opened_from o.first o.channels ++ was)
+module _ {C M : Type 0} (folders : Ghosts C M) (marks : mark.Ghosts M) where
+  -- An opening was refused over its first channel.
+  pub record IsOpeningRefusal (says : ℤ → Bool → Type 0) (o : Opened) (w : End) (others : List End)
+      (was is : List ℤ) : Type 0 where
+    pub fault : OpeningFault
+    pub why : IsUnserved folders marks says o fault
+    pub said : SaysRefusal fault o.first w
+    pub wires : AreLeft o.first o.channels others was is
+        ⊎ AreLost fault o.first o.channels others was is
 
--- One run: what happened at descriptor 0, how it ended, and of which descriptors wires were made,
--- the last one first. No opening came, and nothing was done; or one came, and nothing more was read
--- there.
-abbrev pub IsRun : Type 0 → (Asked → ShelfFault → Type 0) → (gives : List ℕ → Type 0)
-    → (opening : End) → Outcome → (was is : List ℤ) → Type 0
-IsRun Honest Refused gives opening outcome was is =
-    ((came : Happening) × IsNoContent came × (opening ≡ end (pos 0) (came ∷ []))
-    × (outcome ≡ NoneOpened) × (is ≡ pos 0 ∷ was))
-    ⊎ ((content : List ℕ) × (opening ≡ end (pos 0) (Came content ∷ []))
-    × IsContentServed Honest Refused gives content outcome (pos 0 ∷ was) is)
+  -- What becomes of an opening frame. It is no opening, no descriptor has the number of a first
+  -- channel, and nothing was done; or it was refused over its first channel; or the folder that it
+  -- names was served over its channels.
+  abbrev pub IsContentServed : (says : ℤ → Bool → Type 0) → (gives : List ℕ → Type 0)
+      → (content : List ℕ) → Outcome → (was is : List ℤ) → Type 0
+  IsContentServed says gives content NoneOpened was is =
+      IsNoOpening content × ((first : ℕ) → Names content first → 2 ^ 31 ≤ first) × (is ≡ was)
+  IsContentServed says gives content (RefusedOn w others) was is =
+      (IsNoOpening content × ((first : ℕ) × Names content first
+      × IsMalformedRefusal first w others was is))
+      ⊎ ((o : Opened) × IsOpening content o × IsOpeningRefusal says o w others was is)
+  IsContentServed says gives content (ServedTo rs) was is =
+      (o : Opened) × IsOpening content o × AreOpen says o.first o.channels
+      × IsFolderServed folders gives o (ends_from o.first o.channels) rs
+      × (is ≡ opened_from o.first o.channels ++ was)
+
+  -- One run: what happened at descriptor 0, how it ended, and of which descriptors wires were made,
+  -- the last one first. No opening came, and nothing was done; or one came, and nothing more was
+  -- read there.
+  abbrev pub IsRun : (says : ℤ → Bool → Type 0) → (gives : List ℕ → Type 0) → (opening : End)
+      → Outcome → (was is : List ℤ) → Type 0
+  IsRun says gives opening outcome was is =
+      ((came : Happening) × IsNoContent came × (opening ≡ end (pos 0) (came ∷ []))
+      × (outcome ≡ NoneOpened) × (is ≡ pos 0 ∷ was))
+      ⊎ ((content : List ℕ) × (opening ≡ end (pos 0) (Came content ∷ []))
+      × IsContentServed says gives content outcome (pos 0 ∷ was) is)

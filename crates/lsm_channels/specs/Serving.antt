@@ -1,18 +1,21 @@
 -- How channels are served (docs/PROTOCOL.md, this project's rule).
-use Rattle.std.specs.Prelude.{◌≡◌, ◌⊎◌, ⊤, ℕ, zero, suc, ◌+◌, ℤ, pos, Bool, true, false, List, []}
-use Rattle.std.specs.Prelude.{◌∷◌, ◌++◌, Option, None, Some}
+use Rattle.std.specs.Prelude.{◌≡◌, ◌⊎◌, ⊤, ℕ, zero, suc, ◌+◌, ◌*◌, ℤ, pos, Bool, true, false, List}
+use Rattle.std.specs.Prelude.{[], ◌∷◌, ◌++◌, length, Option, None, Some}
 use Rattle.std.specs.List.{list_all}
 use Rattle.std.specs.Option.{is_some}
 use Rattle.lsm_frames.specs.Answers.{Nothing}
 use Rattle.lsm_frames.specs.Requests.{Asked}
 use Rattle.lsm_shelf.specs.Asked as shelf
 use Rattle.lsm_shelf.specs.declared.shelf_fault.ShelfFault.{ShelfFault}
-use Rattle.lsm_shelf.specs.Told.{Told}
+use Rattle.lsm_shelf.specs.Told.{Becomes, Forked, NotNamed, Told, forking, fresh}
 use Rattle.lsm_state.specs.Held.{Held}
 use Rattle.lsm_state.specs.declared.options.Options.{Options}
-use Rattle.lsm_state.specs.declared.state_fault.StateFault.TheVariants.{OutOfMemory}
+use Rattle.lsm_state.specs.declared.state_fault.StateFault.TheVariants as state
 use Rattle.lsm_directory.specs.declared.folder.folder_file.FolderFile.{FolderFile}
-use Rattle.lsm_opening.specs.Starting.{IsStartedWith}
+use Rattle.lsm_opening.specs.Starting.{IsOutOfMemory, IsStartedWith, IsStartRefusalWith}
+use Rattle.lsm_opening.specs.WriterFault.{of_shelf}
+use Rattle.lsm_opening.specs.declared.faults.writer_fault.WriterFault.{WriterFault}
+use Rattle.lsm_opening.specs.declared.faults.writer_fault.WriterFault.TheVariants.{OutOfMemory}
 use Rattle.lsm_opening.specs.declared.prepared.Start.{Start}
 use Rattle.lsm_wire.specs.Conversing.{IsConversation}
 use Rattle.lsm_wire.specs.Happenings.{Happening, IsUnanswered, IsWritten}
@@ -30,11 +33,12 @@ Answers Honest Refused keeps asked before after frame =
 
 -- ---- one channel
 
--- A session that took no snapshot, and knows what had come in in a state of which the lock's fact
--- held.
+-- A session that took no snapshot, to whose shelf nothing was told yet, and which knows what had
+-- come in in a state of which the lock's fact held.
 pub record IsFresh (keeps : Held → Type 0) (session : Served) : Type 0 where
   pub known : IsKnown keeps session.known
   pub none : session.taken ≡ []
+  pub untold : session.shelf ≡ fresh session.shelf.place
 
 -- By a fresh session the channel conversed, and that is all that happened behind this.
 pub record IsServed (Honest : Type 0) (Refused : shelf.Asked → ShelfFault → Type 0) (keeps : Held
@@ -53,7 +57,7 @@ SaysOpen true goes_on was is =
     IsWritten (done_frame Nothing) goes_on was is ⊎ IsUnanswered goes_on was is
 SaysOpen false goes_on was is =
     (goes_on ≡ false) × ((whole : Bool)
-    × (IsWritten (refusal_frame OutOfMemory) whole was is ⊎ IsUnanswered whole was is))
+    × (IsWritten (refusal_frame state.OutOfMemory) whole was is ⊎ IsUnanswered whole was is))
 
 -- What goes on is served; and nothing more happens to what does not.
 abbrev pub IsServedOn : Type 0 → (shelf.Asked → ShelfFault → Type 0) → (Held → Type 0)
@@ -125,12 +129,34 @@ AreServed Honest Refused keeps ws rs =
 
 -- ---- a database
 
+-- so many forks of its shelf: one for the store, two for each channel, and one for each worker
+abbrev pub forks_for : (channels workers : ℕ) → ℕ
+forks_for channels workers = 1 + 2 * channels + workers
+
 -- A state was started, and served over these wires. All that came in on it was asked for over such
--- wires: the lock kept that all the while.
+-- wires: the lock kept that all the while. Once it was started its shelf was asked for forks alone.
 pub record IsDatabaseServed (Honest : Type 0) (Refused : shelf.Asked → ShelfFault → Type 0)
-    (gives : List ℕ → Type 0) (o : Options) (start : Start) (logs : List FolderFile) (was : Told)
-    (ws : List End) (rs : List (Option End)) : Type 0 where
+    (gives : List ℕ → Type 0) (o : Options) (workers : ℕ) (start : Start) (logs : List FolderFile)
+    (was is : Told) (ws : List End) (rs : List (Option End)) : Type 0 where
   pub found : Held
   pub told : Told
   pub started : IsStartedWith Honest o start logs found was told
+  pub forked : Becomes (forking (forks_for (length ws) workers) told) is
   pub served : AreServed Honest Refused (HasComeTo Honest gives found) ws rs
+
+-- memory ran out, or there was no thread; or a shelf was not forked
+abbrev pub IsUnforked : WriterFault → Type 0
+IsUnforked e = (e ≡ OutOfMemory) ⊎ ((fault : ShelfFault) × (e ≡ of_shelf fault) × NotNamed fault)
+
+-- Why no database was served: no state was started; or one was, and then its shelf was asked for
+-- forks alone.
+abbrev pub IsDatabaseUnserved : (ℕ → List ℕ → Type 0) → (shelf.Asked → ShelfFault → Type 0)
+    → Type 0 → Options → Start → List FolderFile → WriterFault → (was is : Told) → Type 0
+IsDatabaseUnserved Stored Refused Honest o start logs e was is =
+    (IsOutOfMemory e was is ⊎ IsStartRefusalWith Stored Refused Honest o start logs e was is)
+    ⊎ ((found : Held) × (told : Told) × IsStartedWith Honest o start logs found was told
+    × Forked told is × IsUnforked e)
+
+-- The wires come back as they were given; or, with this refusal, none does.
+abbrev pub AreHandedBack : {W E : Type 0} → (lost : E) → (given back : List W) → E → Type 0
+AreHandedBack lost given back e = (back ≡ given) ⊎ ((e ≡ lost) × (back ≡ []))

@@ -1,38 +1,61 @@
 //! Compaction until there is nothing to compact.
 
-ghost use Rattle.std.specs.Prelude.{◌≡◌, All, IfErr, IfOk, IsTrue, OnOk};
+ghost use Rattle.std.specs.Prelude.{◌≡◌, [], ◌∷◌, IfErr, IfOk, IsTrue, OnErr, OnOk, Option};
+ghost use Rattle.std.specs.Prelude.{vec_len};
 ghost use Rattle.lsm_history.specs.History.{IsLater};
-ghost use Rattle.lsm_channels.specs.Compacting.{IsCompactFault, IsCompacted, IsSettled};
+ghost use Rattle.lsm_channels.specs.Compacting.{AreWorkedBy, IsCompactFault, IsCompacted};
+ghost use Rattle.lsm_channels.specs.Compacting.{IsLastWorker, IsSettled, StopsWorking, Works};
 ghost use Rattle.lsm_channels.specs.Keeping.{IsKeptQuietly, IsKnown, IsQuietStep};
 ghost use Rattle.lsm_channels.specs.Served.{IsToldBy};
-ghost use Rattle.lsm_shelf.specs.Told.{Forked};
-ghost use Rattle.lsm_store.specs.Workers.{IsOfReserving, IsWorkersEnd};
+ghost use Rattle.lsm_shelf.specs.Told.{Becomes, Counted, NotNamed, Told, forking, fresh};
+ghost use Rattle.lsm_store.specs.Workers.{IsOfReserving};
 
 use crate::knowing::catch_up;
 use lsm_history::Memory;
-use lsm_opening::forks;
 use lsm_slots::Boarded;
 use lsm_state::{State, StateFault};
-use lsm_store::{Background, Invariant, NoGate, Store, WorkerEnd, WorkerFault, run_workers};
-use lsm_table::{NamedShelf, Shelf};
+use lsm_store::{
+    Background, Invariant, NoGate, Returned, Store, WorkerEnd, WorkerFault, run_workers_returning,
+};
+use lsm_table::{NamedShelf, Shelf, ShelfFault};
 use std::alloc::Global;
 use std::sync::Wait;
 use std::thread::Threads;
 
-/// Ok where no worker has a fault; else that of the first one that has one.
-fn judge<S: Shelf>(ends: &[WorkerEnd]) -> Result<(), WorkerFault>
-    requires { All (IsWorkersEnd S.honest) ends.now }
-    ensures { IfErr result (IsCompactFault S.honest) }
+/// A fork of a shelf, for one worker. There is room for it before it is asked for.
+fn fork_for_one<N: Boarded, S: Shelf>(
+    alloc: Global,
+    shelf: &mut NamedShelf<N, S>,
+) -> Result<Vec<NamedShelf<N, S>>, ShelfFault>
+    ensures new { IfOk result (λ v. v.items ≡ fresh N.place ∷ []) }
+    ensures one { IfOk result (λ v. vec_len v ≡ 1) }
+    ensures ok { OnOk result (Becomes (forking 1 shelf.old) shelf.new) }
+    ensures err { OnErr result (Becomes shelf.old shelf.new) }
+    ensures cause { IfErr result (λ e. NotNamed e × Counted e shelf.old shelf.new) }
 {
-    for end in ends {
-        if let Some(fault) = end.fault {
-            return Err(fault);
-        }
-    }
-    Ok(())
+    let Ok(mut shelves) = Vec::with_capacity(alloc, 1) else {
+        return Err(ShelfFault::OutOfMemory);
+    };
+    let fork = shelf.fork(alloc)?;
+    let Ok(()) = shelves.push(fork) else {
+        unreachable!()
+    };
+    Ok(shelves)
 }
 
-/// One more worker compacts what it finds.
+/// What the only worker has done, whose shelf is let go.
+fn end_of<N: Boarded, S: Shelf>(returned: Vec<Returned<N, S>>) -> WorkerEnd
+    requires { vec_len returned ≡ 1 }
+    ensures { (back : Option Told) × (returned.items ≡ (result, back) ∷ []) }
+{
+    let mut returned = returned;
+    let Some((end, _shelf)) = returned.pop() else {
+        unreachable!()
+    };
+    end
+}
+
+/// One more worker compacts what it finds, with a fork of the shelf. Ok where it has no fault.
 fn work<N: Boarded, S: Shelf, K: Invariant, R: Threads + Wait + Sync>(
     rt: &R,
     alloc: Global,
@@ -40,16 +63,23 @@ fn work<N: Boarded, S: Shelf, K: Invariant, R: Threads + Wait + Sync>(
     shelf: &mut NamedShelf<N, S>,
 ) -> Result<(), WorkerFault>
     requires quiet { IsKeptQuietly S.honest K.keeps }
-    ensures told { Forked shelf.old shelf.new }
+    ensures worked { OnOk result (AreWorkedBy S.honest (S.refuses N.place) K.keeps 1
+        shelf.old shelf.new) }
+    ensures stopped { IfErr result (λ fault. IsLastWorker S.honest (S.refuses N.place) K.keeps
+        fault shelf.old shelf.new) }
     ensures refused { IfErr result (IsCompactFault S.honest) }
 {
-    let shelves = match forks(alloc, shelf, 1) {
+    let shelves = match fork_for_one(alloc, shelf) {
         Ok(shelves) => shelves,
         Err(fault) => return Err(WorkerFault::State(StateFault::Shelf(fault))),
     };
-    match run_workers(rt, alloc, store, shelves, &NoGate) {
-        Ok(ends) => judge::<S>(&ends),
-        Err(_) => Err(WorkerFault::State(StateFault::OutOfMemory)),
+    let returned = match run_workers_returning(rt, alloc, store, shelves, &NoGate) {
+        Ok(returned) => returned,
+        Err(_) => return Err(WorkerFault::State(StateFault::OutOfMemory)),
+    };
+    match end_of(returned).fault {
+        Some(fault) => Err(fault),
+        None => Ok(()),
     }
 }
 
@@ -107,7 +137,10 @@ fn compact_once<N: Boarded, S: Shelf, K: Invariant, R: Threads + Wait + Sync>(
     ensures settled { IfOk result (λ b. IsTrue b → IsCompacted S.honest K.keeps memory.old
         memory.new) }
     ensures known { IsLater memory.new memory.old }
-    ensures told { Forked shelf.old shelf.new }
+    ensures worked { OnOk result (AreWorkedBy S.honest (S.refuses N.place) K.keeps 1
+        shelf.old shelf.new) }
+    ensures stopped { IfErr result (λ fault. StopsWorking S.honest (S.refuses N.place) K.keeps
+        fault shelf.old shelf.new) }
     ensures refused { IfErr result (IsCompactFault S.honest) }
     ensures kept { IsKnown K.keeps memory.old → IsKnown K.keeps memory.new }
 {
@@ -131,7 +164,10 @@ pub(crate) fn compact<N: Boarded, S: Shelf, K: Invariant, R: Threads + Wait + Sy
     requires quiet { IsKeptQuietly S.honest K.keeps }
     ensures compacted { OnOk result (IsCompacted S.honest K.keeps memory.old memory.new) }
     ensures known { IsLater memory.new memory.old }
-    ensures told { Forked shelf.old shelf.new }
+    ensures worked { OnOk result (Works S.honest (S.refuses N.place) K.keeps
+        shelf.old shelf.new) }
+    ensures stopped { IfErr result (λ fault. StopsWorking S.honest (S.refuses N.place) K.keeps
+        fault shelf.old shelf.new) }
     ensures refused { IfErr result (IsCompactFault S.honest) }
     ensures kept { IsKnown K.keeps memory.old → IsKnown K.keeps memory.new }
 {

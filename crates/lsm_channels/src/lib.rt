@@ -34,6 +34,7 @@ mod channel;
 mod channel_thread;
 mod opened;
 mod serving;
+mod unserved;
 mod wires;
 
 // A database is opened.

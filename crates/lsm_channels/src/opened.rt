@@ -1,15 +1,15 @@
 //! A database that is open.
 
-ghost use Rattle.std.specs.Prelude.{All, IfOk};
+ghost use Rattle.std.specs.Prelude.{◌≡◌, ◌+◌, ◌*◌, All, IfErr, IfOk, OnOk, replicate, vec_len};
 ghost use Rattle.lsm_channels.specs.Keeping.{IsKeptQuietly};
-ghost use Rattle.lsm_channels.specs.Serving.{IsFresh};
+ghost use Rattle.lsm_channels.specs.Serving.{IsFresh, forks_for};
+ghost use Rattle.lsm_shelf.specs.Told.{Becomes, Forked, NotNamed, forking, fresh};
 ghost use Rattle.lsm_state.specs.Held.{Held};
 ghost use Rattle.lsm_store.specs.Compacting.{IsSeated};
 ghost use Rattle.lsm_store.specs.Readers.{SeatsPinners};
 
 use crate::knowing::remember;
 use crate::session::Session;
-use lsm_opening::forks;
 use lsm_reader::Cached;
 use lsm_slots::Boarded;
 use lsm_state::{Options, State};
@@ -23,11 +23,54 @@ use std::sync::Wait;
 fn blocks_over<N: Boarded, S: Shelf>(
     alloc: Global,
     shelf: NamedShelf<N, S>,
-) -> Result<Cached<N, S>, AllocError> {
+) -> Result<Cached<N, S>, AllocError>
+    requires { shelf ≡ fresh N.place }
+    ensures { IfOk result (λ c. c ≡ fresh N.place) }
+{
     let Some(blocks) = NonZeroUsize::new(Options::usual().cache_blocks) else {
         unreachable!()
     };
     Cached::new(alloc, shelf, blocks)
+}
+
+/// So many forks of a shelf, to which nothing was told. The shelf is asked for forks alone.
+fn fork_all<N: Boarded, S: Shelf>(
+    alloc: Global,
+    shelf: &mut NamedShelf<N, S>,
+    count: usize,
+) -> Result<Vec<NamedShelf<N, S>>, ShelfFault>
+    ensures told { OnOk result (Becomes (forking count shelf.old) shelf.new) }
+    ensures count { IfOk result (λ v. vec_len v ≡ count) }
+    ensures new { IfOk result (λ v. v.items ≡ replicate count (fresh N.place)) }
+    ensures forked { Forked shelf.old shelf.new }
+    ensures cause { IfErr result NotNamed }
+{
+    let mut forks = Vec::new(alloc);
+    for _ in 0..count {
+        let fork = shelf.fork(alloc)?;
+        forks.push(fork)?;
+    }
+    Ok(forks)
+}
+
+/// A session for a reader, by forks of the shelf. It knows what had come in by then.
+fn man_one<N: Boarded, S: Shelf, K: Invariant, R: Wait>(
+    rt: &R,
+    alloc: Global,
+    store: &Store<N, S, K>,
+    reader: Reader<N, S>,
+    shelf: &mut NamedShelf<N, S>,
+) -> Result<Session<N, S>, ShelfFault>
+    requires quiet { IsKeptQuietly S.honest K.keeps }
+    ensures fresh { IfOk result (λ s. IsFresh K.keeps s) }
+    ensures told { OnOk result (Becomes (forking 2 shelf.old) shelf.new) }
+    ensures forked { Forked shelf.old shelf.new }
+    ensures cause { IfErr result NotNamed }
+{
+    let reading = shelf.fork(alloc)?;
+    let blocks = blocks_over(alloc, reading)?;
+    let own = shelf.fork(alloc)?;
+    Ok(Session::new(alloc, reader, blocks, own, remember(rt, store)))
 }
 
 /// A session for each reader, by forks of the shelf. Each knows what had come in by then.
@@ -40,12 +83,13 @@ fn man<N: Boarded, S: Shelf, K: Invariant, R: Wait>(
 ) -> Result<Vec<Session<N, S>>, ShelfFault>
     requires quiet { IsKeptQuietly S.honest K.keeps }
     ensures fresh { IfOk result (λ v. All (IsFresh K.keeps) v.items) }
+    ensures told { IfOk result (λ v. Becomes (forking (2 * vec_len v) shelf.old) shelf.new) }
+    ensures forked { Forked shelf.old shelf.new }
+    ensures cause { IfErr result NotNamed }
 {
     let mut sessions = Vec::new(alloc);
     for reader in readers {
-        let blocks = blocks_over(alloc, shelf.fork(alloc)?)?;
-        let shelf = shelf.fork(alloc)?;
-        let session = Session::new(alloc, reader, blocks, shelf, remember(rt, store));
+        let session = man_one(rt, alloc, store, reader, shelf)?;
         sessions.push(session)?;
     }
     Ok(sessions)
@@ -70,6 +114,10 @@ fn open_store<N: Boarded, S: Shelf, K: Invariant, R: Wait>(
     requires kept { (h : Held) → IsSeated state h → K.keeps h }
     requires quiet { IsKeptQuietly S.honest K.keeps }
     ensures fresh { IfOk result (λ r. All (IsFresh K.keeps) r.1.items) }
+    ensures told { IfOk result (λ r.
+        Becomes (forking (1 + 2 * vec_len r.1) shelf.old) shelf.new) }
+    ensures forked { Forked shelf.old shelf.new }
+    ensures cause { IfErr result NotNamed }
 {
     let reading = shelf.fork(alloc)?;
     match Store::new(alloc, state, reading) {
@@ -93,9 +141,14 @@ pub(crate) fn open_state<N: Boarded, S: Shelf, K: Invariant, R: Wait>(
     requires kept { (h : Held) → IsSeated state h → K.keeps h }
     requires quiet { IsKeptQuietly S.honest K.keeps }
     ensures fresh { IfOk result (λ o. All (IsFresh K.keeps) o.sessions.items) }
+    ensures told { IfOk result (λ o. Becomes (forking (forks_for (vec_len o.sessions) workers)
+        shelf.old) shelf.new) }
+    ensures forked { Forked shelf.old shelf.new }
+    ensures shelves { IfOk result (λ o. o.shelves.items ≡ replicate workers (fresh N.place)) }
+    ensures cause { IfErr result NotNamed }
 {
     let (store, sessions) = open_store(rt, alloc, state, shelf)?;
-    let shelves = forks(alloc, shelf, workers)?;
+    let shelves = fork_all(alloc, shelf, workers)?;
     Ok(Opened {
         store,
         sessions,

@@ -1,5 +1,10 @@
 //! Why no database is served.
 
+ghost use Rattle.std.specs.Prelude.{◌≡◌};
+ghost use Rattle.lsm_channels.specs.OpeningFault.{name_of, name_of_directory, name_of_folder};
+ghost use Rattle.lsm_channels.specs.OpeningFault.{number_of, number_of_directory};
+ghost use Rattle.lsm_channels.specs.OpeningFault.{number_of_folder};
+
 use lsm_directory::DirectoryFault;
 use lsm_opening::WriterFault;
 
@@ -17,7 +22,10 @@ pub(crate) enum OpeningFault {
 }
 
 /// The number and the name of a refusal of a folder.
-fn of_directory(fault: &DirectoryFault) -> (u8, &'static str) {
+fn of_directory(fault: &DirectoryFault) -> (u8, &'static str)
+    ensures number { result.0 ≡ number_of_directory fault.now }
+    ensures name { result.1.now ≡ name_of_directory fault.now }
+{
     match fault {
         DirectoryFault::Shelf(fault) => (fault.number(), fault.name()),
         DirectoryFault::Manifest(fault) => (fault.number(), fault.name()),
@@ -34,7 +42,10 @@ fn of_directory(fault: &DirectoryFault) -> (u8, &'static str) {
 }
 
 /// The number and the name of a refusal of a database.
-fn of_folder(fault: &WriterFault) -> (u8, &'static str) {
+fn of_folder(fault: &WriterFault) -> (u8, &'static str)
+    ensures number { result.0 ≡ number_of_folder fault.now }
+    ensures name { result.1.now ≡ name_of_folder fault.now }
+{
     match fault {
         WriterFault::Directory(fault) => of_directory(fault),
         WriterFault::LostCurrent(_) => (10, "Missing"),
@@ -51,7 +62,10 @@ fn of_folder(fault: &WriterFault) -> (u8, &'static str) {
 impl OpeningFault {
     /// The number and the name by which it is answered: those in docs/FORMATS.md, or above 200
     /// those of an opening.
-    pub(crate) fn refusal(&self) -> (u8, &'static str) {
+    pub(crate) fn refusal(&self) -> (u8, &'static str)
+        ensures number { result.0 ≡ number_of self.now }
+        ensures name { result.1.now ≡ name_of self.now }
+    {
         match self {
             OpeningFault::BadOpening => (201, "BadOpening"),
             OpeningFault::NoDatabase => (202, "NoDatabase"),

@@ -1,16 +1,14 @@
 //! What is to be served.
 
-ghost use Rattle.std.specs.Prelude.{◌≡◌, ◌≤◌, pos};
+ghost use Rattle.std.specs.Prelude.{◌≡◌, ◌≤◌};
 ghost use Rattle.lsm_frames.specs.OpeningView.{opened_of};
 ghost use Rattle.lsm_frames.specs.Openings.{FitsOpened};
 
 use lsm_frames::Opening;
 
-/// Which descriptors are channels, and how many workers compact.
+/// How many channels there are, and how many workers compact.
 #[derive(Clone, Copy, Debug)]
 pub(crate) struct Plan {
-    /// The first channel's descriptor. The others follow.
-    pub(crate) first: i32,
     pub(crate) channels: usize,
     pub(crate) workers: usize,
 }
@@ -19,14 +17,12 @@ impl Plan {
     /// What an opening asks for.
     pub(crate) fn of(opening: &Opening<'_>) -> Plan
         requires { FitsOpened (opened_of opening.now) }
-        ensures first { result.first ≡ pos opening.now.first_channel }
         ensures channels { result.channels ≡ opening.now.channels }
         ensures workers { result.workers ≡ opening.now.workers }
         ensures some { 1 ≤ result.channels }
         ensures few { result.channels ≤ 62 }
     {
         Plan {
-            first: opening.first_channel as i32,
             channels: opening.channels as usize,
             workers: opening.workers as usize,
         }

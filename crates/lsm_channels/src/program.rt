@@ -1,47 +1,38 @@
 //! One run of the server.
 
-ghost use Rattle.std.specs.Prelude.{◌≡◌, ◌≤◌, ◌⊎◌, ◌∷◌, ◌++◌, [], IfErr, IfOk, OnErr, OnOk, map};
+ghost use Rattle.std.specs.Prelude.{◌≡◌, ◌≤◌, ◌<◌, ◌^◌, ◌⊎◌, ◌++◌, IfErr, IfNone, IfOk};
+ghost use Rattle.std.specs.Prelude.{IfSome, OnOk, length, map};
 ghost use Rattle.std.specs.Option.{option_map};
-ghost use Rattle.lsm_folder.specs.Calls.{AreHonest, opened};
-ghost use Rattle.lsm_shelf.specs.Place.{IsAtPath};
-ghost use Rattle.lsm_shelf.specs.Refusals.{MayRefuse};
+ghost use Rattle.lsm_directory.specs.Folders.{IsFolderAt};
 ghost use Rattle.lsm_frames.specs.OpeningView.{opened_of};
-ghost use Rattle.lsm_frames.specs.Openings.{FitsOpened, IsOpening, Opened};
-ghost use Rattle.lsm_channels.specs.Opening.{IsAllowed, IsBarred, IsContentServed, IsFolderServed};
-ghost use Rattle.lsm_channels.specs.Opening.{IsRefusal, IsRun, IsUnserved, looking, outcome_of};
-ghost use Rattle.lsm_channels.specs.Serving.{end, ends_from, opened_from};
+ghost use Rattle.lsm_frames.specs.Openings.{FitsOpened};
+ghost use Rattle.lsm_opening.specs.Preparing.{IsPrepared, plainly};
+ghost use Rattle.lsm_opening.specs.declared.faults.writer_fault.WriterFault.TheVariants.{OutOfMemory};
+ghost use Rattle.lsm_channels.specs.Opening.{AreOpen, IsAllowed, IsBarred, IsContentServed};
+ghost use Rattle.lsm_channels.specs.Opening.{IsFolderServed, IsNoOpening, IsRun, IsUnpreparedAt};
+ghost use Rattle.lsm_channels.specs.Opening.{IsUnserved, Names, outcome_of};
+ghost use Rattle.lsm_channels.specs.Refusal.{AreOpened, IsFirst, IsSaidOn, none_said};
+ghost use Rattle.lsm_channels.specs.Serving.{AreHandedBack, end, ends_from, opened_from};
+ghost use Rattle.lsm_channels.specs.declared.opening_fault.OpeningFault.TheVariants.{Folder};
 
 use crate::ended::Ended;
 use crate::opening_fault::OpeningFault;
 use crate::plan::Plan;
 use crate::refusing::refuse_by;
 use crate::serving::serve_on;
+use crate::unserved::Unserved;
 use crate::wires::{are_open, open_wires};
 use lsm_directory::{Paths, open_at};
 use lsm_folder::{FolderCalls, Reasons};
 use lsm_frames::Opening;
-use lsm_opening::{Prepared, Start, WriterFault, prepare};
-use lsm_requests::IngestOptions;
+use lsm_opening::{Prepared, Start, WriterFault, plainly, prepare};
 use lsm_storage::FileShelf;
-use lsm_text::Form;
 use lsm_wire::{Descriptors, Incoming, Wire, say};
 use std::sync::Wait;
 use std::thread::Threads;
 
 /// Where the opening request comes from.
 const OPENING: i32 = 0;
-
-/// Looks for a database that is opened or begun as `lsm ingest` does it: nothing is begun among
-/// files of a database that lost its `CURRENT`, and logs are looked at.
-fn looking() -> IngestOptions
-    ensures { result ≡ looking }
-{
-    IngestOptions {
-        form: Form::Hex,
-        begins: false,
-        beside_log: false,
-    }
-}
 
 /// Refuses a database that is there, or none, as the opening asks.
 fn judge(prepared: &Prepared, opening: &Opening<'_>) -> Result<(), OpeningFault>
@@ -65,44 +56,30 @@ fn judge(prepared: &Prepared, opening: &Opening<'_>) -> Result<(), OpeningFault>
     Ok(())
 }
 
-/// Locks the folder, looks what is there, and serves its database over these wires.
-fn serve_folder<
-    C: FolderCalls + Send + Sync,
-    P: Paths<C>,
-    W: Wire + Send,
-    R: Threads + Wait + Sync,
->(
+/// The folder at a path, of which the lock is held and which was looked at: a database is opened or
+/// begun as `lsm ingest` does it, so nothing is begun among files of one that lost its `CURRENT`,
+/// and logs are looked at.
+fn prepare_at<C: FolderCalls, P: Paths<C>, R: Wait>(
     rt: &R,
     paths: &P,
-    folder: C,
-    opening: &Opening<'_>,
-    plan: Plan,
-    wires: Vec<W>,
-) -> Result<Vec<Option<W>>, OpeningFault>
-where
-    C::Mark: Send + Sync,
-    requires channels { plan.channels ≡ opening.now.channels }
-    requires some { 1 ≤ plan.channels }
-    requires few { plan.channels ≤ 62 }
-    requires at { IsAtPath opening.now.path.now (C.place folder) }
-    ensures served { IfOk result (λ v. IsFolderServed (AreHonest C.calls) MayRefuse W.gives
-        (opened_of opening.now) (C.calls folder)
-        (map (λ w. end (W.descriptor w) (W.happened w)) wires.items)
-        (map (option_map (λ w. end (W.descriptor w) (W.happened w))) v.items)) }
-    ensures refused { IfErr result
-        (IsUnserved opening.now.make opening.now.refuse (C.calls folder)) }
+    path: &str,
+) -> Result<(C, Prepared), WriterFault>
+    ensures prepared { IfOk result (λ r. IsFolderAt C.FolderCalls path.now
+        (IsPrepared plainly r.1.start r.1.logs.items) r.0) }
+    ensures refused { IfErr result (λ e.
+        (e ≡ OutOfMemory) ⊎ IsUnpreparedAt C.FolderCalls path.now e) }
 {
-    let mut folder = folder;
-    let prepared = match prepare(rt, paths.alloc(), &mut folder, looking()) {
-        Ok(prepared) => prepared,
-        Err(fault) => return Err(OpeningFault::Folder(fault)),
+    let reasons = match Reasons::new(paths.alloc()) {
+        Ok(reasons) => reasons,
+        Err(_) => return Err(WriterFault::OutOfMemory),
     };
-    judge(&prepared, opening)?;
-    let shelf = FileShelf::over(folder);
-    let (done, _shelf) = serve_on(rt, paths.alloc(), shelf, &prepared, plan, wires);
-    match done {
-        Ok(wires) => Ok(wires),
-        Err(fault) => Err(OpeningFault::Folder(fault)),
+    let mut folder = match open_at(paths, path, &reasons) {
+        Ok(folder) => folder,
+        Err(fault) => return Err(WriterFault::Directory(fault)),
+    };
+    match prepare(rt, paths.alloc(), &mut folder, plainly()) {
+        Ok(prepared) => Ok((folder, prepared)),
+        Err(fault) => Err(fault),
     }
 }
 
@@ -113,27 +90,43 @@ fn serve_path<C: FolderCalls + Send + Sync, P: Paths<C>, W: Wire + Send, R: Thre
     opening: &Opening<'_>,
     plan: Plan,
     wires: Vec<W>,
-) -> Result<Vec<Option<W>>, OpeningFault>
+) -> Result<Vec<Option<W>>, Unserved<W, OpeningFault>>
 where
     C::Mark: Send + Sync,
     requires channels { plan.channels ≡ opening.now.channels }
+    requires workers { plan.workers ≡ opening.now.workers }
     requires some { 1 ≤ plan.channels }
     requires few { plan.channels ≤ 62 }
-    ensures served { IfOk result (λ v. IsFolderServed (AreHonest C.calls) MayRefuse W.gives
-        (opened_of opening.now) (opened ∷ [])
+    ensures served { IfOk result (λ v. IsFolderServed C.FolderCalls W.gives
+        (opened_of opening.now)
         (map (λ w. end (W.descriptor w) (W.happened w)) wires.items)
         (map (option_map (λ w. end (W.descriptor w) (W.happened w))) v.items)) }
+    ensures refused { IfErr result (λ u. IsUnserved C.FolderCalls C.Mark.Mark none_said
+        (opened_of opening.now) u.fault) }
+    ensures back { IfErr result (λ u.
+        AreHandedBack (Folder OutOfMemory) wires.items u.wires.items u.fault) }
 {
-    let Ok(reasons) = Reasons::new(paths.alloc()) else {
-        return Err(OpeningFault::Folder(WriterFault::OutOfMemory));
+    let found = match prepare_at(rt, paths, opening.path) {
+        Ok(found) => found,
+        Err(fault) => {
+            let fault = OpeningFault::Folder(fault);
+            return Err(Unserved { fault, wires });
+        }
     };
-    let folder = match open_at(paths, opening.path, &reasons) {
-        Ok(folder) => folder,
-        Err(fault) => return Err(OpeningFault::Folder(WriterFault::Directory(fault))),
-    };
-    match serve_folder(rt, paths, folder, opening, plan, wires) {
+    let (folder, prepared) = found;
+    match judge(&prepared, opening) {
+        Ok(()) => {}
+        Err(fault) => return Err(Unserved { fault, wires }),
+    }
+    let shelf = FileShelf::over(folder);
+    let (done, _shelf) = serve_on(rt, paths.alloc(), shelf, &prepared, plan, wires);
+    match done {
         Ok(wires) => Ok(wires),
-        Err(fault) => Err(fault),
+        Err(unserved) => {
+            let Unserved { fault, wires } = unserved;
+            let fault = OpeningFault::Folder(fault);
+            Err(Unserved { fault, wires })
+        }
     }
 }
 
@@ -143,52 +136,98 @@ fn serve_at<C: FolderCalls + Send + Sync, P: Paths<C>, D: Descriptors, R: Thread
     paths: &P,
     descriptors: &mut D,
     opening: &Opening<'_>,
-) -> Result<Vec<Option<D::Wire>>, OpeningFault>
+) -> Result<Vec<Option<D::Wire>>, Unserved<D::Wire, OpeningFault>>
 where
     C::Mark: Send + Sync,
     D::Wire: Send,
     requires { FitsOpened (opened_of opening.now) }
-    ensures served { IfOk result (λ v. IsFolderServed (AreHonest C.calls) MayRefuse D.Wire.gives
-        (opened_of opening.now) (opened ∷ [])
+    ensures served { IfOk result (λ v. IsFolderServed C.FolderCalls D.Wire.gives
+        (opened_of opening.now)
         (ends_from opening.now.first_channel opening.now.channels)
         (map (option_map (λ w. end (D.Wire.descriptor w) (D.Wire.happened w))) v.items)) }
+    ensures open { OnOk result
+        (AreOpen D.says opening.now.first_channel opening.now.channels) }
     ensures opened { OnOk result (D.opened descriptors.new ≡ opened_from
         opening.now.first_channel opening.now.channels ++ D.opened descriptors.old) }
-    ensures refused { OnErr result ((D.opened descriptors.new ≡ D.opened descriptors.old)
-        ⊎ (D.opened descriptors.new ≡ opened_from opening.now.first_channel
-        opening.now.channels ++ D.opened descriptors.old)) }
+    ensures refused { IfErr result (λ u. IsUnserved C.FolderCalls C.Mark.Mark D.says
+        (opened_of opening.now) u.fault) }
+    ensures left { IfErr result (λ u. AreOpened u.fault opening.now.first_channel
+        opening.now.channels (map (λ w. end (D.Wire.descriptor w) (D.Wire.happened w))
+        u.wires.items) (D.opened descriptors.old) (D.opened descriptors.new)) }
 {
     let plan = Plan::of(opening);
-    if !are_open(descriptors, plan.first, plan.channels) {
-        return Err(OpeningFault::BadOpening);
-    }
     let first = opening.first_channel;
+    if !are_open(descriptors, first, plan.channels) {
+        return Err(Unserved {
+            fault: OpeningFault::BadOpening,
+            wires: Vec::new(paths.alloc()),
+        });
+    }
     let Ok(wires) = open_wires(paths.alloc(), descriptors, first, plan.channels) else {
-        return Err(OpeningFault::Folder(WriterFault::OutOfMemory));
+        return Err(Unserved {
+            fault: OpeningFault::Folder(WriterFault::OutOfMemory),
+            wires: Vec::new(paths.alloc()),
+        });
     };
     match serve_path(rt, paths, opening, plan, wires) {
         Ok(wires) => Ok(wires),
-        Err(fault) => Err(fault),
+        Err(unserved) => Err(unserved),
     }
 }
 
-/// Answers an opening that is refused, on the first channel.
+/// The wire of the first channel, and the others: it is made where there is none.
+fn first_of<D: Descriptors>(
+    descriptors: &mut D,
+    first: u32,
+    wires: Vec<D::Wire>,
+) -> (D::Wire, Vec<D::Wire>)
+    requires number { first < 2 ^ 31 }
+    ensures first { IsFirst first
+        (map (λ w. end (D.Wire.descriptor w) (D.Wire.happened w)) wires.items)
+        (end (D.Wire.descriptor result.0) (D.Wire.happened result.0))
+        (map (λ w. end (D.Wire.descriptor w) (D.Wire.happened w)) result.1.items)
+        (D.opened descriptors.old) (D.opened descriptors.new) }
+{
+    let mut wires = wires;
+    if wires.is_empty() {
+        return (descriptors.wire(first as i32), wires);
+    }
+    let wire = wires.remove(0);
+    (wire, wires)
+}
+
+/// Answers an opening that is refused, on the first channel: over the first of these wires, or over
+/// a new one where there are none.
 fn refuse<C: FolderCalls, P: Paths<C>, D: Descriptors>(
     paths: &P,
     descriptors: &mut D,
     first: u32,
     fault: &OpeningFault,
+    wires: Vec<D::Wire>,
 ) -> Ended<D::Wire>
-    ensures { IsRefusal first (D.opened descriptors.old) (D.opened descriptors.new)
+    ensures { IsSaidOn fault.now first
+        (map (λ w. end (D.Wire.descriptor w) (D.Wire.happened w)) wires.items)
+        (D.opened descriptors.old) (D.opened descriptors.new)
         (outcome_of (λ w. end (D.Wire.descriptor w) (D.Wire.happened w)) result) }
 {
     if 0x7fff_ffff < first {
         return Ended::Unopened;
     }
-    let mut wire = descriptors.wire(first as i32);
+    let (mut wire, others) = first_of(descriptors, first, wires);
     let (number, name) = fault.refusal();
     let _is_said = say(&mut wire, &refuse_by(paths.alloc(), number, name));
-    Ended::Refused(wire)
+    Ended::Refused(wire, others)
+}
+
+/// The number that the first four bytes of a content are, where it has as many.
+fn first_in(content: &[u8]) -> Option<u32>
+    ensures some { IfSome result (Names content.now) }
+    ensures none { IfNone result (length content.now < 4) }
+{
+    match content.split_first_chunk::<4>() {
+        Some((first, _)) => Some(u32::from_le_bytes(*first)),
+        None => None,
+    }
 }
 
 /// Refuses what is no opening, over the channel that it names, if it names one.
@@ -197,15 +236,15 @@ fn refuse_content<C: FolderCalls, P: Paths<C>, D: Descriptors>(
     descriptors: &mut D,
     content: &[u8],
 ) -> Ended<D::Wire>
-    requires none { (o : Opened) → IsOpening content.now o → ⊥ }
-    ensures { IsContentServed (AreHonest C.calls) MayRefuse D.Wire.gives content.now
+    requires none { IsNoOpening content.now }
+    ensures { IsContentServed C.FolderCalls C.Mark.Mark D.says D.Wire.gives content.now
         (outcome_of (λ w. end (D.Wire.descriptor w) (D.Wire.happened w)) result)
         (D.opened descriptors.old) (D.opened descriptors.new) }
 {
-    match content.split_first_chunk::<4>() {
-        Some((first, _)) => {
-            let first = u32::from_le_bytes(*first);
-            refuse(paths, descriptors, first, &OpeningFault::BadOpening)
+    match first_in(content) {
+        Some(first) => {
+            let none = Vec::new(paths.alloc());
+            refuse(paths, descriptors, first, &OpeningFault::BadOpening, none)
         }
         None => Ended::Unopened,
     }
@@ -221,14 +260,17 @@ fn serve_content<
 where
     C::Mark: Send + Sync,
     D::Wire: Send,
-    ensures { IsContentServed (AreHonest C.calls) MayRefuse D.Wire.gives content.now
+    ensures { IsContentServed C.FolderCalls C.Mark.Mark D.says D.Wire.gives content.now
         (outcome_of (λ w. end (D.Wire.descriptor w) (D.Wire.happened w)) result)
         (D.opened descriptors.old) (D.opened descriptors.new) }
 {
     match Opening::parse(content) {
         Ok(opening) => match serve_at(rt, paths, descriptors, &opening) {
             Ok(wires) => Ended::Served(wires),
-            Err(fault) => refuse(paths, descriptors, opening.first_channel, &fault),
+            Err(unserved) => {
+                let Unserved { fault, wires } = unserved;
+                refuse(paths, descriptors, opening.first_channel, &fault, wires)
+            }
         },
         Err(_) => refuse_content(paths, descriptors, content),
     }
@@ -246,7 +288,7 @@ pub fn serve_opening<
 where
     C::Mark: Send + Sync,
     D::Wire: Send,
-    ensures { IsRun (AreHonest C.calls) MayRefuse D.Wire.gives
+    ensures { IsRun C.FolderCalls C.Mark.Mark D.says D.Wire.gives
         (end (D.Wire.descriptor result.0) (D.Wire.happened result.0))
         (outcome_of (λ w. end (D.Wire.descriptor w) (D.Wire.happened w)) result.1)
         (D.opened descriptors.old) (D.opened descriptors.new) }

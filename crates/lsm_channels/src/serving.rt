@@ -1,14 +1,18 @@
 //! A database is served over channels.
 
-ghost use Rattle.std.specs.Prelude.{◌≡◌, ◌≤◌, ◌+◌, ◌++◌, List, [], ◌∷◌, All, IfOk, Option};
-ghost use Rattle.std.specs.Prelude.{map, reverse, vec_capacity, vec_len};
+ghost use Rattle.std.specs.Prelude.{◌≡◌, ◌≤◌, ◌+◌, ◌++◌, List, [], ◌∷◌, All, IfErr, IfOk, OnOk};
+ghost use Rattle.std.specs.Prelude.{Option, length, map, reverse, vec_capacity, vec_len};
 ghost use Rattle.std.specs.List.{list_all};
 ghost use Rattle.std.specs.Option.{is_some, option_map};
 ghost use Rattle.lsm_channels.specs.Keeping.{IsKeptByRequests, IsKeptQuietly};
-ghost use Rattle.lsm_channels.specs.Serving.{AreBack, AreServed, IsDatabaseServed, IsFresh};
-ghost use Rattle.lsm_channels.specs.Serving.{IsServed, IsServedFirst, SaysOpen, end};
+ghost use Rattle.lsm_channels.specs.Serving.{AreBack, AreHandedBack, AreServed, IsDatabaseServed};
+ghost use Rattle.lsm_channels.specs.Serving.{IsDatabaseUnserved, IsFresh, IsServed};
+ghost use Rattle.lsm_channels.specs.Serving.{IsServedFirst, IsUnforked, SaysOpen, end, forks_for};
 ghost use Rattle.lsm_channels.specs.Starting.{options_for};
 ghost use Rattle.lsm_opening.specs.Parts.{AreOf};
+ghost use Rattle.lsm_opening.specs.declared.faults.writer_fault.WriterFault.TheVariants.{OutOfMemory};
+ghost use Rattle.lsm_shelf.specs.Stored.{Stored};
+ghost use Rattle.lsm_shelf.specs.Told.{Becomes, Forked, forking};
 ghost use Rattle.lsm_state.specs.Held.{Held};
 ghost use Rattle.lsm_store.specs.Compacting.{IsSeated};
 ghost use Rattle.lsm_store.specs.Readers.{SeatsPinners};
@@ -20,6 +24,7 @@ use crate::parts::options_for;
 use crate::plan::Plan;
 use crate::refusing::refuse;
 use crate::session::Session;
+use crate::unserved::Unserved;
 use lsm_frames::nothing;
 use lsm_opening::{NewParts, Prepared, WriterFault, start_with};
 use lsm_slots::Boarded;
@@ -324,10 +329,11 @@ fn serve_beside<N: Boarded, S: Shelf, K: Invariant, W: Wire + Send, R: Threads +
         × (back.items ≡ []) × (vec_len back ≡ 0) }
     requires room { (vec_len others ≤ vec_capacity threads)
         × (vec_len others + 1 ≤ vec_capacity back) }
-    ensures { IfOk result (λ v. AreServed S.honest (S.refuses N.place) K.keeps
+    ensures served { IfOk result (λ v. AreServed S.honest (S.refuses N.place) K.keeps
         (map (λ w. end (W.descriptor w) (W.happened w))
         (first.wire ∷ reverse (map (λ c. c.wire) others.items)))
         (map (option_map (λ w. end (W.descriptor w) (W.happened w))) v.items)) }
+    ensures fault { IfErr result (λ e. e ≡ OutOfMemory) }
 {
     let run = with_workers(
         rt,
@@ -360,42 +366,56 @@ fn serve_beside<N: Boarded, S: Shelf, K: Invariant, W: Wire + Send, R: Threads +
 }
 
 /// Serves what is open beside its workers, over these wires, until each channel has ended.
-/// `OutOfMemory` where memory or workers could not be had; then nothing was said on a channel.
+/// `OutOfMemory` where memory or workers could not be had; then nothing was said on a channel. The
+/// wires come back but where workers could not be had: there a closure had them.
 fn serve_opened<N: Boarded, S: Shelf, K: Invariant, W: Wire + Send, R: Threads + Wait + Sync>(
     rt: &R,
     alloc: Global,
     opened: Opened<N, S, K>,
     wires: Vec<W>,
-) -> Result<Vec<Option<W>>, WriterFault>
+) -> Result<Vec<Option<W>>, Unserved<W, WriterFault>>
     requires quiet { IsKeptQuietly S.honest K.keeps }
     requires asked { IsKeptByRequests (S.refuses N.place) W.gives K.keeps }
     requires fresh { All (IsFresh K.keeps) opened.sessions.items }
-    ensures { IfOk result (λ v. AreServed S.honest (S.refuses N.place) K.keeps
+    ensures served { IfOk result (λ v. AreServed S.honest (S.refuses N.place) K.keeps
         (map (λ w. end (W.descriptor w) (W.happened w)) wires.items)
         (map (option_map (λ w. end (W.descriptor w) (W.happened w))) v.items)) }
+    ensures each { OnOk result (vec_len opened.sessions ≡ length wires.items) }
+    ensures fault { IfErr result (λ u. u.fault ≡ OutOfMemory) }
+    ensures back { IfErr result (λ u.
+        AreHandedBack OutOfMemory wires.items u.wires.items u.fault) }
 {
     let Opened {
         store,
         sessions,
         shelves,
     } = opened;
-    let channels = Vec::with_capacity(alloc, wires.len())?;
-    let threads = Vec::with_capacity(alloc, wires.len())?;
-    let back = Vec::with_capacity(alloc, wires.len())?;
+    let fault = WriterFault::OutOfMemory;
+    let Ok(channels) = Vec::with_capacity(alloc, wires.len()) else {
+        return Err(Unserved { fault, wires });
+    };
+    let Ok(threads) = Vec::with_capacity(alloc, wires.len()) else {
+        return Err(Unserved { fault, wires });
+    };
+    let Ok(back) = Vec::with_capacity(alloc, wires.len()) else {
+        return Err(Unserved { fault, wires });
+    };
     if sessions.len() != wires.len() {
-        return Err(WriterFault::OutOfMemory);
+        return Err(Unserved { fault, wires });
     }
     let mut others = pair_all::<N, S, K, W>(sessions, wires, channels);
+    let none = Vec::new(alloc);
     let Some(first) = others.pop() else {
-        return Err(WriterFault::OutOfMemory);
+        return Err(Unserved { fault, wires: none });
     };
     match serve_beside(rt, alloc, &store, shelves, first, others, threads, back) {
         Ok(wires) => Ok(wires),
-        Err(fault) => Err(fault),
+        Err(fault) => Err(Unserved { fault, wires: none }),
     }
 }
 
-/// Puts a state behind a lock that keeps a fact, and serves it over these wires.
+/// Puts a state behind a lock that keeps a fact, and serves it over these wires. The shelf is asked
+/// for forks alone.
 fn serve_state<N: Boarded, S: Shelf, K: Invariant, W: Wire + Send, R: Threads + Wait + Sync>(
     rt: &R,
     alloc: Global,
@@ -403,22 +423,35 @@ fn serve_state<N: Boarded, S: Shelf, K: Invariant, W: Wire + Send, R: Threads + 
     shelf: &mut NamedShelf<N, S>,
     workers: usize,
     wires: Vec<W>,
-) -> Result<Vec<Option<W>>, WriterFault>
+) -> Result<Vec<Option<W>>, Unserved<W, WriterFault>>
     requires seats { SeatsPinners state }
     requires kept { (h : Held) → IsSeated state h → K.keeps h }
     requires quiet { IsKeptQuietly S.honest K.keeps }
     requires asked { IsKeptByRequests (S.refuses N.place) W.gives K.keeps }
-    ensures { IfOk result (λ v. AreServed S.honest (S.refuses N.place) K.keeps
+    ensures served { IfOk result (λ v. AreServed S.honest (S.refuses N.place) K.keeps
         (map (λ w. end (W.descriptor w) (W.happened w)) wires.items)
         (map (option_map (λ w. end (W.descriptor w) (W.happened w))) v.items)) }
+    ensures told { OnOk result (Becomes (forking (forks_for (length wires.items) workers)
+        shelf.old) shelf.new) }
+    ensures forked { Forked shelf.old shelf.new }
+    ensures fault { IfErr result (λ u. IsUnforked u.fault) }
+    ensures back { IfErr result (λ u.
+        AreHandedBack OutOfMemory wires.items u.wires.items u.fault) }
 {
     match open_state::<N, S, K, R>(rt, alloc, state, shelf, workers) {
-        Ok(opened) => serve_opened(rt, alloc, opened, wires),
-        Err(fault) => Err(WriterFault::of_shelf(fault)),
+        Ok(opened) => match serve_opened(rt, alloc, opened, wires) {
+            Ok(wires) => Ok(wires),
+            Err(unserved) => Err(unserved),
+        },
+        Err(fault) => Err(Unserved {
+            fault: WriterFault::of_shelf(fault),
+            wires,
+        }),
     }
 }
 
-/// Opens or begins the database of a shelf, and serves it over these wires.
+/// Opens or begins the database of a shelf, and serves it over these wires. Once it is opened or
+/// begun the shelf is asked for forks alone.
 fn serve_named<N: Boarded, S: Shelf, W: Wire + Send, R: Threads + Wait + Sync>(
     rt: &R,
     alloc: Global,
@@ -427,17 +460,25 @@ fn serve_named<N: Boarded, S: Shelf, W: Wire + Send, R: Threads + Wait + Sync>(
     plan: Plan,
     parts: NewParts<S>,
     wires: Vec<W>,
-) -> Result<Vec<Option<W>>, WriterFault>
+) -> Result<Vec<Option<W>>, Unserved<W, WriterFault>>
     requires parts { AreOf parts.options N.registry N.board N.history parts }
-    ensures { IfOk result (λ v. IsDatabaseServed S.honest (S.refuses N.place) W.gives
-        parts.options prepared.now.start prepared.now.logs.items shelf.old
+    ensures served { IfOk result (λ v. IsDatabaseServed S.honest (S.refuses N.place) W.gives
+        parts.options plan.workers prepared.now.start prepared.now.logs.items shelf.old shelf.new
         (map (λ w. end (W.descriptor w) (W.happened w)) wires.items)
         (map (option_map (λ w. end (W.descriptor w) (W.happened w))) v.items)) }
+    ensures refused { IfErr result (λ u. IsDatabaseUnserved (Stored S.Receipt (S.is_of N.place)
+        S.Receipt.number S.Receipt.image) (S.refuses N.place) S.honest parts.options
+        prepared.now.start prepared.now.logs.items u.fault shelf.old shelf.new) }
+    ensures back { IfErr result (λ u.
+        AreHandedBack OutOfMemory wires.items u.wires.items u.fault) }
 {
-    let state = start_with(rt, alloc, shelf, prepared, parts)?;
+    let state = match start_with(rt, alloc, shelf, prepared, parts) {
+        Ok(state) => state,
+        Err(fault) => return Err(Unserved { fault, wires }),
+    };
     match serve_state::<N, S, Brand, W, R>(rt, alloc, state, shelf, plan.workers, wires) {
         Ok(wires) => Ok(wires),
-        Err(fault) => Err(fault),
+        Err(unserved) => Err(unserved),
     }
 }
 
@@ -450,13 +491,18 @@ fn serve_as<N: Boarded, S: Shelf, W: Wire + Send, R: Threads + Wait + Sync>(
     plan: Plan,
     parts: NewParts<S>,
     wires: Vec<W>,
-) -> (Result<Vec<Option<W>>, WriterFault>, S)
+) -> (Result<Vec<Option<W>>, Unserved<W, WriterFault>>, S)
     requires parts { AreOf parts.options N.registry N.board N.history parts }
     requires shelf { (S.told shelf).place ≡ N.place }
-    ensures { IfOk result.0 (λ v. IsDatabaseServed S.honest (S.refuses N.place)
-        W.gives parts.options prepared.now.start prepared.now.logs.items (S.told shelf)
-        (map (λ w. end (W.descriptor w) (W.happened w)) wires.items)
+    ensures served { IfOk result.0 (λ v. IsDatabaseServed S.honest (S.refuses N.place) W.gives
+        parts.options plan.workers prepared.now.start prepared.now.logs.items (S.told shelf)
+        (S.told result.1) (map (λ w. end (W.descriptor w) (W.happened w)) wires.items)
         (map (option_map (λ w. end (W.descriptor w) (W.happened w))) v.items)) }
+    ensures refused { IfErr result.0 (λ u. IsDatabaseUnserved (Stored S.Receipt (S.is_of N.place)
+        S.Receipt.number S.Receipt.image) (S.refuses N.place) S.honest parts.options
+        prepared.now.start prepared.now.logs.items u.fault (S.told shelf) (S.told result.1)) }
+    ensures back { IfErr result.0 (λ u.
+        AreHandedBack OutOfMemory wires.items u.wires.items u.fault) }
 {
     let mut shelf: NamedShelf<N, S> = NamedShelf::of(shelf);
     let done = serve_named(rt, alloc, &mut shelf, prepared, plan, parts, wires);
@@ -473,17 +519,29 @@ pub(crate) fn serve_on<S: Shelf, W: Wire + Send, R: Threads + Wait + Sync>(
     prepared: &Prepared,
     plan: Plan,
     wires: Vec<W>,
-) -> (Result<Vec<Option<W>>, WriterFault>, S)
+) -> (Result<Vec<Option<W>>, Unserved<W, WriterFault>>, S)
     requires some { 1 ≤ plan.channels }
     requires few { plan.channels ≤ 62 }
-    ensures { IfOk result.0 (λ v. IsDatabaseServed S.honest (S.refuses (S.told shelf).place)
-        W.gives (options_for plan.channels) prepared.now.start prepared.now.logs.items
-        (S.told shelf)
+    ensures served { IfOk result.0 (λ v. IsDatabaseServed S.honest
+        (S.refuses (S.told shelf).place) W.gives (options_for plan.channels) plan.workers
+        prepared.now.start prepared.now.logs.items (S.told shelf) (S.told result.1)
         (map (λ w. end (W.descriptor w) (W.happened w)) wires.items)
         (map (option_map (λ w. end (W.descriptor w) (W.happened w))) v.items)) }
+    ensures refused { IfErr result.0 (λ u. IsDatabaseUnserved (Stored S.Receipt
+        (S.is_of (S.told shelf).place) S.Receipt.number S.Receipt.image)
+        (S.refuses (S.told shelf).place) S.honest (options_for plan.channels)
+        prepared.now.start prepared.now.logs.items u.fault (S.told shelf) (S.told result.1)) }
+    ensures back { IfErr result.0 (λ u.
+        AreHandedBack OutOfMemory wires.items u.wires.items u.fault) }
 {
     match NewParts::with(alloc, options_for(plan.channels)) {
         Ok(parts) => serve_as::<Brand, S, W, R>(rt, alloc, shelf, prepared, plan, parts, wires),
-        Err(_) => (Err(WriterFault::OutOfMemory), shelf),
+        Err(_) => (
+            Err(Unserved {
+                fault: WriterFault::OutOfMemory,
+                wires,
+            }),
+            shelf,
+        ),
     }
 }

@@ -1,7 +1,8 @@
 //! The wires of the channels.
 
 ghost use Rattle.std.specs.Prelude.{◌≡◌, ◌+◌, ◌≤◌, ◌^◌, ◌++◌, [], IfOk, OnErr, OnOk, map};
-ghost use Rattle.std.specs.Prelude.{vec_capacity, vec_len};
+ghost use Rattle.std.specs.Prelude.{true, false, vec_capacity, vec_len};
+ghost use Rattle.lsm_channels.specs.Opening.{AreOpen, HasClosed};
 ghost use Rattle.lsm_channels.specs.Serving.{end, ends_from, opened_from};
 
 use lsm_wire::Descriptors;
@@ -10,13 +11,15 @@ use std::alloc::{AllocError, Global};
 /// Whether so many descriptors, from this one on, are open. A file that is opened takes the lowest
 /// number that is free: an answer over a channel that is not open would go into a table or a
 /// manifest.
-pub(crate) fn are_open<D: Descriptors>(descriptors: &D, first: i32, count: usize) -> bool {
-    let mut fd = first;
-    for _ in 0..count {
-        if !descriptors.is_open(fd) {
+pub(crate) fn are_open<D: Descriptors>(descriptors: &D, first: u32, count: usize) -> bool
+    requires numbers { first + count ≤ 2 ^ 31 }
+    ensures open { result ≡ true → AreOpen D.says first count }
+    ensures closed { result ≡ false → HasClosed D.says first count }
+{
+    for number in 0..count {
+        if !descriptors.is_open((first as usize + number) as i32) {
             return false;
         }
-        fd = fd.saturating_add(1);
     }
     true
 }

@@ -34,6 +34,8 @@ impl Descriptors for SystemDescriptors {
 
     ghost opened = { λ d. d.opens.opened };
 
+    ghost says = { λ fd answer. Unit {0} };
+
     fn is_open(&self, fd: i32) -> bool {
         if fd >= PAST_FILES {
             return true;

@@ -1,6 +1,6 @@
 //! The descriptors of a process.
 
-ghost use Rattle.std.specs.Prelude.{◌≡◌, ℤ, List, [], ◌∷◌};
+ghost use Rattle.std.specs.Prelude.{◌≡◌, ℤ, Bool, List, [], ◌∷◌};
 
 use crate::wire::Wire;
 
@@ -12,8 +12,13 @@ pub trait Descriptors {
     /// Of which descriptors a wire was made, the last one first.
     ghost opened: { Self → List ℤ };
 
+    /// What holds of a number of which `is_open` says this. No call asks for it, so that what holds
+    /// of a run holds for each choice of it.
+    ghost says: { ℤ → Bool → Type 0 };
+
     /// Whether this one is open, or no file that is opened gets its number.
-    fn is_open(&self, fd: i32) -> bool;
+    fn is_open(&self, fd: i32) -> bool
+        ensures said { says fd result };
 
     /// The wire of a descriptor, at which nothing has happened yet.
     fn wire(&mut self, fd: i32) -> Self::Wire

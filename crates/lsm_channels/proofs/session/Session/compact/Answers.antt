@@ -11,4 +11,10 @@ returns-in_err-answer-clause-unanswered g c =
     let after : Served = record { reader = c.self.inside.reader; shelf = c.compact-done.new.shelf; known = c.compact-done.new.memory; taken = c.self.inside.taken.items } in
     unsaid c.from_residual.result
     (subst (λ (x : Served). (frame : List ℕ) × IsAnswered g.S.Shelf.honest (g.S.Shelf.refuses g.N.Naming.place) g.K.Invariant.keeps Compacts x after frame) c.self.view_is
-    (said.0, (refl, refl, c.compact-done.ensures.told, (c.compact-done.result, c.compact-done.ensures.compacted, c.compact-done.ensures.refused, said.1))))
+    (said.0, (refl, refl, (c.compact-done.result, c.compact-done.ensures.compacted, c.compact-done.ensures.worked, c.compact-done.ensures.refused, c.compact-done.ensures.stopped, said.1))))
+
+pub returns-clause-answered : goal.returns-clause-answered
+returns-clause-answered g c =
+    let after : Served = record { reader = c.self.inside.reader; shelf = c.compact-done.new.shelf; known = c.compact-done.new.memory; taken = c.self.inside.taken.items } in
+    subst (λ (x : Served). IsAnswered g.S.Shelf.honest (g.S.Shelf.refuses g.N.Naming.place) g.K.Invariant.keeps Compacts x after c.in_ok-answer.answer.items) c.self.view_is
+    (refl, refl, (c.compact-done.result, c.compact-done.ensures.compacted, c.compact-done.ensures.worked, c.compact-done.ensures.refused, c.compact-done.ensures.stopped, c.in_ok-answer.ensures))

@@ -1,0 +1,34 @@
+-- What private functions say of an opening that is refused (this project's rule).
+use Rattle.std.specs.Prelude.{◌≡◌, ◌⊎◌, ℕ, ◌^◌, ◌≤◌, ℤ, pos, Bool, List, [], ◌∷◌, ◌++◌}
+use Rattle.lsm_opening.specs.declared.faults.writer_fault.WriterFault.TheVariants.{OutOfMemory}
+use Rattle.lsm_channels.specs.Opening.{NoneOpened, Outcome, RefusedOn, SaysRefusal, ServedTo}
+use Rattle.lsm_channels.specs.Serving.{End, end, ends_from, opened_from}
+use Rattle.lsm_channels.specs.declared.opening_fault.OpeningFault.{OpeningFault}
+use Rattle.lsm_channels.specs.declared.opening_fault.OpeningFault.TheVariants.{Folder}
+
+-- of no descriptor anything was said
+abbrev pub none_said : ℤ → Bool → Type 0
+none_said fd is_open = ⊥
+
+-- Which wires are left of an opening: none was made; those of its channels; or, where workers could
+-- not be had, none of them.
+abbrev pub AreOpened : OpeningFault → (first channels : ℕ) → List End → (was is : List ℤ) → Type 0
+AreOpened e first channels ws was is = ((ws ≡ []) × (is ≡ was))
+    ⊎ (((ws ≡ ends_from first channels) × (is ≡ opened_from first channels ++ was))
+    ⊎ ((e ≡ Folder OutOfMemory) × (ws ≡ []) × (is ≡ opened_from first channels ++ was)))
+
+-- The first of these wires, and the others; or a new one of this number where there are none.
+abbrev pub IsFirst : (first : ℕ) → List End → (w : End) → (others : List End) → (was is : List ℤ)
+    → Type 0
+IsFirst first ws w others was is =
+    ((ws ≡ []) × (w ≡ end (pos first) []) × (others ≡ []) × (is ≡ pos first ∷ was))
+    ⊎ ((ws ≡ w ∷ others) × (is ≡ was))
+
+-- A refusal was said over the first of these wires, as it was till then; or no descriptor has its
+-- number.
+abbrev pub IsSaidOn : OpeningFault → (first : ℕ) → List End → (was is : List ℤ) → Outcome → Type 0
+IsSaidOn e first ws was is NoneOpened = (2 ^ 31 ≤ first) × (is ≡ was)
+IsSaidOn e first ws was is (RefusedOn w others) =
+    (old : End) × IsFirst first ws old others was is
+    × (old ≡ end (pos first) [] → SaysRefusal e first w)
+IsSaidOn e first ws was is (ServedTo rs) = ⊥
