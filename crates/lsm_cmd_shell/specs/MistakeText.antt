@@ -59,8 +59,8 @@ spelling_text b = codes ", which is spelled `\\x" ++ (bytes_word (b ∷ []) ++ (
 unfoldable pub cure_text : Form → ℕ → List ℕ
 cure_text Hex b = codes ", which is no hex digit"
 cure_text Text b =
-    if b == 92
-    then codes ", which stands only in `\\xNN`, with two lower-case hex digits, and is spelled `\\x5c`"
+    if b == 92 then
+    codes ", which stands only in `\\xNN`, with two lower-case hex digits, and is spelled `\\x5c`"
     else spelling_text b
 
 abbrev pub stuck_text : Form → ℕ → Option ℕ → List ℕ

@@ -1,8 +1,8 @@
 -- What is wrong with a line that asks for nothing: the first of its words that is not as a line of
 -- its name wants it there (this project's rule).
-use Rattle.std.specs.Prelude.{◌≡◌, ◌≢◌, ◌⊎◌, ◌↔◌, ℕ, ◌+◌, ◌-◌, ◌^◌, ◌==◌, ◌&&◌, ◌||◌, nat_lt, nat_le}
-use Rattle.std.specs.Prelude.{Bool, true, false, if◌then◌else◌, IsTrue, replicate, MatchBool, List, [], ◌∷◌, length, map}
-use Rattle.std.specs.Prelude.{get_or, codes, Option, None, Some}
+use Rattle.std.specs.Prelude.{◌≡◌, ◌⊎◌, ◌↔◌, ℕ, ◌+◌, ◌-◌, ◌^◌, ◌==◌, ◌||◌, nat_lt, Bool, true}
+use Rattle.std.specs.Prelude.{false, if◌then◌else◌, IsTrue, MatchBool, List, [], ◌∷◌, length}
+use Rattle.std.specs.Prelude.{get_or, codes, replicate, Option, None, Some}
 use Rattle.std.specs.Str.{bytes_eq}
 use Rattle.lsm_batch.specs.declared.write.Write.{Write}
 use Rattle.lsm_text.specs.BatchText.{IsWriteLine}

@@ -49,8 +49,8 @@ use Rattle.lsm_cmd_shell.specs.declared.talk_fault.TalkFault.TheVariants.{LineFa
 abbrev pub bad_line : Said
 bad_line = failed (codes "bad line: help tells what lines there are\n")
 
--- What is said to a line that asks for nothing: its mistake, or that where it has none that is told,
--- as where its first word is the name of no line.
+-- What is said to a line that asks for nothing: its mistake; or that where it has none that is
+-- told, as where its first word is the name of no line.
 abbrev pub IsBadLine : Form → List ℕ → Said → Type 0
 IsBadLine form line said =
     ((m : Mistake) × IsMistake form line m × (said ≡ failed (mistake_text m)))
