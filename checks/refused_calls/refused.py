@@ -42,9 +42,9 @@ class Refuser:
         ran = subprocess.run([self.lsm, *words], capture_output=True, text=True, timeout=60, env={**os.environ, **(how or {})})
         return ran.returncode, ran.stdout, ran.stderr
 
-    def done(self, *words):
+    def done(self, *words, noted=""):
         status, out, err = self.run(*words)
-        if status or err:
+        if status or err != noted:
             self.stop(f"lsm {words[0]} without refusals: status {status}, says: {err[:300]}")
         return out
 
@@ -81,9 +81,11 @@ class Refuser:
             file.writelines(f"{line}\n" for line in plain.batch_lines(batch))
 
     def look(self, *contents):
-        """The content that the folder has, of these; LevelDB gives the same."""
-        self.done("check", self.db)
-        lines = self.done("scan", self.db).splitlines()
+        """The content that the folder has, of these; LevelDB gives the same. What reads notes a torn end."""
+        rest = self.look_at_manifest()
+        noted = f"note: the last {rest} bytes of the manifest hold no whole record, and are not read\n" if rest else ""
+        self.done("check", self.db, noted=noted)
+        lines = self.done("scan", self.db, noted=noted).splitlines()
         found = next((it for it in contents if plain.list_lines(it) == lines), None)
         if found is None:
             wanted = set(plain.list_lines(contents[-1]))
@@ -99,7 +101,8 @@ class Refuser:
             self.stop(f"LevelDB says: {ran.stdout[:300]}")
 
     def look_at_manifest(self):
-        """Behind a record that was cut short there is no other one: a reader would not see it."""
+        """How many bytes end it that are no whole record. Behind a record that was cut short there is no
+        other one: a reader would not see it."""
         with open(f"{self.db}/CURRENT") as file:
             name = file.read().strip()
         with open(f"{self.db}/{name}") as file:
@@ -107,6 +110,7 @@ class Refuser:
         rest = int(re.search(r"^rest (\d+)$", ran.stdout, re.M)[1])
         if rest > TORN:
             self.stop(f"{rest} bytes of {name} hold no whole record: more was written behind a record that was cut short")
+        return rest
 
     # ---- one refusal
 
@@ -131,7 +135,6 @@ class Refuser:
         if status not in (0, 1) or (status == 1 and (out or not REFUSAL.match(err))) or (status == 0 and err):
             self.stop(f"status {status}, answers {out[:100]!r}, says: {err[:300]}")
         self.counts["refused" if status else "done"] += 1
-        self.look_at_manifest()
         before = self.begun[command][1]
         after = self.after if command == "ingest" else before
         found = self.look(after) if status == 0 else self.look(before, after)

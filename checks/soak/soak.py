@@ -36,6 +36,7 @@ OF_LEVELDB = {
     ("random", 1): 10,
     ("streams", 1): 10,
     ("overwriting", 1): 10,
+    ("descending", 10): 6,
     ("random", 10): 6,
     ("streams", 10): 6,
     ("overwriting", 10): 5,
