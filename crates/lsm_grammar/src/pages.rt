@@ -357,10 +357,10 @@ all the same: what the old one's tables hold is then not read any more, and
 `compact` and `clean` remove them (`N.ldb`).
 
 A write-ahead log (`N.log`) that LevelDB has not flushed is `refused 51
-UnflushedLog N`, also where a database would be begun beside it: open and close
-DIR once with the program that wrote it, which flushes its log. With
---beside-log the batch comes in all the same; what stands in the log may then
-win over it in LevelDB, and be newer or older than it.
+UnflushedLog N`, also where a database would be begun beside it: `import` makes
+a copy of DIR with what is in its logs. With --beside-log the batch comes in all
+the same; what stands in the log may then win over it in LevelDB, and be newer
+or older than it.
 
 Another program that has DIR open is `refused 52 Locked`. Each run that opens or
 begins a database begins a new manifest, also where the batch is then refused,
