@@ -138,7 +138,7 @@ def main():
     kinds = sys.argv[6:] or run(LEVELDB, "kinds").stdout.decode().split()
     sources = [whole(kind) for kind in kinds]
     refused, same, rest = damaged(sources)
-    print(f"{counted(len(kinds), 'kind')} of folders imported: LevelDB and lsm read the same pairs; of {FLIPS} with"
+    print(f"{counted(len(kinds), 'kind')} of folders imported: the same pairs by LevelDB and by lsm; of {FLIPS} with"
           f" damage {refused} refused, {same} the same, {rest} as LevelDB reads a cut log (seed {SEED})")
 
 
