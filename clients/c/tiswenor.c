@@ -1219,6 +1219,19 @@ void tiswenor_iter_get_error(const tiswenor_iterator_t *iterator, char **errptr)
 
 void tiswenor_compact(tiswenor_t *db, char **errptr) { ask_numbers(db, COMPACT, NULL, 0, errptr); }
 
+void tiswenor_compact_range(tiswenor_t *db, const char *start_key, size_t start_key_len,
+                            const char *limit_key, size_t limit_key_len, char **errptr) {
+  struct request request;
+  struct answer answer;
+  request_begin(&request, COMPACT);
+  add_text(&request, start_key, start_key ? start_key_len : 0, NULL, 0);
+  add_number(&request, limit_key != NULL, 1);
+  if (limit_key) add_text(&request, limit_key, limit_key_len, NULL, 0);
+  if (!ask_once(db, &request, &answer, errptr)) return;
+  if (answer.end != answer.at) return set_bad_answer(&answer, errptr);
+  free(answer.memory);
+}
+
 uint64_t tiswenor_collect(tiswenor_t *db, char **errptr) {
   uint64_t removed = 0;
   ask_numbers(db, COLLECT, &removed, 1, errptr);

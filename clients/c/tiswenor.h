@@ -91,9 +91,16 @@ void tiswenor_get_many(tiswenor_t *db, const tiswenor_readoptions_t *options, si
 const tiswenor_snapshot_t *tiswenor_create_snapshot(tiswenor_t *db, char **errptr);
 void tiswenor_release_snapshot(tiswenor_t *db, const tiswenor_snapshot_t *snapshot);
 
-/* Compacts the whole database: returns once the server finds nothing to compact. Other calls go on
-   beside it. */
+/* Compacts what is due: returns once the server finds nothing to compact. Other calls go on beside
+   it. */
 void tiswenor_compact(tiswenor_t *db, char **errptr);
+
+/* Compacts the keys from `start_key` to `limit_key`, both included, due or not, from level 0 down
+   to the deepest level that has some of them: deletions with nothing below them go, but where a
+   snapshot needs them. NULL is no bound. Other calls go on beside it; tiswenor_collect then removes
+   the tables that were. */
+void tiswenor_compact_range(tiswenor_t *db, const char *start_key, size_t start_key_len,
+                            const char *limit_key, size_t limit_key_len, char **errptr);
 
 /* Removes the files of tables that are not needed any more, and answers their number. */
 uint64_t tiswenor_collect(tiswenor_t *db, char **errptr);
@@ -114,7 +121,8 @@ void tiswenor_statistics(tiswenor_t *db, tiswenor_statistics_t *statistics, char
 char *tiswenor_property_value(tiswenor_t *db, const char *propname);
 
 /* Iterators: the pairs of the database as it is now, or of a snapshot. A new one is not valid
-   before it is sent somewhere. To go backward costs some more requests: the server reads forward. */
+   before it is sent somewhere. To go backward costs some more requests: the server reads forward.
+ */
 
 tiswenor_iterator_t *tiswenor_create_iterator(tiswenor_t *db,
                                               const tiswenor_readoptions_t *options);

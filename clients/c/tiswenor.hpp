@@ -248,6 +248,15 @@ class Database {
     tiswenor_compact(handle_.get(), &error);
     detail::check(error);
   }
+  // The keys from one to another, both included, due or not, down to the deepest level that has some
+  // of them; none is no bound.
+  void compact_range(std::optional<std::string_view> start = std::nullopt,
+                     std::optional<std::string_view> limit = std::nullopt) {
+    char* error = nullptr;
+    tiswenor_compact_range(handle_.get(), at(start), start ? start->size() : 0, at(limit),
+                           limit ? limit->size() : 0, &error);
+    detail::check(error);
+  }
   // Removes the files of tables that are not needed any more, and gives their number.
   std::uint64_t collect() {
     char* error = nullptr;
@@ -264,6 +273,12 @@ class Database {
   }
 
  private:
+  // A bound's bytes, which are somewhere also where it is empty; null where there is none.
+  static const char* at(const std::optional<std::string_view>& bound) {
+    if (!bound) return nullptr;
+    return bound->data() ? bound->data() : "";
+  }
+
   std::optional<std::string> get_by(const tiswenor_readoptions_t* options,
                                     std::string_view key) const {
     char* error = nullptr;

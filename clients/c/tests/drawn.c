@@ -187,8 +187,13 @@ static void take_snapshot(void) {
 }
 
 static void compact(void) {
-  char *error = NULL;
-  tiswenor_compact(db, &error);
+  char *error = NULL, from[16], to[16];
+  size_t from_length = key_of(draw(KEYS), from), to_length = key_of(draw(KEYS), to);
+  if (draw(2))
+    tiswenor_compact(db, &error);
+  else
+    tiswenor_compact_range(db, draw(3) ? from : NULL, from_length, draw(3) ? to : NULL, to_length,
+                           &error);
   DONE(error);
 }
 

@@ -208,6 +208,11 @@ static void malformed_frames(void) {
                 FRAME("\x05\0\0\0\0\0\0\0"),
                 FRAME("\x05\0\0\0\0\0\0\0\0\0"),
                 FRAME("\x06x"),
+                FRAME("\x06\0\0\0\0"),
+                FRAME("\x06\x01\0\0\0"),
+                FRAME("\x06\0\0\0\0\x02"),
+                FRAME("\x06\0\0\0\0\0x"),
+                FRAME("\x06\0\0\0\0\x01\x02\0\0\0z"),
                 FRAME("\x07x"),
                 FRAME("\x08x"),
                 FRAME("")};

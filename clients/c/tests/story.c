@@ -1,4 +1,6 @@
 /* Each call of tiswenor.h, and what it refuses: story FOLDER [CHANNELS], a folder that is empty. */
+#define _GNU_SOURCE
+#include <dirent.h>
 #include <sys/stat.h>
 #include <sys/types.h>
 #include <unistd.h>
@@ -289,6 +291,86 @@ static void sizes(tiswenor_t *db) {
   has(db, NULL, "many00019999", "value of 19999");
 }
 
+static uint64_t bytes_of_tables(tiswenor_t *db) {
+  char *error = NULL;
+  uint64_t bytes = 0;
+  tiswenor_statistics_t statistics;
+  tiswenor_statistics(db, &statistics, &error);
+  DONE(error);
+  for (int level = 0; level < tiswenor_levels; level++) bytes += statistics.bytes[level];
+  return bytes;
+}
+
+/* The bytes of a folder's files. */
+static long on_disk(const char *folder) {
+  long bytes = 0;
+  DIR *files = opendir(folder);
+  CHECK(files);
+  for (struct dirent *file; (file = readdir(files));) {
+    struct stat its;
+    if (!fstatat(dirfd(files), file->d_name, &its, 0) && S_ISREG(its.st_mode)) bytes += its.st_size;
+  }
+  closedir(files);
+  return bytes;
+}
+
+/* 16,000 pairs of a letter and a number, 1.7 MB, or the deletions of them. */
+static void letter(tiswenor_t *db, char first, int is_put) {
+  char *error = NULL, key[16], value[100];
+  memset(value, first, sizeof value);
+  tiswenor_writebatch_t *batch = tiswenor_writebatch_create();
+  for (int i = 0; i < 16000; i++) {
+    size_t klen = (size_t)sprintf(key, "%c%06d", first, i);
+    if (is_put)
+      tiswenor_writebatch_put(batch, key, klen, value, sizeof value);
+    else
+      tiswenor_writebatch_delete(batch, key, klen);
+  }
+  tiswenor_write(db, NULL, batch, &error);
+  DONE(error);
+  tiswenor_writebatch_destroy(batch);
+}
+
+static void compact_range(tiswenor_t *db, const char *start, const char *limit) {
+  char *error = NULL;
+  tiswenor_compact_range(db, start, start ? strlen(start) : 0, limit, limit ? strlen(limit) : 0,
+                         &error);
+  DONE(error);
+  tiswenor_collect(db, &error);
+  DONE(error);
+}
+
+/* What is deleted goes, of a range and then of all. */
+static void ranges(const char *folder) {
+  tiswenor_t *db = opened(folder, 2, 1);
+  for (char first = 'a'; first <= 'd'; first++) letter(db, first, 1);
+  compact_range(db, NULL, NULL);
+  uint64_t all = bytes_of_tables(db);
+  CHECK(all > 6000000);
+  letter(db, 'b', 0);
+  letter(db, 'c', 0);
+  compact_range(db, "b", "b~");
+  uint64_t left = bytes_of_tables(db);
+  CHECK(left < all * 8 / 10 && left > all * 4 / 10);
+  has(db, NULL, "b000000", NULL);
+  compact_range(db, "b", NULL);
+  CHECK(bytes_of_tables(db) <= left && bytes_of_tables(db) < all * 6 / 10);
+  letter(db, 'a', 0);
+  letter(db, 'd', 0);
+  compact_range(db, NULL, NULL);
+  CHECK(bytes_of_tables(db) == 0);
+  CHECK(on_disk(folder) < 65536);
+  has(db, NULL, "a000000", NULL);
+  compact_range(db, "z", "a"); /* there is nothing */
+  compact_range(db, "", "");
+  char *error = NULL, *key = calloc(1, 8388609);
+  CHECK(key);
+  tiswenor_compact_range(db, key, 8388609, NULL, 0, &error);
+  FAILED(error, tiswenor_too_large);
+  free(key);
+  tiswenor_close(db);
+}
+
 static void several(const char *folder) {
   enum { COUNT = 4 };
   tiswenor_t *all[COUNT];
@@ -324,6 +406,7 @@ int main(int argc, char **argv) {
   has(db, NULL, "apple", "green");
   has(db, NULL, "many00019999", "value of 19999");
   tiswenor_close(db);
+  ranges(in(argv[1], "ranges"));
   several(argv[1]);
   puts("story: ok");
 }

@@ -81,6 +81,11 @@ int main(int argc, char** argv) {
       });
     db.compact();
     for (std::thread& thread : threads) thread.join();
+    db.compact_range();
+    db.compact_range("a", std::nullopt);
+    db.compact_range(std::nullopt, "b");
+    db.compact_range("", std::string_view());
+    CHECK(db.get("banana") == "yellow" && !db.get("cherry"));
     db.collect();
     CHECK(db.statistics().last_sequence == 7);
   }

@@ -206,9 +206,59 @@ def test_no_pair_is_before_none(db):
     assert list(db.iterator(reverse=True)) == [(b"only", b"one")]
 
 
-def test_a_part_is_not_compacted(fruit):
-    with pytest.raises(NotImplementedError):
-        fruit.compact_range(b"a", b"b")
+def test_compact_range(db, folder):
+    def all_of(letter, write):
+        with db.write_batch() as batch:
+            for number in range(16_000):
+                write(batch, b"%c%06d" % (letter, number))
+
+    def put(letter):
+        all_of(letter, lambda batch, key: batch.put(key, bytes([letter]) * 100))
+
+    def delete(letter):
+        all_of(letter, lambda batch, key: batch.delete(key))
+
+    def left(*bounds, **named):
+        db.compact_range(*bounds, **named)
+        db.collect()
+        return sum(level.bytes for level in db.statistics().levels)
+
+    for letter in b"abcd":
+        put(letter)
+    everything = left()
+    assert everything > 6_000_000
+    delete(ord("b"))
+    delete(ord("c"))
+    one_less = left(b"b", bytearray(b"b~"))
+    assert everything * 0.4 < one_less < everything * 0.8
+    two_less = left(start=b"b")
+    assert two_less <= one_less and two_less < everything * 0.6
+    assert list(db.iterator(start=b"b", stop=b"d")) == []
+    assert len(list(db)) == 32_000
+    delete(ord("a"))
+    delete(ord("d"))
+    with db.snapshot() as snapshot:
+        put(ord("e"))
+        delete(ord("e"))
+        assert list(snapshot) == []
+    assert left() == 0
+    assert sum(file.stat().st_size for file in folder.iterdir()) < 65_536
+    assert left(stop=b"x") == left(b"z", b"a") == left(b"", b"") == 0
+    with pytest.raises(TypeError):
+        db.compact_range("a")
+    with pytest.raises(tiswenor.TooLarge):
+        db.compact_range(bytes(8_388_609))
+
+
+def test_a_snapshot_keeps_what_a_range_would_lose(fruit):
+    with fruit.snapshot() as snapshot:
+        for key, _ in PAIRS:
+            fruit.delete(key)
+        fruit.compact_range(b"a", b"z")
+        assert list(fruit) == []
+        assert list(snapshot) == PAIRS
+    fruit.compact_range()
+    assert sum(level.files for level in fruit.statistics().levels) == 0
 
 
 def test_iterator_over_many_pages(db):
@@ -265,7 +315,7 @@ def test_snapshot(fruit):
     with pytest.raises(tiswenor.Error) as closed:
         snapshot.get(b"apple")
     assert closed.value.name == "Closed"
-    fruit.compact_range()
+    fruit.compact()
     assert fruit.get(b"apple") == b"green"
 
 
@@ -275,7 +325,7 @@ def test_compact_collect_statistics(db):
     statistics = db.statistics()
     assert statistics.last_sequence == 5
     assert len(statistics.levels) == 7
-    db.compact_range()
+    db.compact()
     assert db.collect() >= 0
     assert db.get(b"key") == b"4"
     files = sum(level.files for level in db.statistics().levels)

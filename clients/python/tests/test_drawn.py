@@ -116,7 +116,8 @@ class Drawn:
                 snapshot.close()
 
     def compact(self):
-        self.db.compact_range()
+        start, stop = (self.draw.choice((None, self.key())) for _ in range(2))
+        self.draw.choice((self.db.compact, lambda: self.db.compact_range(start, stop)))()
         self.db.collect()
 
     def again(self):

@@ -15,6 +15,8 @@ def test_requests():
     assert frames.read(frames.at(258), [b"a"]) == b"\x02\x01\x02\x01\0\0\0\0\0\0\x01\0\0\0a"
     assert frames.scan(frames.NOW, b"a", None, 0) == b"\x03\0\x01\0\0\0a\0\0\0\0\0"
     assert frames.scan(frames.NOW, b"", b"z", 7) == b"\x03\0\0\0\0\0\x01\x01\0\0\0z\x07\0\0\0"
+    assert frames.compact(b"", None) == b"\x06\0\0\0\0\0"
+    assert frames.compact(b"a", b"") == b"\x06\x01\0\0\0a\x01\0\0\0\0"
     assert frames.release(1) == b"\x05\x01\0\0\0\0\0\0\0"
     assert frames.opening(64, 4, 1, 3, b"/db") == (
         b"\x14\0\0\0" b"\x40\0\0\0" b"\x04\0\0\0" b"\x01\0\0\0" b"\x03" b"\x03\0\0\0/db"

@@ -4,7 +4,7 @@ use Rattle.std.proofs.Math.Logic.{∥∥₁_map}
 use Rattle.lsm_batch.specs.declared.write.Write.{Write}
 use Rattle.lsm_codec.specs.Entries.{Entry}
 use Rattle.lsm_codec.specs.Lists.{Has}
-use Rattle.lsm_frames.specs.Requests.{Asked, Written, Writes, Reads, Scans, Snapshots, Releases, Compacts, Collects, Statistics}
+use Rattle.lsm_frames.specs.Requests.{Asked, Written, Writes, Reads, Scans, Snapshots, Releases, Compacts, CompactsRange, Collects, Statistics}
 use Rattle.lsm_lines.specs.LastWrites.{KeepsLast}
 use Rattle.lsm_live.specs.Booked.{HasTicket, without}
 use Rattle.lsm_merge.specs.Work.{Work, job_of}
@@ -112,6 +112,7 @@ come_asked Honest Refused gives found (Scans s) given = tt
 come_asked Honest Refused gives found Snapshots given = λ was is number sequence takes come. (Some Snapshots ∷ come.0, (was, come.1, (given, (number, sequence, takes))))
 come_asked Honest Refused gives found (Releases number) given = λ was is releases come. (Some (Releases number) ∷ come.0, (was, come.1, (given, releases)))
 come_asked Honest Refused gives found Compacts given = tt
+come_asked Honest Refused gives found (CompactsRange b) given = tt
 come_asked Honest Refused gives found Collects given = tt
 come_asked Honest Refused gives found Statistics given = tt
 

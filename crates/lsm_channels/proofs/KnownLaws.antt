@@ -3,7 +3,8 @@ use Rattle.std.proofs.Common.{◌≡◌, List, [], ◌++◌, sym, ap, ◌∙◌,
 use Rattle.lsm_codec.specs.Entries.{Entry}
 use Rattle.lsm_history.specs.History.{IsLater}
 use Rattle.lsm_state.specs.Held.{Held}
-use Rattle.lsm_channels.specs.Compacting.{IsCompacted}
+use Rattle.lsm_store.specs.declared.picks.Picks.{Picks}
+use Rattle.lsm_channels.specs.Compacting.{IsCleared, IsCompacted}
 use Rattle.lsm_channels.specs.Served.{IsLent, IsToldBy}
 
 pub told_later : (h : Held) (knew knows : List Entry) → IsToldBy h knew knows → IsLater knows knew
@@ -27,3 +28,6 @@ lent_since keeps h first knew knows later lent = record { kept = lent.kept; told
 
 pub compacted_since : (Honest : Type 0) (keeps : Held → Type 0) (first knew knows : List Entry) → IsLater knew first → IsCompacted Honest keeps knew knows → IsCompacted Honest keeps first knows
 compacted_since Honest keeps first knew knows later c = (c.0, lent_since keeps c.0 first knew knows later c.1, c.2)
+
+pub cleared_since : (keeps : Held → Type 0) (picks : Picks) (first knew knows : List Entry) → IsLater knew first → IsCleared keeps picks knew knows → IsCleared keeps picks first knows
+cleared_since keeps picks first knew knows later c = (c.0, lent_since keeps c.0 first knew knows later c.1, c.2)

@@ -3,8 +3,9 @@
 use Rattle.std.specs.Prelude.{◌≡◌, ◌⊎◌, ℕ, List, Result, Ok, Err, IfErr, IfOk, OnOk}
 use Rattle.lsm_codec.specs.Entries.{Entry}
 use Rattle.lsm_frames.specs.Answers.{Done, Wrote, Pinned, Nothing, Removed, Told}
-use Rattle.lsm_frames.specs.Requests.{Asked, Stretch, Written, Writes, Reads, Scans, Snapshots}
-use Rattle.lsm_frames.specs.Requests.{Releases, Compacts, Collects, Statistics}
+use Rattle.lsm_frames.specs.Requests.{Asked, Between, Stretch, Written, Writes, Reads, Scans}
+use Rattle.lsm_frames.specs.Requests.{Snapshots, Releases, Compacts, CompactsRange, Collects}
+use Rattle.lsm_frames.specs.Requests.{Statistics}
 use Rattle.lsm_frames.specs.declared.when.When.{When}
 use Rattle.lsm_history.specs.History.{IsLater}
 use Rattle.lsm_manifest.specs.FileOrder.{TableFile}
@@ -15,10 +16,12 @@ use Rattle.lsm_state.specs.declared.ingest.Ingested.{Ingested}
 use Rattle.lsm_state.specs.declared.state_fault.StateFault.{StateFault}
 use Rattle.lsm_model.specs.Plain.{without_snapshot}
 use Rattle.lsm_state.specs.declared.state_fault.StateFault.TheVariants.{OutOfMemory}
+use Rattle.lsm_store.specs.declared.picks.Picks.TheVariants.{Choice}
 use Rattle.lsm_store.specs.declared.worker_fault.WorkerFault.{WorkerFault}
 use Rattle.lsm_channels.specs.Answered.{done_frame, refusal_frame, worker_refusal_frame}
 use Rattle.lsm_channels.specs.Collecting.{IsCollectFault, IsCollected}
-use Rattle.lsm_channels.specs.Compacting.{IsCompactFault, IsCompacted, StopsWorking, Works}
+use Rattle.lsm_channels.specs.Compacting.{ClearsRange, IsCompactFault, IsCompacted}
+use Rattle.lsm_channels.specs.Compacting.{StopsRange, StopsWorking, Works}
 use Rattle.lsm_channels.specs.Counting.{IsListed, sizes_of}
 use Rattle.lsm_channels.specs.Reading.{IsRead, IsReadFault}
 use Rattle.lsm_channels.specs.Scanning.{IsScanFault, IsScanned}
@@ -90,9 +93,21 @@ abbrev pub AnswersCompact : Type 0 → (shelf.Asked → ShelfFault → Type 0) �
 AnswersCompact Honest Refused keeps before after frame =
     (done : Result (Unit {0}) WorkerFault)
     × OnOk done (IsCompacted Honest keeps before.known after.known)
-    × OnOk done (Works Honest Refused keeps before.shelf after.shelf)
+    × OnOk done (Works Honest Refused keeps Choice before.shelf after.shelf)
     × IfErr done (IsCompactFault Honest)
-    × IfErr done (λ e. StopsWorking Honest Refused keeps e before.shelf after.shelf)
+    × IfErr done (λ e. StopsWorking Honest Refused keeps Choice e before.shelf after.shelf)
+    × SaysWork done frame
+
+-- No file was left of the range of these keys; or the answer says the fault of the worker that
+-- looked last. Of the shelf, workers had forks alone.
+abbrev pub AnswersCompactRange : Type 0 → (shelf.Asked → ShelfFault → Type 0) → (Held → Type 0)
+    → Between → (before after : Served) → List ℕ → Type 0
+AnswersCompactRange Honest Refused keeps b before after frame =
+    (done : Result (Unit {0}) WorkerFault)
+    × OnOk done (ClearsRange Honest Refused keeps b before.known after.known before.shelf
+    after.shelf)
+    × IfErr done (IsCompactFault Honest)
+    × IfErr done (λ e. StopsRange Honest Refused keeps b e before.known before.shelf after.shelf)
     × SaysWork done frame
 
 -- The answer has how many tables were removed, or the refusal.
@@ -139,6 +154,9 @@ IsAnswered Honest Refused keeps (Releases number) before after frame =
 IsAnswered Honest Refused keeps Compacts before after frame =
     (after.reader ≡ before.reader) × (after.taken ≡ before.taken)
     × AnswersCompact Honest Refused keeps before after frame
+IsAnswered Honest Refused keeps (CompactsRange b) before after frame =
+    (after.reader ≡ before.reader) × (after.taken ≡ before.taken)
+    × AnswersCompactRange Honest Refused keeps b before after frame
 IsAnswered Honest Refused keeps Collects before after frame =
     (after.reader ≡ before.reader) × (after.taken ≡ before.taken)
     × AnswersCollect keeps before after frame

@@ -4,7 +4,7 @@ use Rattle.lsm_batch.specs.declared.write.Write.{Write}
 use Rattle.lsm_codec.specs.Entries.{Entry}
 use Rattle.lsm_codec.specs.Lists.{Has}
 use Rattle.lsm_frames.specs.Requests.{Asked, IsRequest, Written, Writes, Reads, Scans, Snapshots}
-use Rattle.lsm_frames.specs.Requests.{Releases, Compacts, Collects, Statistics}
+use Rattle.lsm_frames.specs.Requests.{Releases, Compacts, CompactsRange, Collects, Statistics}
 use Rattle.lsm_lines.specs.LastWrites.{KeepsLast}
 use Rattle.lsm_model.specs.Runs.{Event, Run}
 use Rattle.lsm_shelf.specs.Asked as shelf
@@ -55,6 +55,7 @@ IsKeptByAsked Refused (Scans s) keeps = ⊤
 IsKeptByAsked Refused Snapshots keeps = IsKeptByTakes keeps
 IsKeptByAsked Refused (Releases number) keeps = IsKeptByRelease number keeps
 IsKeptByAsked Refused Compacts keeps = ⊤
+IsKeptByAsked Refused (CompactsRange b) keeps = ⊤
 IsKeptByAsked Refused Collects keeps = ⊤
 IsKeptByAsked Refused Statistics keeps = ⊤
 
@@ -89,6 +90,7 @@ IsDone (Scans s) was is = ⊥
 IsDone Snapshots was is = (number : ℕ) × (sequence : ℕ) × TakesAt was is number sequence
 IsDone (Releases number) was is = ReleasesAt was is number
 IsDone Compacts was is = ⊥
+IsDone (CompactsRange b) was is = ⊥
 IsDone Collects was is = ⊥
 IsDone Statistics was is = ⊥
 

@@ -1,24 +1,31 @@
-//! Compaction until there is nothing to compact.
+//! Compaction until there is nothing to compact, or nothing is left of a range.
 
-ghost use Rattle.std.specs.Prelude.{◌≡◌, [], ◌∷◌, IfErr, IfOk, IsTrue, OnErr, OnOk, Option};
+ghost use Rattle.std.specs.Prelude.{◌≡◌, [], ◌∷◌, IfErr, IfOk, IsTrue, OnErr, OnOk, Option, Some};
 ghost use Rattle.std.specs.Prelude.{vec_len};
 ghost use Rattle.lsm_history.specs.History.{IsLater};
-ghost use Rattle.lsm_channels.specs.Compacting.{AreWorkedBy, IsCompactFault, IsCompacted};
-ghost use Rattle.lsm_channels.specs.Compacting.{IsLastWorker, IsSettled, StopsWorking, Works};
+ghost use Rattle.lsm_channels.specs.Compacting.{AimsAt, AreWorkedBy, ClearsRange, HasNoneOf};
+ghost use Rattle.lsm_channels.specs.Compacting.{IsAimed, IsCleared, IsCompactFault, IsCompacted};
+ghost use Rattle.lsm_channels.specs.Compacting.{IsLastWorker, IsSettled, StopsRange, StopsWorking};
+ghost use Rattle.lsm_channels.specs.Compacting.{Works};
 ghost use Rattle.lsm_channels.specs.Keeping.{IsKeptQuietly, IsKnown, IsQuietStep};
 ghost use Rattle.lsm_channels.specs.Served.{IsToldBy};
+ghost use Rattle.lsm_frames.specs.Views.{between_of};
 ghost use Rattle.lsm_shelf.specs.Told.{Becomes, Counted, NotNamed, Told, forking, fresh};
 ghost use Rattle.lsm_store.specs.Workers.{IsOfReserving};
+ghost use Rattle.lsm_store.specs.declared.picks.Picks.TheVariants.{Choice};
 
 use crate::knowing::catch_up;
+use lsm_codec::Bytes;
+use lsm_frames::Bounds;
 use lsm_history::Memory;
 use lsm_slots::Boarded;
 use lsm_state::{State, StateFault};
 use lsm_store::{
-    Background, Invariant, NoGate, Returned, Store, WorkerEnd, WorkerFault, run_workers_returning,
+    Background, Invariant, ManualCompaction, NoGate, Picks, Returned, Store, WorkerEnd,
+    WorkerFault, run_workers_by,
 };
 use lsm_table::{NamedShelf, Shelf, ShelfFault};
-use std::alloc::Global;
+use std::alloc::{AllocError, Global};
 use std::sync::Wait;
 use std::thread::Threads;
 
@@ -55,25 +62,26 @@ fn end_of<N: Boarded, S: Shelf>(returned: Vec<Returned<N, S>>) -> WorkerEnd
     end
 }
 
-/// One more worker compacts what it finds, with a fork of the shelf. Ok where it has no fault.
+/// One more worker compacts what is picked, with a fork of the shelf. Ok where it has no fault.
 fn work<N: Boarded, S: Shelf, K: Invariant, R: Threads + Wait + Sync>(
     rt: &R,
     alloc: Global,
     store: &Store<N, S, K>,
     shelf: &mut NamedShelf<N, S>,
+    picks: &Picks,
 ) -> Result<(), WorkerFault>
     requires quiet { IsKeptQuietly S.honest K.keeps }
-    ensures worked { OnOk result (AreWorkedBy S.honest (S.refuses N.place) K.keeps 1
+    ensures worked { OnOk result (AreWorkedBy S.honest (S.refuses N.place) K.keeps picks.now 1
         shelf.old shelf.new) }
     ensures stopped { IfErr result (λ fault. IsLastWorker S.honest (S.refuses N.place) K.keeps
-        fault shelf.old shelf.new) }
+        picks.now fault shelf.old shelf.new) }
     ensures refused { IfErr result (IsCompactFault S.honest) }
 {
     let shelves = match fork_for_one(alloc, shelf) {
         Ok(shelves) => shelves,
         Err(fault) => return Err(WorkerFault::State(StateFault::Shelf(fault))),
     };
-    let returned = match run_workers_returning(rt, alloc, store, shelves, &NoGate) {
+    let returned = match run_workers_by(rt, alloc, store, shelves, &NoGate, picks) {
         Ok(returned) => returned,
         Err(_) => return Err(WorkerFault::State(StateFault::OutOfMemory)),
     };
@@ -137,15 +145,15 @@ fn compact_once<N: Boarded, S: Shelf, K: Invariant, R: Threads + Wait + Sync>(
     ensures settled { IfOk result (λ b. IsTrue b → IsCompacted S.honest K.keeps memory.old
         memory.new) }
     ensures known { IsLater memory.new memory.old }
-    ensures worked { OnOk result (AreWorkedBy S.honest (S.refuses N.place) K.keeps 1
+    ensures worked { OnOk result (AreWorkedBy S.honest (S.refuses N.place) K.keeps Choice 1
         shelf.old shelf.new) }
     ensures stopped { IfErr result (λ fault. StopsWorking S.honest (S.refuses N.place) K.keeps
-        fault shelf.old shelf.new) }
+        Choice fault shelf.old shelf.new) }
     ensures refused { IfErr result (IsCompactFault S.honest) }
     ensures kept { IsKnown K.keeps memory.old → IsKnown K.keeps memory.new }
 {
     background.wait_until_idle(rt);
-    work(rt, alloc, store, shelf)?;
+    work(rt, alloc, store, shelf, &Picks::Choice)?;
     match look(rt, alloc, store, memory) {
         Ok(settled) => Ok(settled),
         Err(fault) => Err(WorkerFault::State(fault)),
@@ -164,10 +172,10 @@ pub(crate) fn compact<N: Boarded, S: Shelf, K: Invariant, R: Threads + Wait + Sy
     requires quiet { IsKeptQuietly S.honest K.keeps }
     ensures compacted { OnOk result (IsCompacted S.honest K.keeps memory.old memory.new) }
     ensures known { IsLater memory.new memory.old }
-    ensures worked { OnOk result (Works S.honest (S.refuses N.place) K.keeps
+    ensures worked { OnOk result (Works S.honest (S.refuses N.place) K.keeps Choice
         shelf.old shelf.new) }
     ensures stopped { IfErr result (λ fault. StopsWorking S.honest (S.refuses N.place) K.keeps
-        fault shelf.old shelf.new) }
+        Choice fault shelf.old shelf.new) }
     ensures refused { IfErr result (IsCompactFault S.honest) }
     ensures kept { IsKnown K.keeps memory.old → IsKnown K.keeps memory.new }
 {
@@ -178,4 +186,176 @@ pub(crate) fn compact<N: Boarded, S: Shelf, K: Invariant, R: Threads + Wait + Sy
         }
     }
     unreachable!()
+}
+
+/// A bound of its own.
+fn owned(alloc: Global, key: &[u8]) -> Result<Option<Bytes>, AllocError>
+    ensures { IfOk result (λ k. k ≡ Some key.now) }
+{
+    Ok(Some(Bytes::of(Vec::from_slice(alloc, key)?)))
+}
+
+/// The compaction of these keys over the files of a state.
+fn over<N: Boarded, S: Shelf>(
+    state: &State<N, S>,
+    alloc: Global,
+    bounds: Bounds<'_>,
+) -> Result<Picks, AllocError>
+    ensures { IfOk result (AimsAt state.now.slots.version (between_of bounds.entry)) }
+{
+    let from = owned(alloc, bounds.from)?;
+    let to = match bounds.to {
+        Some(key) => owned(alloc, key)?,
+        None => None,
+    };
+    Ok(Picks::Manual(ManualCompaction::of(alloc, state, &from, &to)?))
+}
+
+/// The same, and all that has come in in the state is known from then on.
+fn aim_at<N: Boarded, S: Shelf>(
+    state: &mut State<N, S>,
+    alloc: Global,
+    memory: &mut Memory<N>,
+    bounds: Bounds<'_>,
+) -> Result<Picks, AllocError>
+    ensures told { IsToldBy state.old memory.old memory.new }
+    ensures aimed { IfOk result (AimsAt state.old.slots.version (between_of bounds.entry)) }
+    ensures same { state.new ≡ state.old }
+{
+    catch_up(state, memory);
+    over(state, alloc, bounds)
+}
+
+/// What a worker is to pick, so that these keys are compacted.
+#[tactic(auto, using(crate::proofs::KnownLaws::told_later))]
+fn aim<N: Boarded, S: Shelf, K: Invariant, R: Wait>(
+    rt: &R,
+    alloc: Global,
+    store: &Store<N, S, K>,
+    memory: &mut Memory<N>,
+    bounds: Bounds<'_>,
+) -> Result<Picks, AllocError>
+    requires quiet { IsKeptQuietly S.honest K.keeps }
+    ensures aimed { IfOk result (λ p. IsAimed K.keeps (between_of bounds.entry) p memory.old
+        memory.new) }
+    ensures known { IsLater memory.new memory.old }
+    ensures kept { IsKnown K.keeps memory.new }
+{
+    aim_at(&mut store.lock(rt).state, alloc, memory, bounds)
+}
+
+/// Whether a state has no file of a range that is picked at its levels.
+fn is_clear<N: Boarded, S: Shelf>(
+    state: &mut State<N, S>,
+    memory: &mut Memory<N>,
+    picks: &Picks,
+) -> bool
+    ensures told { IsToldBy state.old memory.old memory.new }
+    ensures clear { IsTrue result → HasNoneOf state.old.slots.version picks.now }
+    ensures same { state.new ≡ state.old }
+{
+    catch_up(state, memory);
+    match picks {
+        Picks::Manual(manual) => manual.is_done(state),
+        Picks::Choice | Picks::Joining => false,
+    }
+}
+
+/// Whether no file is left of a range that is picked.
+#[tactic(auto, using(crate::proofs::KnownLaws::told_later))]
+fn look_over<N: Boarded, S: Shelf, K: Invariant, R: Wait>(
+    rt: &R,
+    store: &Store<N, S, K>,
+    memory: &mut Memory<N>,
+    picks: &Picks,
+) -> bool
+    requires quiet { IsKeptQuietly S.honest K.keeps }
+    ensures clear { IsTrue result → IsCleared K.keeps picks.now memory.old memory.new }
+    ensures known { IsLater memory.new memory.old }
+    ensures kept { IsKnown K.keeps memory.new }
+{
+    is_clear(&mut store.lock(rt).state, memory, picks)
+}
+
+/// Waits until no worker finds anything to compact. One more compacts the range that is picked then.
+/// Whether no file of it is left.
+fn clear_once<N: Boarded, S: Shelf, K: Invariant, R: Threads + Wait + Sync>(
+    rt: &R,
+    alloc: Global,
+    store: &Store<N, S, K>,
+    background: &Background,
+    memory: &mut Memory<N>,
+    shelf: &mut NamedShelf<N, S>,
+    picks: &Picks,
+) -> Result<bool, WorkerFault>
+    requires quiet { IsKeptQuietly S.honest K.keeps }
+    ensures clear { IfOk result (λ b. IsTrue b → IsCleared K.keeps picks.now memory.old
+        memory.new) }
+    ensures known { IsLater memory.new memory.old }
+    ensures worked { OnOk result (AreWorkedBy S.honest (S.refuses N.place) K.keeps picks.now 1
+        shelf.old shelf.new) }
+    ensures stopped { IfErr result (λ fault. StopsWorking S.honest (S.refuses N.place) K.keeps
+        picks.now fault shelf.old shelf.new) }
+    ensures refused { IfErr result (IsCompactFault S.honest) }
+    ensures kept { IsKnown K.keeps memory.old → IsKnown K.keeps memory.new }
+{
+    background.wait_until_idle(rt);
+    work(rt, alloc, store, shelf, picks)?;
+    Ok(look_over(rt, store, memory, picks))
+}
+
+/// Compacts until no file is left of a range that is picked: again where a live job was in the way,
+/// or others wrote meanwhile.
+fn clear<N: Boarded, S: Shelf, K: Invariant, R: Threads + Wait + Sync>(
+    rt: &R,
+    alloc: Global,
+    store: &Store<N, S, K>,
+    background: &Background,
+    memory: &mut Memory<N>,
+    shelf: &mut NamedShelf<N, S>,
+    picks: &Picks,
+) -> Result<(), WorkerFault>
+    requires quiet { IsKeptQuietly S.honest K.keeps }
+    ensures clear { OnOk result (IsCleared K.keeps picks.now memory.old memory.new) }
+    ensures known { IsLater memory.new memory.old }
+    ensures worked { OnOk result (Works S.honest (S.refuses N.place) K.keeps picks.now
+        shelf.old shelf.new) }
+    ensures stopped { IfErr result (λ fault. StopsWorking S.honest (S.refuses N.place) K.keeps
+        picks.now fault shelf.old shelf.new) }
+    ensures refused { IfErr result (IsCompactFault S.honest) }
+    ensures kept { IsKnown K.keeps memory.old → IsKnown K.keeps memory.new }
+{
+    'tries: for _ in rt.forever() {
+        let is_clear = clear_once(rt, alloc, store, background, memory, shelf, picks)?;
+        if is_clear {
+            return Ok(());
+        }
+    }
+    unreachable!()
+}
+
+/// Compacts these keys, due or not, from level 0 down to the deepest level that has a file which
+/// meets them.
+pub(crate) fn compact_range<N: Boarded, S: Shelf, K: Invariant, R: Threads + Wait + Sync>(
+    rt: &R,
+    alloc: Global,
+    store: &Store<N, S, K>,
+    background: &Background,
+    memory: &mut Memory<N>,
+    shelf: &mut NamedShelf<N, S>,
+    bounds: Bounds<'_>,
+) -> Result<(), WorkerFault>
+    requires quiet { IsKeptQuietly S.honest K.keeps }
+    ensures compacted { OnOk result (ClearsRange S.honest (S.refuses N.place) K.keeps
+        (between_of bounds.entry) memory.old memory.new shelf.old shelf.new) }
+    ensures known { IsLater memory.new memory.old }
+    ensures stopped { IfErr result (λ fault. StopsRange S.honest (S.refuses N.place) K.keeps
+        (between_of bounds.entry) fault memory.old shelf.old shelf.new) }
+    ensures refused { IfErr result (IsCompactFault S.honest) }
+    ensures kept { IsKnown K.keeps memory.old → IsKnown K.keeps memory.new }
+{
+    let Ok(picks) = aim(rt, alloc, store, memory, bounds) else {
+        return Err(WorkerFault::State(StateFault::OutOfMemory));
+    };
+    clear(rt, alloc, store, background, memory, shelf, &picks)
 }

@@ -1,10 +1,10 @@
 //! What a channel is served with.
 
 ghost use Rattle.std.specs.Prelude.{◌≡◌, ℕ, List, [], IfOk, OnErr};
-ghost use Rattle.lsm_frames.specs.Requests.{Collects, Compacts, Reads, Releases, Scans};
-ghost use Rattle.lsm_frames.specs.Requests.{Snapshots, Statistics};
+ghost use Rattle.lsm_frames.specs.Requests.{Collects, Compacts, CompactsRange, Reads, Releases};
+ghost use Rattle.lsm_frames.specs.Requests.{Scans, Snapshots, Statistics};
 ghost use Rattle.lsm_frames.specs.Requests.{Writes as AskedWrites};
-ghost use Rattle.lsm_frames.specs.Views.{asked_of, stretch_of};
+ghost use Rattle.lsm_frames.specs.Views.{asked_of, between_of, stretch_of};
 ghost use Rattle.lsm_history.specs.History.{IsLater};
 ghost use Rattle.lsm_shelf.specs.Told.{fresh};
 ghost use Rattle.lsm_channels.specs.Answering.{AnswersStatistics, IsAnswered};
@@ -13,7 +13,7 @@ ghost use Rattle.lsm_channels.specs.Keeping.{IsKeptByWrites, IsKeptQuietly, IsKn
 
 use crate::channel_reader::ChannelReader;
 use crate::collecting::collect;
-use crate::compacting::compact;
+use crate::compacting::{compact, compact_range};
 use crate::knowing::note;
 use crate::reading::read;
 use crate::refusing::refuse;
@@ -22,7 +22,7 @@ use crate::scanning::scan;
 use crate::snapshots::{release, take};
 use crate::statistics::{list, sizes_of};
 use crate::writing::write;
-use lsm_frames::{Keys, Range, Request, When, Writes, told};
+use lsm_frames::{Bounds, Keys, Range, Request, When, Writes, told};
 use lsm_history::Memory;
 use lsm_reader::Cached;
 use lsm_slots::Boarded;
@@ -175,6 +175,37 @@ impl<N: Boarded, S: Shelf> Session<N, S> {
             background,
             &mut self.memory,
             &mut self.shelf,
+        );
+        let answer = say_compacted(alloc, done)?;
+        Ok(answer)
+    }
+
+    // Sees to it that nothing is left to compact of a range.
+    fn compact_range<K: Invariant, R: Threads + Wait + Sync>(
+        &mut self,
+        rt: &R,
+        alloc: Global,
+        store: &Store<N, S, K>,
+        background: &Background,
+        bounds: Bounds<'_>,
+    ) -> Result<Vec<u8>, AllocError>
+        requires quiet { IsKeptQuietly S.honest K.keeps }
+        ensures answered { IfOk result (λ v. IsAnswered S.honest (S.refuses N.place) K.keeps
+            (CompactsRange (between_of bounds.entry)) self.old self.new v.items) }
+        ensures unanswered { OnErr result ((frame : List ℕ)
+            × IsAnswered S.honest (S.refuses N.place) K.keeps
+            (CompactsRange (between_of bounds.entry)) self.old self.new frame) }
+        ensures known { IsLater self.new.known self.old.known }
+        ensures kept { IsKnown K.keeps self.old.known → IsKnown K.keeps self.new.known }
+    {
+        let done = compact_range(
+            rt,
+            alloc,
+            store,
+            background,
+            &mut self.memory,
+            &mut self.shelf,
+            bounds,
         );
         let answer = say_compacted(alloc, done)?;
         Ok(answer)
@@ -405,6 +436,9 @@ impl<N: Boarded, S: Shelf> Session<N, S> {
             Request::Snapshot => session.take(rt, alloc, store),
             Request::Release(number) => session.release(rt, alloc, store, number),
             Request::Compact => session.compact(rt, alloc, store, background),
+            Request::CompactRange(bounds) => {
+                session.compact_range(rt, alloc, store, background, bounds)
+            }
             Request::Collect => session.collect(rt, alloc, store),
             Request::Statistics => session.tell(rt, alloc, store),
         };

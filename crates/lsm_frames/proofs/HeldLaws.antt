@@ -9,7 +9,7 @@ use Rattle.lsm_frames.specs.Texts.{number32, text, optional, frame}
 use Rattle.lsm_frames.specs.declared.when.When.{When}
 use Rattle.lsm_frames.specs.declared.level_size.LevelSize.{LevelSize}
 use Rattle.lsm_frames.specs.Answers.{Pair, pair_text, size_text}
-use Rattle.lsm_frames.specs.Requests.{Written, Stretch, Writes, Reads, Scans, FitsText, FitsWritten, when_text, written_parts, written_text, spelled}
+use Rattle.lsm_frames.specs.Requests.{Between, Written, Stretch, Writes, Reads, Scans, CompactsRange, FitsText, FitsWritten, when_text, written_parts, written_text, spelled}
 use Rattle.lsm_frames.specs.Reading.{Read, items_in}
 use Rattle.lsm_frames.specs.Held.{held, Holds}
 use Rattle.lsm_frames.proofs.ByteLaws.{IsFormat}
@@ -114,3 +114,12 @@ pub long_to : (s : Stretch) → MOST_REQUEST < length (optional s.to) → MOST_R
 unfolding spelled
 long_to s long =
     omega (arith, length-append (when_text s.when) (text s.from ++ (optional s.to ++ number32 s.limit)), length-append (text s.from) (optional s.to ++ number32 s.limit), length-append (optional s.to) (number32 s.limit))
+
+-- So is a compaction of keys.
+pub long_first : (b : Between) → MOST_REQUEST < length b.from → MOST_REQUEST < length (spelled (CompactsRange b))
+unfolding spelled
+long_first b long = omega (arith, length-append (text b.from) (optional b.to), length-text b.from)
+
+pub long_last : (b : Between) → MOST_REQUEST < length (optional b.to) → MOST_REQUEST < length (spelled (CompactsRange b))
+unfolding spelled
+long_last b long = omega (arith, length-append (text b.from) (optional b.to))

@@ -1,16 +1,16 @@
 -- The two laws of requests: what is read is spelled so, and what is spelled so is read.
-use Rattle.std.proofs.Common.{◌≡◌, ℕ, ◌^◌, Bool, true, false, cond, eqb, List, [], ◌∷◌, ◌++◌, length, Option, Some, None, refl, sym, ap, subst, ◌∙◌, append_assoc}
+use Rattle.std.proofs.Common.{◌≡◌, ℕ, ◌^◌, Bool, true, false, cond, eqb, List, [], ◌∷◌, ◌++◌, length, Option, Some, None, refl, sym, ap, subst, ◌∙◌, append_assoc, arith}
 use Rattle.std.specs.List.{flat_map}
 use Rattle.std.specs.Int.{w32, w64, to_le_bytes}
-use Rattle.std.proofs.lemmas.Bool.{eqb-true}
-use Rattle.std.proofs.lemmas.List.{append-nil, nil_from_length}
+use Rattle.std.proofs.lemmas.Bool.{eqb-true, ne_eqb}
+use Rattle.std.proofs.lemmas.List.{append-nil, length-append, nil_from_length}
 use Rattle.std.proofs.lemmas.Option.{cond_some}
 use Rattle.lsm_frames.specs.Texts.{text, optional}
-use Rattle.lsm_frames.specs.Requests.{Asked, Stretch, Writes, Reads, Scans, Snapshots, Releases, Compacts, Collects, Statistics, when_text, written_text, stretch_text, spelled, FitsText, FitsWritten, FitsStretch, Fits, IsRequest}
+use Rattle.lsm_frames.specs.Requests.{Asked, Between, Stretch, Writes, Reads, Scans, Snapshots, Releases, Compacts, CompactsRange, Collects, Statistics, when_text, written_text, stretch_text, between_text, spelled, FitsText, FitsWritten, FitsStretch, FitsBetween, Fits, IsRequest}
 use Rattle.lsm_frames.specs.Reading.{◌>>=◌, number_at, text_at, optional_at, when_at, written_at}
-use Rattle.lsm_frames.specs.RequestReading.{some_in, whole, writes_at, reads_at, stretch_at, scan_at, release_at, body_at, asked_at}
+use Rattle.lsm_frames.specs.RequestReading.{some_in, whole, writes_at, reads_at, stretch_at, scan_at, release_at, between_at, compact_at, body_at, asked_at}
 use Rattle.lsm_frames.proofs.ByteLaws.{IsBytes, IsBytes-rest, bind_some, some_is, Takes, Takes-then}
-use Rattle.lsm_frames.proofs.FieldLaws.{wide32, wide64, number_takes, number_again, text_takes, text_again, text_format, optional_takes, optional_again, when_takes, when_again, written_format}
+use Rattle.lsm_frames.proofs.FieldLaws.{wide32, wide64, number_takes, number_again, length-text, text_takes, text_again, text_format, optional_takes, optional_again, when_takes, when_again, written_format}
 use Rattle.lsm_frames.proofs.ItemLaws.{some_take, some_again}
 
 -- ---- what is read is spelled so
@@ -78,6 +78,37 @@ release_take bytes a fits e =
     let all : bytes ≡ to_le_bytes w64 b.0.0 = t.0.parts ∙ ap (λ (u : List ℕ). to_le_bytes w64 b.0.0 ++ u) g.0 ∙ append-nil (to_le_bytes w64 b.0.0) in
     subst (λ (y : Asked). IsRequest (5 ∷ bytes) y) g.1 (record { bytes_are = ap (λ (u : List ℕ). 5 ∷ u) all; fits = t.1 })
 
+between_takes : (bytes : List ℕ) (b : Between) (rest : List ℕ) → IsBytes bytes → between_at bytes ≡ Some (b, rest) → Takes bytes (between_text b) rest × FitsBetween b
+unfolding between_at
+between_takes bytes b rest fits e =
+    let d = bind_some (text_at bytes) (λ f. optional_at f.1 >>= λ t. Some (record { from = f.0; to = t.0 }, t.1)) (b, rest) e in
+    let f = bind_some (optional_at d.0.1) (λ t. Some (record { from = d.0.0; to = t.0 }, t.1)) (b, rest) d.2 in
+    let t1 = text_takes bytes d.0.0 d.0.1 fits d.1 in
+    let t2 = optional_takes d.0.1 f.0.0 f.0.1 t1.0.rest_fits f.1 in
+    let both = Takes-then bytes (text d.0.0) d.0.1 (optional f.0.0) f.0.1 t1.0 t2.0 in
+    let made : Between × List ℕ = (record { from = d.0.0; to = f.0.0 }, f.0.1) in
+    subst (λ (y : Between × List ℕ). Takes bytes (between_text y.0) y.1 × FitsBetween y.0) (some_is made (b, rest) f.2) (both, (t1.1, t2.1))
+
+range_take : (bytes : List ℕ) (a : Asked) → IsBytes bytes → (between_at bytes >>= λ b. whole (CompactsRange b.0) b.1) ≡ Some a → IsRequest (6 ∷ bytes) a
+unfolding spelled
+range_take bytes a fits e =
+    let b = bind_some (between_at bytes) (λ b. whole (CompactsRange b.0) b.1) a e in
+    let t = between_takes bytes b.0.0 b.0.1 fits b.1 in
+    let g = whole_take (CompactsRange b.0.0) a b.0.1 b.2 in
+    let all : bytes ≡ between_text b.0.0 = t.0.parts ∙ ap (λ (u : List ℕ). between_text b.0.0 ++ u) g.0 ∙ append-nil (between_text b.0.0) in
+    subst (λ (y : Asked). IsRequest (6 ∷ bytes) y) g.1 (record { bytes_are = ap (λ (u : List ℕ). 6 ∷ u) all; fits = t.1 })
+
+-- with nothing, or with keys
+either_take : (bytes : List ℕ) (a : Asked) → IsBytes bytes → (b : Bool) → b ≡ eqb (length bytes) 0 → cond b (Some Compacts) (between_at bytes >>= λ k. whole (CompactsRange k.0) k.1) ≡ Some a → IsRequest (6 ∷ bytes) a
+unfolding spelled
+either_take bytes a fits true is e =
+    subst (λ (y : Asked). IsRequest (6 ∷ bytes) y) (some_is Compacts a e) (record { bytes_are = ap (λ (t : List ℕ). 6 ∷ t) (nil_from_length bytes (eqb-true _ _ (sym is))); fits = tt })
+either_take bytes a fits false is e = range_take bytes a fits e
+
+compact_take : (bytes : List ℕ) (a : Asked) → IsBytes bytes → compact_at bytes ≡ Some a → IsRequest (6 ∷ bytes) a
+unfolding compact_at
+compact_take bytes a fits e = either_take bytes a fits (eqb (length bytes) 0) refl e
+
 -- one form, or those after it
 chosen : (k form : ℕ) (bytes : List ℕ) (a : Asked) (x y : Option Asked) → (x ≡ Some a → IsRequest (k ∷ bytes) a) → (y ≡ Some a → IsRequest (form ∷ bytes) a) → (b : Bool) → b ≡ eqb form k → cond b x y ≡ Some a → IsRequest (form ∷ bytes) a
 chosen k form bytes a x y this others true is e = subst (λ (n : ℕ). IsRequest (n ∷ bytes) a) (sym (eqb-true form k (sym is))) (this e)
@@ -91,7 +122,7 @@ body_take form bytes a fits =
     chosen 3 form bytes a _ _ (scan_take bytes a fits) (
     chosen 4 form bytes a _ _ (bare_take 4 Snapshots a bytes refl tt) (
     chosen 5 form bytes a _ _ (release_take bytes a fits) (
-    chosen 6 form bytes a _ _ (bare_take 6 Compacts a bytes refl tt) (
+    chosen 6 form bytes a _ _ (compact_take bytes a fits) (
     chosen 7 form bytes a _ _ (bare_take 7 Collects a bytes refl tt) (
     chosen 8 form bytes a _ _ (bare_take 8 Statistics a bytes refl tt) (λ e. absurd cc)
     _ refl) _ refl) _ refl) _ refl) _ refl) _ refl) _ refl) _ refl
@@ -113,8 +144,20 @@ stretch_again s rest fits =
     let regrouped : stretch_text s ++ rest ≡ w ++ (f ++ (t ++ (n ++ rest))) = append_assoc w (f ++ (t ++ n)) rest ∙ ap (λ (u : List ℕ). w ++ u) (append_assoc f (t ++ n) rest ∙ ap (λ (u : List ℕ). f ++ u) (append_assoc t n rest)) in
     ap stretch_at regrouped ∙ rw (when_again s.when (f ++ (t ++ (n ++ rest))) fits.when, text_again s.from (t ++ (n ++ rest)) fits.from, optional_again s.to (n ++ rest) fits.to, number_again w32 (2 ^ 32) wide32 s.limit rest fits.limit) refl
 
+between_again : (b : Between) (rest : List ℕ) → FitsBetween b → between_at (between_text b ++ rest) ≡ Some (b, rest)
+unfolding between_at
+between_again b rest fits =
+    ap between_at (append_assoc (text b.from) (optional b.to) rest) ∙ rw (text_again b.from (optional b.to ++ rest) fits.0, optional_again b.to rest fits.1) refl
+
+range_again : (b : Between) → FitsBetween b → compact_at (between_text b) ≡ Some (CompactsRange b)
+unfolding compact_at
+range_again b fits =
+    let some : eqb (length (between_text b)) 0 ≡ false = ne_eqb (length (between_text b)) 0 (λ none. omega (arith, length-append (text b.from) (optional b.to), length-text b.from)) in
+    let same : between_text b ≡ between_text b ++ [] = sym (append-nil (between_text b)) in
+    rw some (ap (λ (t : List ℕ). between_at t >>= λ x. whole (CompactsRange x.0) x.1) same ∙ rw (between_again b [] fits) refl)
+
 pub asked_again : (a : Asked) → Fits a → asked_at (spelled a) ≡ Some a
-unfolding asked_at spelled body_at writes_at reads_at scan_at release_at
+unfolding asked_at spelled body_at writes_at reads_at scan_at release_at compact_at
 asked_again (Writes ws) fits = rw (some_again written_at written_text FitsWritten written_format ws fits) refl
 asked_again (Reads when keys) fits = rw (when_again when (flat_map text keys) fits.0, some_again text_at text FitsText text_format keys fits.1) refl
 asked_again (Scans s) fits =
@@ -125,6 +168,7 @@ asked_again (Releases n) fits =
     let same : to_le_bytes w64 n ≡ to_le_bytes w64 n ++ [] = sym (append-nil (to_le_bytes w64 n)) in
     ap release_at same ∙ ap (λ (r : Option (ℕ × List ℕ)). r >>= λ k. whole (Releases k.0) k.1) (number_again w64 (2 ^ 64) wide64 n [] fits)
 asked_again Compacts fits = refl
+asked_again (CompactsRange b) fits = range_again b fits
 asked_again Collects fits = refl
 asked_again Statistics fits = refl
 

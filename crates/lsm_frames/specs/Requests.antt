@@ -19,6 +19,12 @@ pub record Stretch : Type 0 where
   pub to : Option (List ℕ)
   pub limit : ℕ
 
+-- What is compacted: keys from the first one to the last, both included, or, where there is no last
+-- one, all from the first one on.
+pub record Between : Type 0 where
+  pub from : List ℕ
+  pub to : Option (List ℕ)
+
 pub data Asked : Type 0 where
   Writes : List Written → Asked
   Reads : When → List (List ℕ) → Asked
@@ -26,6 +32,7 @@ pub data Asked : Type 0 where
   Snapshots : Asked
   Releases : ℕ → Asked
   Compacts : Asked
+  CompactsRange : Between → Asked
   Collects : Asked
   Statistics : Asked
 
@@ -45,6 +52,9 @@ written_text w = written_parts w.key w.value
 abbrev pub stretch_text : Stretch → List ℕ
 stretch_text s = when_text s.when ++ (text s.from ++ (optional s.to ++ number32 s.limit))
 
+abbrev pub between_text : Between → List ℕ
+between_text b = text b.from ++ optional b.to
+
 -- the content of a request's frame
 unfoldable pub spelled : Asked → List ℕ
 spelled (Writes ws) = 1 ∷ flat_map written_text ws
@@ -53,6 +63,7 @@ spelled (Scans s) = 3 ∷ stretch_text s
 spelled Snapshots = 4 ∷ []
 spelled (Releases number) = 5 ∷ number64 number
 spelled Compacts = 6 ∷ []
+spelled (CompactsRange b) = 6 ∷ between_text b
 spelled Collects = 7 ∷ []
 spelled Statistics = 8 ∷ []
 
@@ -74,6 +85,9 @@ pub record FitsStretch (s : Stretch) : Type 0 where
   pub to : IfSome s.to FitsText
   pub limit : s.limit < 2 ^ 32
 
+abbrev pub FitsBetween : Between → Type 0
+FitsBetween b = FitsText b.from × IfSome b.to FitsText
+
 -- at least one, and each fits
 abbrev pub AreSome : {A : Type 0} → (A → Type 0) → List A → Type 0
 AreSome Fits [] = ⊥
@@ -86,6 +100,7 @@ Fits (Scans s) = FitsStretch s
 Fits Snapshots = Unit {0}
 Fits (Releases number) = number < 2 ^ 64
 Fits Compacts = Unit {0}
+Fits (CompactsRange b) = FitsBetween b
 Fits Collects = Unit {0}
 Fits Statistics = Unit {0}
 

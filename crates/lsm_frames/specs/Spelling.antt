@@ -2,7 +2,8 @@
 use Rattle.std.specs.Prelude.{◌≡◌, ℕ, ◌<◌, List, get_or, [], ◌∷◌, ◌++◌, Option, IfSome}
 use Rattle.lsm_frames.specs.Texts.{optional}
 use Rattle.lsm_frames.specs.Requests.{Asked, FitsText, Fits, spelled, Writes, Reads, Scans}
-use Rattle.lsm_frames.specs.Requests.{Snapshots, Releases, Compacts, Collects, Statistics}
+use Rattle.lsm_frames.specs.Requests.{Snapshots, Releases, Compacts, CompactsRange, Collects}
+use Rattle.lsm_frames.specs.Requests.{Statistics}
 
 -- room for the length, and the request, which fits its form
 pub record Spells (bytes : List ℕ) (asked : Asked) : Type 0 where
@@ -25,5 +26,6 @@ IsEmpty (Scans s) = ⊥
 IsEmpty Snapshots = ⊥
 IsEmpty (Releases number) = ⊥
 IsEmpty Compacts = ⊥
+IsEmpty (CompactsRange b) = ⊥
 IsEmpty Collects = ⊥
 IsEmpty Statistics = ⊥

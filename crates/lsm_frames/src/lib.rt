@@ -10,6 +10,7 @@
 #![tactic(auto)]
 
 // What a request asks for.
+mod bounds;
 mod malformed;
 mod range;
 mod request;
@@ -43,6 +44,7 @@ mod values_answer;
 
 pub use answer::{nothing, pinned, refused, removed, told, unread, wrote};
 pub use answer_fault::AnswerFault;
+pub use bounds::Bounds;
 pub use key_list::KeyList;
 pub use keys::Keys;
 pub use length::{MOST_ANSWER, MOST_REQUEST, answer_length, request_length};

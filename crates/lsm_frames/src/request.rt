@@ -5,8 +5,10 @@ ghost use Rattle.std.specs.Option.{option_map};
 ghost use Rattle.lsm_frames.specs.Requests.{Asked, IsRequest};
 ghost use Rattle.lsm_frames.specs.Reading.{Read};
 ghost use Rattle.lsm_frames.specs.RequestReading.{writes_at, reads_at, stretch_at, scan_at, whole};
-ghost use Rattle.lsm_frames.specs.RequestReading.{release_at, body_at, asked_at};
+ghost use Rattle.lsm_frames.specs.RequestReading.{release_at, between_at, compact_at, body_at};
+ghost use Rattle.lsm_frames.specs.RequestReading.{asked_at};
 
+use crate::bounds::Bounds;
 use crate::fields::{number32, number64, optional, text, when};
 use crate::keys::Keys;
 use crate::malformed::Malformed;
@@ -29,13 +31,15 @@ pub enum Request<'a> {
     Release(u64),
     /// Compact until there is nothing to compact.
     Compact,
+    /// Compact these keys, due or not.
+    CompactRange(Bounds<'a>),
     /// Remove the files of tables that no version needs any more.
     Collect,
     /// What each level has.
     Statistics,
 }
 
-ghost use Rattle.lsm_frames.specs.Views.{asked_of, stretch_of};
+ghost use Rattle.lsm_frames.specs.Views.{asked_of, between_of, stretch_of};
 ghost use Rattle.lsm_frames.specs.declared.request.Request.TheVariants as request;
 
 impl<'a> Request<'a> {
@@ -74,7 +78,7 @@ impl<'a> Request<'a> {
             3 => scan(body),
             4 => whole(Request::Snapshot, body),
             5 => release(body),
-            6 => whole(Request::Compact, body),
+            6 => compact(body),
             7 => whole(Request::Collect, body),
             8 => whole(Request::Statistics, body),
             _ => None,
@@ -138,6 +142,28 @@ fn release(body: &[u8]) -> Option<Request<'_>>
 {
     let (number, rest) = number64(body)?;
     whole(Request::Release(number), rest)
+}
+
+#[tactic(auto, unfolding(crate::specs::RequestReading::between_at))]
+fn bounds(body: &[u8]) -> Option<(Bounds<'_>, &[u8])>
+    ensures { option_map (λ x. (between_of x.0, x.1.now)) result ≡ between_at body.now }
+{
+    let (from, rest) = text(body)?;
+    let (to, rest) = optional(rest)?;
+    let bounds = Bounds { from, to };
+    Some((bounds, rest))
+}
+
+/// With nothing, or with the keys that are compacted.
+#[tactic(auto, unfolding(crate::specs::RequestReading::compact_at))]
+fn compact(body: &[u8]) -> Option<Request<'_>>
+    ensures { option_map asked_of result ≡ compact_at body.now }
+{
+    if body.is_empty() {
+        return Some(Request::Compact);
+    }
+    let (bounds, rest) = bounds(body)?;
+    whole(Request::CompactRange(bounds), rest)
 }
 
 /// A law: at most one request has these bytes.

@@ -6,9 +6,10 @@ ghost use Rattle.lsm_frames.specs.Texts.{frame, number32, text, optional};
 ghost use Rattle.lsm_frames.specs.Requests.{IsRequest, FitsWhen, spelled, when_text};
 ghost use Rattle.lsm_frames.specs.Spelling.{Spells, Adds, IsEmpty};
 ghost use Rattle.lsm_frames.specs.declared.request_fault.RequestFault.TheVariants.{Empty, TooLong};
-ghost use Rattle.lsm_frames.specs.Views.{asked_of, stretch_of};
+ghost use Rattle.lsm_frames.specs.Views.{asked_of, between_of, stretch_of};
 ghost use Rattle.lsm_frames.specs.Requests as asked;
 
+use crate::bounds::Bounds;
 use crate::frame::{begin, put_absent, put_number, put_text, put_value, seal};
 use crate::keys::Keys;
 use crate::length::MOST_REQUEST;
@@ -53,6 +54,7 @@ impl Request<'_> {
             Request::Snapshot => Ok(begin(alloc, 4)?),
             Request::Release(number) => spell_release(alloc, *number),
             Request::Compact => Ok(begin(alloc, 6)?),
+            Request::CompactRange(bounds) => spell_compact(alloc, bounds),
             Request::Collect => Ok(begin(alloc, 7)?),
             Request::Statistics => Ok(begin(alloc, 8)?),
         }
@@ -115,6 +117,19 @@ fn spell_release(alloc: Global, number: u64) -> Result<Vec<u8>, RequestFault>
 {
     let mut bytes = begin(alloc, 5)?;
     put_number(&mut bytes, number)?;
+    Ok(bytes)
+}
+
+#[tactic(auto, unfolding(crate::specs::Requests::spelled))]
+fn spell_compact(alloc: Global, bounds: &Bounds<'_>) -> Result<Vec<u8>, RequestFault>
+    ensures ok { IfOk result (λ v. Spells v.items (asked.CompactsRange (between_of bounds.now))) }
+    ensures empty { result ≡ Err Empty → IsEmpty (asked.CompactsRange (between_of bounds.now)) }
+    ensures long { result ≡ Err TooLong
+        → MOST_REQUEST < length (spelled (asked.CompactsRange (between_of bounds.now))) }
+{
+    let mut bytes = begin(alloc, 6)?;
+    put_key(&mut bytes, bounds.from)?;
+    put_bound(&mut bytes, bounds.to)?;
     Ok(bytes)
 }
 

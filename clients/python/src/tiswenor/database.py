@@ -208,14 +208,22 @@ class DB(_Database):
         self._server.close()
         self._end.detach()
 
-    def compact_range(self, start: None = None, stop: None = None) -> None:
-        """Compacts the whole database: returns once the server finds nothing to compact.
+    def compact(self) -> None:
+        """Compacts what is due: returns once the server finds nothing to compact.
 
-        Reads and writes go on beside it. `start` and `stop` must be None.
+        Reads and writes go on beside it.
         """
-        if start is not None or stop is not None:
-            raise NotImplementedError("only the whole database can be compacted")
         self._ask(frames.COMPACT)
+
+    def compact_range(self, start: Optional[Bytes] = None, stop: Optional[Bytes] = None) -> None:
+        """Compacts the keys from `start` to `stop`, both included, due or not, from level 0 down to
+        the deepest level that has some of them; None is no bound.
+
+        So deletions with nothing below them go, but where a snapshot needs them; `collect` then
+        removes the tables that were. Reads and writes go on beside it.
+        """
+        last = None if stop is None else _bytes(stop)
+        self._ask(frames.compact(b"" if start is None else _bytes(start), last))
 
     def collect(self) -> int:
         """Removes the files of tables that are not needed any more, and gives their number."""

@@ -78,6 +78,11 @@ def scan(when: bytes, start: bytes, stop: Optional[bytes], limit: int) -> bytes:
     return b"".join((SCAN, when, text(start), bound, _LENGTH.pack(limit)))
 
 
+def compact(start: bytes, stop: Optional[bytes]) -> bytes:
+    bound = b"\0" if stop is None else b"\1" + text(stop)
+    return b"".join((COMPACT, text(start), bound))
+
+
 def release(snapshot: int) -> bytes:
     return RELEASE + _NUMBER.pack(snapshot)
 

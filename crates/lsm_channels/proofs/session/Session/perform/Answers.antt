@@ -1,4 +1,4 @@
-use Rattle.lsm_channels.proofs.session.Session.perform.Goals.{in-Write, in-Snapshot, in-Release, in-Compact, in-Collect, in-Statistics}
+use Rattle.lsm_channels.proofs.session.Session.perform.Goals.{in-Write, in-Snapshot, in-Release, in-Compact, in-CompactRange, in-Collect, in-Statistics}
 use Rattle.lsm_channels.proofs.session.Session.perform.Goals as goal
 
 pub returns-clause-known : goal.returns-clause-known
@@ -7,6 +7,7 @@ returns-clause-known g c = elim c.match-request.branch [
   | in-Snapshot w ↦ rw w.session-is w.take-answer.ensures.known
   | in-Release w ↦ rw w.session-is w.release-answer.ensures.known
   | in-Compact w ↦ rw w.session-is w.compact-answer.ensures.known
+  | in-CompactRange w ↦ rw w.session-is w.compact_range-answer.ensures.known
   | in-Collect w ↦ rw w.session-is w.collect-answer.ensures.known
   | in-Statistics w ↦ rw w.session-is w.tell-answer.ensures.known
 ]
@@ -23,6 +24,7 @@ returns-clause-answered g c = elim c.match-request.branch [
   | in-Snapshot w ↦ rw (w.session-is, w.answer-is, w.in-Snapshot.is) w.take-answer.ensures.answered
   | in-Release w ↦ rw (w.session-is, w.answer-is, w.in-Release.is) w.release-answer.ensures.answered
   | in-Compact w ↦ rw (w.session-is, w.answer-is, w.in-Compact.is) w.compact-answer.ensures.answered
+  | in-CompactRange w ↦ rw (w.session-is, w.answer-is, w.in-CompactRange.is) w.compact_range-answer.ensures.answered
   | in-Collect w ↦ rw (w.session-is, w.answer-is, w.in-Collect.is) w.collect-answer.ensures.answered
   | in-Statistics w ↦ rw (w.session-is, w.answer-is, w.in-Statistics.is) w.tell-answer.ensures.answered
 ]
@@ -33,6 +35,7 @@ returns-clause-unanswered g c = elim c.match-request.branch [
   | in-Snapshot w ↦ rw (w.session-is, w.answer-is, w.in-Snapshot.is) w.take-answer.ensures.unanswered
   | in-Release w ↦ rw (w.session-is, w.answer-is, w.in-Release.is) w.release-answer.ensures.unanswered
   | in-Compact w ↦ rw (w.session-is, w.answer-is, w.in-Compact.is) w.compact-answer.ensures.unanswered
+  | in-CompactRange w ↦ rw (w.session-is, w.answer-is, w.in-CompactRange.is) w.compact_range-answer.ensures.unanswered
   | in-Collect w ↦ rw (w.session-is, w.answer-is, w.in-Collect.is) w.collect-answer.ensures.unanswered
   | in-Statistics w ↦ rw (w.session-is, w.answer-is, w.in-Statistics.is) w.tell-answer.ensures.unanswered
 ]
@@ -43,6 +46,7 @@ returns-clause-kept g c = elim c.match-request.branch [
   | in-Snapshot w ↦ rw (w.session-is) w.take-answer.ensures.kept
   | in-Release w ↦ rw (w.session-is) w.release-answer.ensures.kept
   | in-Compact w ↦ rw (w.session-is) w.compact-answer.ensures.kept
+  | in-CompactRange w ↦ rw (w.session-is) w.compact_range-answer.ensures.kept
   | in-Collect w ↦ rw (w.session-is) w.collect-answer.ensures.kept
   | in-Statistics w ↦ rw (w.session-is) w.tell-answer.ensures.kept
 ]
