@@ -4,7 +4,7 @@ use Rattle.std.specs.List.{flat_map}
 use Rattle.lsm_codec.specs.Lists.{Has}
 use Rattle.lsm_codec.specs.Keys.{UserKey}
 use Rattle.lsm_codec.specs.Entries.{Entry, answer}
-use Rattle.lsm_codec.proofs.CallerLemmas.{has_cases}
+use Rattle.lsm_codec.proofs.CallerLemmas.{has_cases, has_left}
 use Rattle.lsm_shelf.specs.Told.{Becomes, Told, finding, listing}
 use Rattle.lsm_manifest.specs.EditFit.{Change}
 use Rattle.lsm_manifest.specs.Last.{last_by}
@@ -72,17 +72,12 @@ brought_before Into Honest batches standing count was mid is puts b = record {
 
 -- ---- no log is to be read
 
-has_front : (xs ys : List ℕ) (n : ℕ) → Has xs n → Has (xs ++ ys) n
-has_front [] ys n h = absurd h
-has_front (x ∷ xs) ys n (inl e) = inl e
-has_front (x ∷ xs) ys n (inr h) = inr (has_front xs ys n h)
-
 none_unread : (shape : Form) (found : List FolderFile) (logs tables : List ℕ) (next : ℕ) → AreLogs shape.log shape.prev_log found logs → shape.log ≤ next → AreBelow (logs ++ tables) next → NoneUnread next next found
 none_unread shape found logs tables next those le below = λ file has unread.
     let n = unread.1.0 in
     let reached : next ≤ n = elim unread.1.2 [ inl k ↦ k | inr e ↦ omega (arith, e) ] in
     let here : Has logs n = (those.all n).1 (file, has, (unread.0, unread.1.1, inl (omega (arith, le, reached)))) in
-    let lt : n < next = below n (has_front logs tables n here) in
+    let lt : n < next = below n (has_left logs tables n here) in
     absurd (omega (arith, lt, reached))
 
 -- ---- what the database answers
