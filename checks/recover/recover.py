@@ -72,6 +72,17 @@ def again(folder, kind):
         sys.exit(f"{kind}: a key that was put is not read")
 
 
+def beside_orphans(source, wanted, kind):
+    """Tables that no manifest names, as a kill leaves them, under the next numbers: none is written over."""
+    folder = copied(source, "orphans")
+    numbers = [int(number) for path in folder.iterdir() for number in re.findall(r"\d{6}", path.name)]
+    for number in range(max(numbers) + 1, max(numbers) + 4):
+        (folder / f"{number:06}.ldb").write_bytes(b"an orphan")
+    told_by(run(LSM, "recover", folder, status=None), kind)
+    if pairs_of(folder) != wanted or len([p for p in folder.glob("*.ldb") if p.read_bytes() == b"an orphan"]) != 3:
+        sys.exit(f"{kind}: beside orphans it has other pairs, or they are gone")
+
+
 def whole(kind):
     source = fresh(f"whole_{kind}")
     run(LEVELDB, "make", source, kind)
@@ -89,6 +100,7 @@ def whole(kind):
     if pairs_of(folder) != wanted:
         sys.exit(f"{kind}: it has other pairs")
     again(folder, kind)
+    beside_orphans(source, wanted, kind)
     print(f"{kind}: {done.stdout.decode().strip()}, {counted(wanted.count(10), 'pair')}, the same", flush=True)
     return source, wanted
 
