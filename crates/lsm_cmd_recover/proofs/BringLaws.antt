@@ -5,7 +5,9 @@ use Rattle.lsm_codec.specs.Lists.{Has}
 use Rattle.lsm_codec.specs.Keys.{UserKey}
 use Rattle.lsm_codec.specs.Entries.{Entry, answer}
 use Rattle.lsm_codec.proofs.CallerLemmas.{has_cases, has_left}
+use Rattle.lsm_shelf.specs.Asked.{Asked}
 use Rattle.lsm_shelf.specs.Told.{Becomes, Told, finding, listing}
+use Rattle.lsm_shelf.specs.declared.shelf_fault.ShelfFault.{ShelfFault}
 use Rattle.lsm_manifest.specs.EditFit.{Change}
 use Rattle.lsm_manifest.specs.Last.{last_by}
 use Rattle.lsm_manifest.specs.Replay.{last_sequence}
@@ -22,12 +24,15 @@ use Rattle.lsm_directory.specs.declared.folder.folder_file.FolderFile.{FolderFil
 use Rattle.lsm_import.specs.Answers.{NoneAbove, value_over}
 use Rattle.lsm_import.specs.Copied.{HasLogs, HasWrites}
 use Rattle.lsm_import.specs.Copies.{OnlyPuts}
-use Rattle.lsm_import.specs.Standing.{AreBelow, IsStanding}
+use Rattle.lsm_import.specs.Standing.{AreBelow, IsNotStanding, IsStanding}
 use Rattle.lsm_import.specs.declared.copied.Copied.{Copied}
+use Rattle.lsm_import.specs.declared.import_fault.ImportFault.{ImportFault}
 use Rattle.lsm_cmd_import.specs.Copying.{source_answer}
 use Rattle.lsm_cmd_import.specs.Imported.{ReadsManifest}
 use Rattle.lsm_cmd_import.specs.Logs.{AreLogs}
-use Rattle.lsm_cmd_recover.specs.Bringing.{AreTaken, BringsIn, IsBroughtIn, IsJudged, entries_of}
+use Rattle.lsm_cmd_recover.specs.Bringing.{AreTaken, BringsIn, BringsNone, IsBroughtIn, IsJudged, IsUnbrought, entries_of}
+use Rattle.lsm_cmd_recover.specs.declared.bring_fault.BringFault.{BringFault}
+use Rattle.lsm_cmd_recover.specs.declared.bring_fault.BringFault.TheVariants.{Bring}
 
 -- how many writes of logs came in
 writes_are : (Into : ℕ → List ℕ → Type 0) (first : ℕ) (batch : List Write) (old new : Copied) → old.writes ≡ 0 → HasWrites Into first batch old new → new.writes ≡ length batch
@@ -145,3 +150,16 @@ brought law Into Honest found shape batches count was mid is logs numbers standi
           answers_from law Into (entries_of j.version) batches has.batch shape.last has.first standing b.whole l (none_above Honest shape (logs ++ tables) standing s j honest) has.last
           (omega (arith, l, has.above)) has.has key;
     }
+
+-- ---- why the writes do not come in
+
+pub not_standing : (Into : ℕ → List ℕ → Type 0) (Denied : Asked → ShelfFault → Type 0) (Honest : Type 0) (found : List FolderFile) (shape : Form) (batches : List WriteBatch) (logs numbers : List ℕ) (e : ImportFault)
+    → AreLogs shape.log shape.prev_log found logs → AreTaken logs numbers → IsNotStanding shape numbers e → BringsNone Into Denied Honest found shape batches (Bring e)
+not_standing Into Denied Honest found shape batches logs numbers e those (tables, same) not =
+    inr (logs, tables, those, inl (e, refl, subst (λ (ns : List ℕ). IsNotStanding shape ns e) same not))
+
+pub not_brought : (Into : ℕ → List ℕ → Type 0) (Denied : Asked → ShelfFault → Type 0) (Honest : Type 0) (found : List FolderFile) (shape : Form) (batches : List WriteBatch) (logs numbers : List ℕ) (standing : Copied)
+    (fault : BringFault) → AreLogs shape.log shape.prev_log found logs → AreTaken logs numbers → IsStanding shape numbers standing → IsUnbrought Into Denied Honest batches standing fault
+    → BringsNone Into Denied Honest found shape batches fault
+not_brought Into Denied Honest found shape batches logs numbers standing fault those (tables, same) stands why =
+    inr (logs, tables, those, inr (standing, subst (λ (ns : List ℕ). IsStanding shape ns standing) same stands, why))
