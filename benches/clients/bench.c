@@ -88,8 +88,16 @@ static database *opened(const char *folder, size_t cache) {
   return it;
 }
 
+static int by_size(const void *first, const void *second) {
+  double one = *(const double *)first, other = *(const double *)second;
+  return (one > other) - (one < other);
+}
+
 static void fill(const API(writeoptions_t) * synced) {
   char *error = NULL, key[KEY + 1], value[VALUE + 1];
+  unsigned batches = pairs / BATCH;
+  double *took = calloc(batches, sizeof *took);
+  if (!took) check((char *)"no memory");
   API(writebatch_t) *batch = API(writebatch_create)();
   double begin = now();
   for (unsigned from = 0; from < pairs; from += BATCH) {
@@ -99,10 +107,17 @@ static void fill(const API(writeoptions_t) * synced) {
       make_value(mixed(i), value);
       API(writebatch_put)(batch, key, KEY, value, VALUE);
     }
+    double written = now();
     API(write)(db, synced, batch, &error);
     check(error);
+    took[from / BATCH] = now() - written;
   }
-  tell("a batch of 1,000, synced", (now() - begin) / (pairs / BATCH) * 1e3, "ms");
+  tell("a batch of 1,000, synced", (now() - begin) / batches * 1e3, "ms");
+  qsort(took, batches, sizeof *took, by_size);
+  tell("its write, the median", took[batches / 2] * 1e3, "ms");
+  tell("its write, 99 of 100 are below", took[batches * 99 / 100] * 1e3, "ms");
+  tell("its write, the longest", took[batches - 1] * 1e3, "ms");
+  free(took);
   API(writebatch_destroy)(batch);
 }
 

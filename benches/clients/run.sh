@@ -1,8 +1,8 @@
 #!/usr/bin/env bash
 # Times the clients beside LevelDB's C library and plyvel: run.sh [PAIRS], 1,000,000 if not said.
-# Batches of 1,000 pairs, single puts, gets by one and by four threads, gets of 100 keys in a request,
-# and an iterator over all; LevelDB, the server as a child process, the server inside the process;
-# plyvel and the Python package. Best of three rounds, but for writes. FOLDER names where the
+# Batches of 1,000 pairs and how long one waits, single puts, gets by one and by four threads, gets of
+# 100 keys in a request, and an iterator over all; LevelDB, the server as a child process, the server
+# inside the process; plyvel and the Python package. Best of three rounds, but for writes. FOLDER names where the
 # databases are made.
 #
 # LSM_SERVER and LSM_SERVER_OBJECT name the server and its object, or else those that are proved.

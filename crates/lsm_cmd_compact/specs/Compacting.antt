@@ -99,7 +99,7 @@ pub record AreEnds (Refused : Asked → ShelfFault → Type 0) (Honest : Type 0)
       (given_each picks true (replicate workers (fresh place))) returned
 
 -- how many versions were made current between two states of a database: where workers alone changed
--- it, so many results were installed
+-- it, so many results were installed, or files gathered
 abbrev pub installed_between : Held → Held → ℕ
 installed_between found left = current_id left.slots - current_id found.slots
 

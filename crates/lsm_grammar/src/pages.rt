@@ -444,8 +444,9 @@ hex, or text with --text, `.` for no bytes: `scan` prints such lines.
 FILE is read as a stream, in memory that does not grow with it. As many lines as
 a batch may have, 65536 with 4194304 bytes of keys and values together, come in
 at a time, as one table at level 0, while other threads compact: --workers is how
-many, 1 to 8; 2 if it is not said. Behind the last line all that is due is
-compacted, and the tables that are not needed any more are removed.
+many, 1 to 8; 2 if it is not said. Behind the last line they end all that is due
+(up to ten small files stay at level 0), and the tables that are not needed any
+more are removed.
 
 A line of another form, or of more than 8388608 bytes, or with a key or value
 over its limit, is `bad line I`; the lines before it are in. Wherever it ends
@@ -459,9 +460,9 @@ Limits: 8388608 bytes of a line, 4096 bytes of a key, 1048576 bytes of a value.
 Of --begin and --beside-log, and of all that is refused before the first line,
 the page of `ingest` says more.
 
-Exit status: 0 all lines are in, and all that was due is compacted, 1 refused, 2
-bad command line. After a `write fault` all lines are in; after `refused 9
-Device` one batch more than is said may be in.",
+Exit status: 0 all lines are in, and nothing is due, 1 refused, 2 bad command
+line. After a `write fault` all lines are in; after `refused 9 Device` one batch
+more than is said may be in.",
     example: "Examples: lsm scan old --text | lsm load db --text
           lsm load db words.txt --text --workers 4 --progress
           lsm load db words.txt --text --from-line 131073",

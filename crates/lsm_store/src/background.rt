@@ -77,8 +77,8 @@ impl Background {
         self.bell.ring(rt);
     }
 
-    /// Waits until there is nothing to compact: each worker has looked since this call began and
-    /// found nothing to reserve, or has ended. No worker has a job then.
+    /// Waits until nothing is due: each worker has looked since this call began and found nothing to
+    /// gather and nothing to reserve, or has ended. No worker has a job then.
     pub fn wait_until_idle<R: Wait>(&self, rt: &R) {
         self.bell.ring(rt);
         self.bell.wait_until_idle(rt);
