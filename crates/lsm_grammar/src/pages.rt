@@ -497,23 +497,22 @@ const RECOVER: Page = Page {
     name: "recover",
     arguments: &[FOLDER],
     about: "Brings the logs that are not flushed into the tables",
-    text: "Brings the write-ahead logs of the LevelDB folder DIR that are not flushed, `N.log`,
-into its tables, as LevelDB does when it opens the folder, and prints `logs L
-entries E rest B`: of how many logs the writes came in, as how many entries, and
-how many bytes at the ends of the manifest and of the logs hold no whole record,
-as a kill may leave them. Those bytes are left out.
+    text: "Brings the write-ahead logs of the LevelDB folder DIR that are not flushed into
+its tables, as LevelDB does when it opens the folder, and prints
+`logs L entries E rest B`: of how many logs, `N.log`, the writes came in, as how
+many entries, and how many bytes at the ends of the manifest and of the logs
+hold no whole record, as a kill may leave them. Those bytes are left out.
 
 Of each key in the logs the last write comes in, as one table more at level 0;
-then a new manifest names it and the tables that are there, and reads none of the
-logs. They stay in the folder until LevelDB opens it. Where no log is to be read,
-nothing is written, and L is 0.
+then a new manifest names it and the tables that are there, and reads none of
+the logs. They stay in the folder until LevelDB opens it. Where no log is to be
+read, nothing is written, and L is 0.
 
 The tables are read and checked before. A table or a log that is damaged is
-refused, and named, as is a table with compressed blocks, `refused 16
-Compressed`: `lsm import` copies such a folder. Where another program has the
-folder open it is `refused 52 Locked`. After a refusal the database is as it was,
-and its logs are still to be read; a table of them may be left, which `lsm clean`
-removes.
+refused, and named. Compressed tables are `refused 16 Compressed`: `lsm import`
+copies such a folder. Where another program has the folder open it is
+`refused 52 Locked`. After a refusal the database is as it was, and its logs are
+still to be read; a table of them may be left, which `lsm clean` removes.
 
 Exit status: 0 done, 1 refused, 2 bad command line. After a `write fault` the
 logs are in; after `refused 9 Device` they may be.",
