@@ -1,6 +1,7 @@
-use Rattle.std.proofs.Common.{◌∙◌}
+use Rattle.std.proofs.Common.{inl}
+use Rattle.std.proofs.lemmas.Result.{err_from_is_err_and}
 use Rattle.lsm_shelf.specs.Stored.{Stored}
-use Rattle.lsm_cmd_recover.proofs.BringLaws.{brought_before, puts_then, writes_came}
+use Rattle.lsm_cmd_recover.proofs.BringLaws.{brought_before, writes_came}
 use Rattle.lsm_cmd_recover.proofs.bringing.finish.Goals as goal
 
 pub returns-in-Ok-clause-brought : goal.returns-in-Ok-clause-brought
@@ -13,3 +14,8 @@ returns-in-Ok-clause-brought g c =
       counted = writes_came Into c.args.logs c.args.standing c.in_ok-whole.whole c.requires.none filled.logs;
       begun = c.in-Ok.ensures.begun;
     })
+
+pub returns-in_err-whole-clause-refused : goal.returns-in_err-whole-clause-refused
+returns-in_err-whole-clause-refused g c =
+    let p = err_from_is_err_and c.from_residual.result c.from_residual.ensures.1 in
+    rw (p.1, p.2) (inl c.in_err-whole.ensures.refused)
