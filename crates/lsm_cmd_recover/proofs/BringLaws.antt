@@ -66,7 +66,7 @@ pub listing_puts : (numbers : List ℕ) (a b : Told) → Becomes (listing number
 listing_puts numbers a b h = record { place = h.place; gone = h.gone; starts = h.starts; written = h.written }
 
 -- tables were put before
-pub brought_before : (Into : ℕ → List ℕ → Type 0) (Honest : Type 0) (batches : List WriteBatch) (standing : Copied) (count : ℕ) (was mid is : Told) → OnlyPuts was mid
+abbrev pub brought_before : (Into : ℕ → List ℕ → Type 0) (Honest : Type 0) (batches : List WriteBatch) (standing : Copied) (count : ℕ) (was mid is : Told) → OnlyPuts was mid
     → IsBroughtIn Into Honest batches standing count mid is → IsBroughtIn Into Honest batches standing count was is
 brought_before Into Honest batches standing count was mid is puts b = record {
   whole = b.whole;

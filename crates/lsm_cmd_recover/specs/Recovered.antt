@@ -67,15 +67,16 @@ pub record IsRecovered (Into : ℕ → List ℕ → Type 0) (Honest : Type 0) (f
   pub brings : Brings Into Honest files shape batches brought mid later.told
   pub reads : OnlyReads before.calls later.calls
 
--- They were not read; or they were, and the writes did not come in.
+-- Memory ran out; or they were not read; or they were, and the writes did not come in.
 abbrev pub IsKeptOut : (ℕ → List ℕ → Type 0) → (Asked → ShelfFault → Type 0) → Type 0
     → List FolderFile → BringFault → Moment → Moment → Type 0
 IsKeptOut Into Denied Honest files fault before later =
-    ((e : CopyFault) × (fault ≡ Read e)
+    (fault ≡ OutOfMemory)
+    ⊎ (((e : CopyFault) × (fault ≡ Read e)
     × IsNoSource Denied files e before.calls later.calls before.told later.told)
     ⊎ ((shape : Form) × (batches : List WriteBatch) × (count : ℕ) × (rest : ℕ) × (mid : Told)
     × IsSource files shape batches count rest before.calls later.calls before.told mid
-    × BringsNone Into Denied Honest files shape batches fault)
+    × BringsNone Into Denied Honest files shape batches fault))
 
 -- Why the writes did not come in. The shelf got a table at most, and no manifest of it was begun: the
 -- database is as it was, and the logs are still to be read.
