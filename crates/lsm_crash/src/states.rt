@@ -72,10 +72,10 @@ pub fn manifests_describe_their_version()
 /// Which calls of its shelf a call of the state makes: the shelf's value keeps a list of the calls
 /// by which it changed what lies there, and the contract of the call of the state says by which of
 /// them that list grew. An ingest puts its table, and then writes to the manifest; so does a gather
-/// with the one file; an install writes to the manifest; a collect removes what is not kept; an opening and the making of a new
-/// database start one manifest. A merge puts its outputs. A refused ingest put its table or
-/// nothing, a refused gather some table under the next number or nothing; a refused install made nothing; a refused collect removed some, and the last one
-/// perhaps not.
+/// with the one file; an install writes to the manifest; a collect removes what is not kept; an
+/// opening and the making of a new database start one manifest. A merge puts its outputs. A refused
+/// ingest put its table or nothing, a refused gather some table under the next number or nothing; a
+/// refused install made nothing; a refused collect removed some, and the last one perhaps not.
 pub fn shelves_tell_what_was_asked<P: Premise>()
     ensures one { (xs ys : List Asked) (was is : Told) → HasMade xs was is → HasMade ys was is
         → xs ≡ ys }
