@@ -29,7 +29,8 @@ AllMayGather target_size rs ts number =
 -- there are eight newest files, or more, that may be gathered
 abbrev pub HasEight : ℕ → List Reserved → List Table → Type 0
 HasEight target_size rs ts =
-    (t : Table) × Has ts t × AllMayGather target_size rs ts t.number × (8 ≤ length (newest t.number ts))
+    (t : Table) × Has ts t × AllMayGather target_size rs ts t.number
+    × (8 ≤ length (newest t.number ts))
 
 -- At most one file is newer; or the newer ones together are below half the target size, and the
 -- file has at most one and a half times their bytes.
