@@ -1,11 +1,12 @@
 """What a database costs that is written for long: soak.py LSM LEVELDB FOLDER SECONDS.
 
 Writers of each kind bring their keys in by `lsm shell --workers 1`, round after round, each kind into
-a folder of its own, with single puts and with batches. After each eighth of a round the folder is
-looked at, and once more after the round, when the worker has come to rest; the shell is asked how many
-tables and bytes the levels have. LevelDB has the same writes, stays open too, and its folder is looked
-at after the same ones. At the end each database is closed and opened twice. A line is printed for each
-round, and at the first figure that is out of its bounds the status is 1.
+a folder of its own, with single puts and with batches; and a slow one single puts at random over 25 MB
+that were there before, each after the worker has come to rest. After each eighth of a round the folder
+is looked at, and once more after the round, when the worker has come to rest; the shell is asked how
+many tables and bytes the levels have. LevelDB has the same writes, stays open too, and its folder is
+looked at after the same ones. At the end each database is closed and opened twice. A line is printed
+for each round, and at the first figure that is out of its bounds the status is 1.
 """
 
 import os
@@ -20,34 +21,26 @@ TARGET = 2097152
 SIZE = 100
 KINDS = ("ascending", "descending", "random", "overwriting", "streams")
 BATCHES = (1, 10, 1000)
-# How many puts a round has.
+# How many puts a round has; a slow one's, how many puts it comes behind, and how long it pauses.
 ROUND = {1: 2000, 10: 10000, 1000: 50000}
-# Bytes written for a byte that came in. Small batches cost more: LevelDB gathers them in memory, here
-# each is a table first, and is gathered at level 0.
-IN_ORDER, EVERYWHERE = 12, 24
-# Once so many bytes came in, LevelDB has left its memory too, and its own bytes are the measure. The
-# aim is 4 times as many. Batches of 1,000 are below it; the others have bounds above what was measured,
-# where LevelDB's bytes come in steps, of 4 MiB.
-MEASURED = 16 << 20
-AIM = 4
-OF_LEVELDB = {
-    ("ascending", 1): 6,
-    ("descending", 1): 9,
-    ("random", 1): 10,
-    ("streams", 1): 10,
-    ("overwriting", 1): 10,
-    ("descending", 10): 6,
-    ("random", 10): 6,
-    ("streams", 10): 6,
-    ("overwriting", 10): 5,
+SLOW, LOADED, PAUSE = 500, 200000, 0.03
+# Bytes written for a byte that came in, at most. LevelDB itself, at a million puts, writes 2.2 (single
+# ones), 2.0 and 2.0 where they are in order, 4.6, 4.3 and 3.5 at random. The aim is four times as many;
+# single puts may cost more, since each is a table first, and is gathered at level 0.
+MOST = {
+    "ascending": {1: 10, 10: 8, 1000: 8},
+    "descending": {1: 10, 10: 8, 1000: 8},
+    "random": {1: 24, 10: 17, 1000: 14},
+    "overwriting": {1: 24, 10: 17, 1000: 14},
+    "streams": {1: 24, 10: 17, 1000: 14},
 }
 
 # Bytes on the disk for one of LevelDB's, while no program calls anything that removes: at rest behind
 # the writes, once the database was opened twice more, and in the midst of the writes, where 1 MiB more
-# is let be, since little is there at first. A single put of these sizes leaves as many bytes in the
-# manifests as in its table. They go with the next openings, and not before: so such a writer is not
-# below 1.3 at rest.
-AT_REST, OPENED, IN_THE_MIDST, MORE = {1: 2.5, 10: 1.3, 1000: 1.3}, 1.3, 2, 1 << 20
+# is let be, since little is there at first. So it is at rest behind single puts: each of these sizes
+# leaves as many bytes in the manifest as in its table, until that is followed at 1 MiB. The manifest
+# that was followed is gone at once.
+AT_REST, OPENED, IN_THE_MIDST, MORE = 1.3, 1.3, 2, 1 << 20
 
 
 def mixed(x):
@@ -200,18 +193,35 @@ class LevelDB:
 class Writer:
     """One kind of writer with batches of one size, into a database of its own and into LevelDB."""
 
-    def __init__(self, lsm, leveldb, folder, kind, batch):
-        self.name = f"{kind}-{batch}"
+    def __init__(self, lsm, leveldb, folder, kind, batch, more=""):
+        self.name = f"{kind}-{batch}{more}"
         self.kind, self.batch = kind, batch
         self.lsm, self.leveldb = lsm, leveldb
         self.theirs = os.path.join(folder, self.name + "-leveldb")
         self.other = LevelDB(leveldb, self.theirs, kind, batch)
         self.count = self.they_wrote = 0
+        # What was there before its first round: puts, and bytes that they and we wrote for them.
+        self.loaded = self.they_had = self.we_had = 0
+        self.all, self.pause = ROUND[batch], 0
         self.newest = {}
         self.shell = Shell(lsm, os.path.join(folder, self.name))
 
+    def slow(self):
+        """The same writer, slow, over a database that is loaded, and has nothing at level 0."""
+        self.all, self.pause = SLOW, PAUSE
+        self.count = self.loaded = LOADED
+        for first in range(0, LOADED, 1000):
+            self.shell.bring_in([pair_at(self.kind, i) for i in range(first, first + 1000)])
+        _, self.they_had = self.other.bring_in(0, LOADED)
+        self.shell.end()
+        subprocess.run([self.lsm, "compact", self.shell.folder, "--all"], stdout=subprocess.DEVNULL, check=True)
+        self.shell = Shell(self.lsm, self.shell.folder)
+        self.shell.levels()
+        self.we_had = self.shell.written()
+        return self
+
     def round(self):
-        all_ = ROUND[self.batch]
+        all_ = self.all
         began = time.monotonic()
         worst = 0.0
         ours = []
@@ -225,6 +235,7 @@ class Writer:
             start = time.monotonic()
             self.shell.bring_in(list(pairs.items()))
             worst = max(worst, time.monotonic() - start)
+            time.sleep(self.pause)
             while (first - self.count + self.batch) * 8 >= all_ * (len(ours) + 1):
                 ours.append(used(self.shell.folder))
         took = time.monotonic() - began
@@ -235,13 +246,13 @@ class Writer:
     def judge(self, took, worst, looks):
         disk, theirs = at_rest(self.shell.folder), used(self.theirs)
         tables, total = self.shell.levels()
-        came = self.count * (16 + SIZE)
-        wrote = self.shell.written()
-        each, ratio = wrote / came, wrote / self.they_wrote
+        came = (self.count - self.loaded) * (16 + SIZE)
+        wrote = self.shell.written() - self.we_had
+        each, ratio = wrote / came, wrote / (self.they_wrote - self.they_had)
         midst, rest = max(our / their for our, their in looks), disk / theirs
         most = 64 + 4 * total / TARGET
         print(
-            f"{self.name}: {self.count} puts, {took / ROUND[self.batch] * 1e6:.0f} us each, worst {worst * 1e3:.0f} ms;"
+            f"{self.name}: {self.count} puts, {took / self.all * 1e6:.0f} us each, worst {worst * 1e3:.0f} ms;"
             f" {tables} tables of {total} bytes; disk {disk}, {rest:.2f} of LevelDB's, before at most {midst:.2f};"
             f" {manifests(self.shell.folder)} manifests; written {each:.1f} a byte, {ratio:.2f} of LevelDB's",
             flush=True,
@@ -251,14 +262,14 @@ class Writer:
         for our, their in looks:
             if our >= IN_THE_MIDST * their + MORE:
                 bad.append(f"in the midst it had {our} bytes on the disk, LevelDB {their}")
-        if disk >= AT_REST[self.batch] * theirs:
+        if disk >= AT_REST * theirs + (MORE if self.batch == 1 else 0):
             bad.append(f"at rest it has {disk} bytes on the disk, LevelDB {theirs}")
+        if manifests(self.shell.folder) != 1:
+            bad.append("it has other manifests than its own")
         if tables >= most:
             bad.append(f"{tables} tables are not below {most:.0f}")
-        if each >= (IN_ORDER if self.kind in ("ascending", "descending") else EVERYWHERE):
+        if each >= MOST[self.kind][self.batch]:
             bad.append(f"it wrote {each:.1f} bytes for a byte that came in")
-        if came >= MEASURED and ratio >= OF_LEVELDB.get((self.kind, self.batch), AIM):
-            bad.append(f"it wrote {ratio:.2f} times as much as LevelDB")
         for key in random.sample(sorted(self.newest), min(20, len(self.newest))):
             said = self.shell.get(key)
             if said != f"value {self.newest[key]}":
@@ -280,7 +291,7 @@ class Writer:
         self.other.end()
         print(f"{self.name}: opened twice: {left} manifests; disk {disk}, LevelDB {theirs}", flush=True)
         bad = []
-        if left > 2:
+        if left != 1:
             bad.append(f"{left} manifests are left by openings")
         if disk >= OPENED * theirs:
             bad.append(f"opened again it has {disk} bytes on the disk, LevelDB {theirs}")
@@ -291,6 +302,7 @@ def main():
     lsm, leveldb, folder, seconds = sys.argv[1:]
     end = time.monotonic() + float(seconds)
     writers = [Writer(lsm, leveldb, folder, kind, batch) for kind in KINDS for batch in BATCHES]
+    writers.append(Writer(lsm, leveldb, folder, "random", 1, "-slow").slow())
     bad = []
     rounds = 0
     worst_of = [0.0] * 6

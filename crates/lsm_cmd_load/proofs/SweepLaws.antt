@@ -3,7 +3,7 @@ use Rattle.std.proofs.Common.{◌≡◌, ap, inl, inr}
 use Rattle.lsm_picker.specs.TablePlans.{TablePlan}
 use Rattle.lsm_slots.specs.Slots.{Looked}
 use Rattle.lsm_state.specs.Held.{Held}
-use Rattle.lsm_state.specs.Reserving.{HasNoneReady, WaitsForJoining}
+use Rattle.lsm_state.specs.Reserving.{HasNoneReady, WaitsForOthers}
 use Rattle.lsm_bulk_load.specs.Ending.{IsIdle}
 use Rattle.lsm_bulk_load.specs.Marks.{marked_in}
 
@@ -13,7 +13,8 @@ same_mark was is looked rest =
     let version : is.slots.version ≡ was.slots.version = looked.version in
     rw (came, version)
 
-waits : (was is : Held) → is.slots.version ≡ was.slots.version → is.live ≡ was.live → is.options ≡ was.options → (p : TablePlan) → WaitsForJoining was p → WaitsForJoining is p
+waits : (was is : Held) → is.slots.version ≡ was.slots.version → is.live ≡ was.live
+    → is.options ≡ was.options → (p : TablePlan) → WaitsForOthers was p → WaitsForOthers is p
 waits was is version live options p w = record {
   chosen = rw (live, version) w.chosen;
   level = w.level;
@@ -29,4 +30,5 @@ still_idle was is looked rest idle =
     let live : is.live ≡ was.live = ap (λ (h : Held). h.live) rest in
     let options : is.options ≡ was.options = ap (λ (h : Held). h.options) rest in
     let version : is.slots.version ≡ was.slots.version = looked.version in
-    (rw (live, version, options) idle.0, none_ready was is version live options idle.1)
+    (rw (live, version) idle.0, rw (live, version, options) idle.1,
+        none_ready was is version live options idle.2)

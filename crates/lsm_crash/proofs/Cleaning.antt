@@ -48,7 +48,8 @@ shown_settles k number bytes d mid e h small current its first second =
     )
 
 -- a removal of a spare name
-spare_clear : (d : Disk) (w : World) (name : List ℕ) (a : Answer) → IsSettled d w → IsSpare w name → IsClear (w.manifest ∷ []) w.tables (removed name a)
+pub spare_clear : (d : Disk) (w : World) (name : List ℕ) (a : Answer) → IsSettled d w
+    → IsSpare w name → IsClear (w.manifest ∷ []) w.tables (removed name a)
 spare_clear d w name a i (inl (n, small, other, is)) = record {
   current = λ e. manifest_current n (sym is ∙ e);
   its = λ m h. elim h [

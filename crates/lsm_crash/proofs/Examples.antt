@@ -7,7 +7,7 @@ use Rattle.lsm_codec.specs.Lists.{Has}
 use Rattle.lsm_folder.specs.Calls.{folder_synced, made as made_file, synced}
 use Rattle.lsm_folder.specs.declared.folder_fault.FolderFault.TheVariants as folder
 use Rattle.lsm_storage.specs.FileNames.{table_name}
-use Rattle.lsm_storage.specs.Plans.{start_plan}
+use Rattle.lsm_storage.specs.Plans.{put_plan, start_plan}
 use Rattle.lsm_shelf.specs.Asked.{Asked, Put as PutTable, Remove as RemoveTable, StartManifest}
 use Rattle.lsm_shelf.specs.declared.shelf_fault.ShelfFault.TheVariants as shelf_fault
 use Rattle.lsm_shelf.specs.Told.{Told, Becomes}
@@ -28,8 +28,10 @@ use Rattle.lsm_crash.specs.Disk.{Disk, Step, empty_disk, filled, with_file}
 use Rattle.lsm_crash.specs.Crash.{IsFresh, IsLeft}
 use Rattle.lsm_crash.specs.Versions.{ComesTo, Version}
 use Rattle.lsm_crash.specs.Known.{IsHeld, IsSettled, Known, World, known_of, nothing, world_of}
-use Rattle.lsm_crash.specs.Operations.{Append, Operation, Put, Remove, Start, after, either, plan_of, started, starting}
-use Rattle.lsm_crash.specs.Among.{CutAmong, DoneAmong, FailsAmong, IsGap, counting, failed}
+use Rattle.lsm_crash.specs.Operations.{Append, Operation, Put, Remove, Start, after, either}
+use Rattle.lsm_crash.specs.Operations.{started, starting}
+use Rattle.lsm_crash.specs.Among.{CutAmong, CutDropping, CutOf, DoneDropping, FailsAmong, IsGap}
+use Rattle.lsm_crash.specs.Among.{counting, failed}
 use Rattle.lsm_crash.specs.States.{IsWorldOf}
 use Rattle.lsm_crash.specs.Database.{AllCut, AllDone, AllFail, Answered, Asks, Builds, Collect, Deed, Follows, Gather, HasMade, Ingest, Install, IsCut, IsDrawn, IsMade, IsReady, IsState, Looks, Opens, Refused, Refuses, Works, after_all, opened_world, operations, plans_of}
 use Rattle.lsm_crash.specs.Lives.{Begins, Crashed, FromNothing, Lived, MakesCut, SmallAges, Struck, Worked}
@@ -40,6 +42,7 @@ use Rattle.lsm_crash.proofs.Held.{settled_held, surely_recovers}
 use Rattle.lsm_crash.proofs.Tables.{put_stands}
 use Rattle.lsm_crash.proofs.Asides.{aside_folder, aside_made, aside_synced}
 use Rattle.lsm_crash.proofs.Histories.{crashed}
+use Rattle.lsm_crash.proofs.Dropping.{no_drop}
 use Rattle.lsm_crash.proofs.Runs.{cut_held}
 use Rattle.lsm_crash.proofs.Calls.{no_gap}
 use Rattle.lsm_crash.proofs.Instances.{crash_can, empty_vacant, put_can}
@@ -68,11 +71,17 @@ all_fail [] (o ∷ next) w u d e h = (failed w o, d, (fails_can w o d, refl))
 all_fail (o ∷ os) next w u d e h = (let r = all_fail os next (after w o) u h.0 e h.2 in (r.0, r.1, (h.0, h.1, r.2)))
 
 -- cut in its first call, which has not acted
-cut_first : (w : World) (o : Operation) (d : Disk) → CutAmong (after w o).tables (plan_of w o) d d
-cut_first w (Put number image) d = (let t = (after w (Put number image)).tables in (d, no_gap t d, inr (inl (folder.Failed, d, inl refl, no_gap t d))))
-cut_first w (Remove number) d = (let t = (after w (Remove number)).tables in (d, no_gap t d, inr (inl (folder.Failed, d, inl refl, no_gap t d))))
-cut_first w (Append text version) d = (let t = w.tables in (d, no_gap t d, inr (inl (folder.Failed, d, inl refl, no_gap t d))))
-cut_first w (Start number bytes version) d = (let t = w.tables in (d, no_gap t d, inr (inl (folder.Failed, d, inl refl, no_gap t d))))
+cut_first : (w : World) (o : Operation) (d : Disk) → CutOf w o d d
+cut_first w (Put number image) d =
+    (let t = (after w (Put number image)).tables in
+    inl (d, no_gap t d, inr (inl (folder.Failed, d, inl refl, no_gap t d))))
+cut_first w (Remove number) d =
+    (let t = (after w (Remove number)).tables in
+    inl (d, no_gap t d, inr (inl (folder.Failed, d, inl refl, no_gap t d))))
+cut_first w (Append text version) d =
+    (let t = w.tables in inl (d, no_gap t d, inr (inl (folder.Failed, d, inl refl, no_gap t d))))
+cut_first w (Start number bytes version) d =
+    (let t = w.tables in inl (d, no_gap t d, inr (inl (folder.Failed, d, inl refl, no_gap t d))))
 
 all_first : (os : List Operation) (w : World) (d : Disk) → (known : Known) × AllCut w os known d d
 all_first [] w d = (known_of w, (refl, no_gap w.tables d))
@@ -157,7 +166,12 @@ module _ (honest : Type 0) (board : TableId) where
       let p = put_can (after w (Put old.next image)).tables old.next image d free in
       elim (ingest_err_made old new ws fault was is x) [
         | inl none ↦ refused_can old new (Ingest ws answer) [] [] w d l (fault, was, is, x, none, inl refl) going f (d, (refl, no_gap w.tables d))
-        | inr put ↦ refused_can old new (Ingest ws answer) (PutTable old.next image ∷ []) [] w d l (fault, was, is, x, put, inl refl) going f (p.0, (p.0, p.1, (refl, no_gap (after w (Put old.next image)).tables p.0)))
+        | inr put ↦ refused_can old new (Ingest ws answer) (PutTable old.next image ∷ []) [] w d l
+            (fault, was, is, x, put, inl refl) going f
+            (p.0,
+            (p.0, no_drop (after w (Put old.next image)).tables w.manifest
+            (put_plan old.next image) d p.0 p.1,
+            (refl, no_gap (after w (Put old.next image)).tables p.0)))
       ]
 
   pub refused_gather : (old new : Held) (number : ℕ) (fault : GatherFault) (was is : Told) (w : World) (d : Disk) → IsState honest board new → IsSettled d w → IsWorldOf old w → d.names (table_name old.next) ≡ None
@@ -166,7 +180,12 @@ module _ (honest : Type 0) (board : TableId) where
     | inl none ↦ refused_can old new (Gather number) [] [] w d l (fault, was, is, x, none, inl refl) going f (d, (refl, no_gap w.tables d))
     | inr put ↦ (
         let p = put_can (after w (Put old.next put.image)).tables old.next put.image d free in
-        refused_can old new (Gather number) (PutTable old.next put.image ∷ []) [] w d l (fault, was, is, x, put.made, inl refl) going f (p.0, (p.0, p.1, (refl, no_gap (after w (Put old.next put.image)).tables p.0))))
+        refused_can old new (Gather number) (PutTable old.next put.image ∷ []) [] w d l
+            (fault, was, is, x, put.made, inl refl) going f
+            (p.0,
+            (p.0, no_drop (after w (Put old.next put.image)).tables w.manifest
+            (put_plan old.next put.image) d p.0 p.1,
+            (refl, no_gap (after w (Put old.next put.image)).tables p.0))))
   ]
 
   pub refused_install : (old new : Held) (done : Done) (fault : StateFault) (was is : Told) (w : World) (d : Disk) → IsState honest board new → IsInstallRefusal old new done fault was is → Becomes was is → new.halted ≡ false → Follows honest old new (Refused (Install done))
@@ -205,10 +224,17 @@ module _ (honest : Type 0) (board : TableId) where
 
 -- an opening after which a table has no file yet
 begins_can : (honest : Type 0) (limit : ℕ) (h : Held) (w : World) (d : Disk) (p : Opens honest limit h d) (asks : List Asked) (n : ℕ) → HasMade asks p.was p.is → d.names (table_name n) ≡ None → n < 2 ^ 64
-    → (m : Disk) × DoneAmong w.tables (plans_of p.begun.before.number asks) d m × (m.names (table_name n) ≡ None)
+    → (m : Disk) × DoneDropping w.tables h.journal.number (plans_of p.begun.before.number asks) d m
+        × (m.names (table_name n) ≡ None)
 begins_can honest limit h w d p asks n made free small =
     let start = start_free w.tables d h.journal.number h.journal.bytes (table_name n) free (λ e. table_manifest n h.journal.number small (sym e)) (λ e. table_temporary n h.journal.number (sym e)) (λ e. table_current n (sym e)) in
-    (start.0, subst (λ xs. DoneAmong w.tables (plans_of p.begun.before.number xs) d start.0) (sym (open_asks honest limit h d p asks made)) start.1, start.2)
+    let done =
+        no_drop w.tables h.journal.number (start_plan h.journal.number h.journal.bytes) d start.0
+        start.1 in
+    (start.0,
+        subst
+        (λ xs. DoneDropping w.tables h.journal.number (plans_of p.begun.before.number xs) d start.0)
+        (sym (open_asks honest limit h d p asks made)) done, start.2)
 
 -- an opening, whatever is there
 opens_can : (honest : Type 0) (board : TableId) (limit : ℕ) (h : Held) (w : World) (d : Disk) (p : Opens honest limit h d) → IsState honest board h → (u : World) × (m : Disk) × Begins honest board limit h w u d m
@@ -252,7 +278,9 @@ module _ (law : TablesChange) (honest : Type 0) (board : TableId) (limit : ℕ) 
             (let z = state_comes honest other g lg in
             let o = Start g.journal.number g.journal.bytes z.0 in
             let alive = crashed works.1 crash.1 cut.0 crash.2.0 crash.0 held.0 crash.2.1 crash.2.2 crash.2.3 in
-            let c : CutAmong crash.0.tables (start_plan g.journal.number g.journal.bytes) crash.1 crash.1 = cut_first crash.0 o crash.1 in
+            let c : CutDropping crash.0.tables g.journal.number
+                (start_plan g.journal.number g.journal.bytes) crash.1 crash.1 =
+                cut_first crash.0 o crash.1 in
             let m = crashed_can (either crash.0 o) crash.1 (cut_held crash.1 crash.1 crash.0 o alive (opening_allowed honest other more g crash.1 crash.0 z.0 lg.0 alive q z.1) c) refl in
             (m.0, m.1, (board, limit, crash.0, crash.1, lived, (other, more, m.0, m.1, (either crash.0 o, crash.1, (z.0, StartManifest g.journal.number g.journal.bytes ∷ [], lg, q, open_made honest more g crash.1 q, z.1, c, refl), m.2), (refl, refl)))));
       }

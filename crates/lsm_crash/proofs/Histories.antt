@@ -12,7 +12,7 @@ use Rattle.lsm_crash.specs.Operations.{MayStart, starting}
 use Rattle.lsm_crash.specs.History.{Breaks, Crashes, Empties, History, IsPhase, IsRead, Move, Others, Passes, Phase, Rests, Runs, Starts, Stops, StopsUnseen, before, behind}
 use Rattle.lsm_crash.proofs.Names.{texts_apart}
 use Rattle.lsm_crash.proofs.Held.{fresh_settled, fresh_vacant, held_gap, held_recovers, held_wider, settled_held, vacant_held}
-use Rattle.lsm_crash.proofs.Starting.{start_cut, start_done}
+use Rattle.lsm_crash.proofs.Dropping.{follow_cut, follow_done}
 use Rattle.lsm_crash.proofs.Runs.{cut_held, goes_settled}
 
 text_is : (a b : List ℕ) → Some a ≡ Some b → a ≡ b
@@ -62,9 +62,13 @@ pub move_keeps : (m : Move) (d e : Disk) → IsPhase (before m) d → Passes m d
 move_keeps (Runs w es u) d e i h = goes_settled es d e w u i h
 move_keeps (Breaks w o) d e i h = cut_held d e w o i h.0 h.1
 move_keeps (Rests w) d e i h = subst (λ x. IsPhase (behind (Rests w)) x) (sym h) (settled_held d w i)
-move_keeps (Starts known number bytes v) d e i h = start_done known number bytes v h.0 d e i h.1
-move_keeps (Stops known number bytes v) d e i h = elim (start_cut known number bytes v h.0 d e i h.1) [ inl same ↦ stopped e known number bytes v h.0 same | inr turned ↦ turned.0 ]
-move_keeps (StopsUnseen known number bytes v) d e i h = elim (start_cut known number bytes v h.0 d e i h.1) [ inl same ↦ same | inr turned ↦ absurd (h.2 turned.1) ]
+move_keeps (Starts known number bytes v) d e i h = follow_done known number bytes v h.0 d e i h.1
+move_keeps (Stops known number bytes v) d e i h =
+    elim (follow_cut known number bytes v h.0 d e i h.1)
+    [ inl same ↦ stopped e known number bytes v h.0 same | inr turned ↦ turned.0 ]
+move_keeps (StopsUnseen known number bytes v) d e i h =
+    elim (follow_cut known number bytes v h.0 d e i h.1)
+    [ inl same ↦ same | inr turned ↦ absurd (h.2 turned.1) ]
 move_keeps (Others known) d e i h = held_gap known d e h i
 move_keeps (Crashes known found w) d e i h = crashed d e known found w i h.0 h.1 h.2
 move_keeps (Empties known found) d e i h = vacant_held e (fresh_vacant found e h.2 h.1)

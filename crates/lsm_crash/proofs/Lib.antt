@@ -6,11 +6,12 @@ mod Leading
 mod Appending
 mod Tables
 mod Starting
-mod Runs
 mod Calls
 mod Instances
 mod Width
 mod Cleaning
+mod Dropping
+mod Runs
 mod Histories
 mod Asides
 mod Shelves

@@ -21,7 +21,7 @@ use Rattle.lsm_crash.specs.Crash.{Found, IsLeft}
 use Rattle.lsm_crash.specs.Versions.{AreThere, ComesTo, Tables, Version}
 use Rattle.lsm_crash.specs.Known.{IsSettled, World, current_name}
 use Rattle.lsm_crash.specs.Operations.{Allows, Start, after, either}
-use Rattle.lsm_crash.specs.Among.{CutAmong, DoneAmong}
+use Rattle.lsm_crash.specs.Among.{CutDropping, DoneDropping}
 use Rattle.lsm_crash.specs.States.{Describes, Finds, HasTables, IsWorldOf}
 use Rattle.lsm_crash.specs.Database.{HasMade, Opens, only_of, opened_world, plans_of}
 use Rattle.lsm_crash.proofs.Names.{texts_apart}
@@ -75,11 +75,19 @@ number_in v level t h = has_number (files v) (file_of (0 + level) t) (in_files 0
 -- ---- the calls that an opening makes
 
 module _ (honest : Type 0) (limit : ℕ) (h : Held) (d : Disk) (p : Opens honest limit h d) (asks : List Asked) (made : HasMade asks p.was p.is) where
-  pub opening_done : (tables : Tables) (e : Disk) → DoneAmong tables (plans_of p.begun.before.number asks) d e → DoneAmong tables (start_plan h.journal.number h.journal.bytes) d e
-  opening_done tables e done = subst (λ xs. DoneAmong tables (plans_of p.begun.before.number xs) d e) (open_asks honest limit h d p asks made) done
+  pub opening_done : (tables : Tables) (e : Disk)
+      → DoneDropping tables h.journal.number (plans_of p.begun.before.number asks) d e
+      → DoneDropping tables h.journal.number (start_plan h.journal.number h.journal.bytes) d e
+  opening_done tables e done =
+      subst (λ xs. DoneDropping tables h.journal.number (plans_of p.begun.before.number xs) d e)
+      (open_asks honest limit h d p asks made) done
 
-  pub opening_cut : (tables : Tables) (e : Disk) → CutAmong tables (plans_of p.begun.before.number asks) d e → CutAmong tables (start_plan h.journal.number h.journal.bytes) d e
-  opening_cut tables e cut = subst (λ xs. CutAmong tables (plans_of p.begun.before.number xs) d e) (open_asks honest limit h d p asks made) cut
+  pub opening_cut : (tables : Tables) (e : Disk)
+      → CutDropping tables h.journal.number (plans_of p.begun.before.number asks) d e
+      → CutDropping tables h.journal.number (start_plan h.journal.number h.journal.bytes) d e
+  opening_cut tables e cut =
+      subst (λ xs. CutDropping tables h.journal.number (plans_of p.begun.before.number xs) d e)
+      (open_asks honest limit h d p asks made) cut
 
 -- ---- an opening
 
@@ -126,7 +134,9 @@ module _ (honest : Type 0) (board : TableId) (limit : ℕ) (h : Held) (d : Disk)
     there = are_there v h.slots.version w.tables new_describes opened_has;
   }
 
-  pub opening_settled : (e : Disk) → DoneAmong w.tables (start_plan h.journal.number h.journal.bytes) d e → IsSettled e (opened_world h v w)
+  pub opening_settled : (e : Disk)
+      → DoneDropping w.tables h.journal.number (start_plan h.journal.number h.journal.bytes) d e
+      → IsSettled e (opened_world h v w)
   opening_settled e done = settled_fewer e (after w (Start h.journal.number h.journal.bytes v)) (only_of (numbers_in h.slots.version) w.tables) (done_settled d e w (Start h.journal.number h.journal.bytes v) i opening_allowed done)
       (λ n image k. (only_less (numbers_in h.slots.version) w.tables n image k).1) (are_there v h.slots.version (only_of (numbers_in h.slots.version) w.tables) new_describes only_tables)
 
@@ -141,7 +151,9 @@ module _ (honest : Type 0) (board : TableId) (limit : ℕ) (h : Held) (d : Disk)
   }
 
   -- a crash in any call of it leaves the version
-  pub opening_finds : (e : Disk) (found : Found) → CutAmong w.tables (start_plan h.journal.number h.journal.bytes) d e → IsLeft e found → Finds h.slots.version found
+  pub opening_finds : (e : Disk) (found : Found)
+      → CutDropping w.tables h.journal.number (start_plan h.journal.number h.journal.bytes) d e
+      → IsLeft e found → Finds h.slots.version found
   opening_finds e found cut left =
       let o = Start h.journal.number h.journal.bytes v in
       let r = surely_recovers e (either w o) found refl (cut_held d e w o i opening_allowed cut) left in

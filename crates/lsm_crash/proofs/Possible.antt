@@ -3,7 +3,7 @@ use Rattle.std.proofs.Common.{◌≡◌, ℕ, ◌+◌, ◌<◌, ◌^◌, Bool, t
 use Rattle.std.specs.Prelude.{if◌then◌else◌}
 use Rattle.atomic_table.specs.Seated.{TableId}
 use Rattle.lsm_storage.specs.FileNames.{table_name, manifest_name, temporary_name, current_text}
-use Rattle.lsm_storage.specs.Plans.{start_plan}
+use Rattle.lsm_storage.specs.Plans.{append_plan, put_plan, remove_plan, start_plan}
 use Rattle.lsm_shelf.specs.Asked as shelf
 use Rattle.lsm_shelf.specs.Asked.{Asked, AppendManifest, Remove as RemoveTable}
 use Rattle.lsm_shelf.specs.Told.{Told, finding}
@@ -21,7 +21,7 @@ use Rattle.lsm_crash.specs.Disk.{Disk, Shows, empty_disk, filled, moved, named, 
 use Rattle.lsm_crash.specs.Versions.{ComesTo, Tables, Version}
 use Rattle.lsm_crash.specs.Known.{Is, IsSettled, World, current_name, nothing}
 use Rattle.lsm_crash.specs.Operations.{Allows, Put, Remove, after, started}
-use Rattle.lsm_crash.specs.Among.{DoneAmong}
+use Rattle.lsm_crash.specs.Among.{DoneAmong, DoneDropping}
 use Rattle.lsm_crash.specs.Refusing.{ReadsShown}
 use Rattle.lsm_crash.specs.States.{IsWorldOf, Shown}
 use Rattle.lsm_crash.specs.Database.{AllDone, Answered, Asks, Collect, Deed, Follows, Gather, HasMade, Ingest, Install, IsMade, IsReady, IsState, Opens, SmallRun, Works, after_all, operations, plans_of}
@@ -30,7 +30,8 @@ use Rattle.lsm_crash.proofs.Disks.{named_else, some_is}
 use Rattle.lsm_crash.proofs.Standing.{at_writes, sure}
 use Rattle.lsm_crash.proofs.Calls.{no_gap}
 use Rattle.lsm_crash.proofs.Instances.{append_can, crash_can, empty_vacant, put_can, remove_can, start_can}
-use Rattle.lsm_crash.proofs.Runs.{done_settled}
+use Rattle.lsm_crash.proofs.Dropping.{no_drop}
+use Rattle.lsm_crash.proofs.Runs.{plan_settled}
 use Rattle.lsm_crash.proofs.Asking.{collect_asks, create_asks, gather_asks, ingest_asks, install_asks, open_asks}
 use Rattle.lsm_crash.proofs.Worlds.{TablesChange, none_or}
 use Rattle.lsm_crash.proofs.Making.{made_settled, made_world, making_done}
@@ -45,12 +46,21 @@ module _ (h : Held) (c : Difference) (v : Version) (w : World) (d : Disk) (i : I
   write_at : (b : Bool) → Can w v ((if b then started_by (changed_by c h.slots.version) h.next h.journal else AppendManifest (record_of h.journal.bytes (change_edit h.journal c h.next))) ∷ []) d
   write_at true =
       let r = start_can w.tables h.next (record_of [] (version_edit h.journal (changed_by c h.slots.version) (h.next + 1))) d in
-      (r.0, (r.0, r.1, (refl, no_gap w.tables r.0)))
+      (r.0,
+          (r.0,
+          no_drop w.tables h.next
+          (start_plan h.next
+          (record_of [] (version_edit h.journal (changed_by c h.slots.version) (h.next + 1)))) d r.0
+          r.1, (refl, no_gap w.tables r.0)))
   write_at false =
       let M = manifest_name w.manifest in
       let now = sure (Is i.its.0 w.bytes) d M i.its.1 (d.names M) (d.names, i.sound.now, refl) in
       let r = append_can w.tables w.manifest (record_of h.journal.bytes (change_edit h.journal c h.next)) d now.0 now.1 in
-      (r.0, (r.0, r.1, (refl, no_gap w.tables r.0)))
+      (r.0,
+          (r.0,
+          no_drop w.tables w.manifest
+          (append_plan w.manifest (record_of h.journal.bytes (change_edit h.journal c h.next))) d
+          r.0 r.1, (refl, no_gap w.tables r.0)))
 
   pub write_can : Can w v (changes_by h c ∷ []) d
   write_can = write_at (is_at_limit h.journal)
@@ -60,7 +70,7 @@ removes_can v [] w d = (d, (refl, no_gap w.tables d))
 removes_can v (n ∷ ns) w d =
     let r = remove_can (after w (Remove n)).tables n d in
     let s = removes_can v ns (after w (Remove n)) r.0 in
-    (s.0, (r.0, r.1, s.1))
+    (s.0, (r.0, no_drop (after w (Remove n)).tables w.manifest (remove_plan n) d r.0 r.1, s.1))
 
 module _ (honest : Type 0) (board : TableId) (old new : Held) (w : World) (v : Version) (d : Disk) (i : IsSettled d w) (o : IsWorldOf old w) (free : d.names (table_name old.next) ≡ None) where
   -- a table is put, and the manifest written
@@ -68,8 +78,12 @@ module _ (honest : Type 0) (board : TableId) (old new : Held) (w : World) (v : V
   coming_can image h c =
       let may : Allows w (Put old.next image) = ((let f = o.fits in omega arith), none_or (w.tables old.next) (λ other k. (let lt = o.below old.next other k in omega arith))) in
       let p = put_can (after w (Put old.next image)).tables old.next image d free in
-      let change = write_can h c v (after w (Put old.next image)) p.0 (done_settled d p.0 w (Put old.next image) i may p.1) in
-      (change.0, (p.0, p.1, change.1))
+      let change =
+          write_can h c v (after w (Put old.next image)) p.0
+          (plan_settled d p.0 w (Put old.next image) i may p.1) in
+      (change.0,
+          (p.0, no_drop (after w (Put old.next image)).tables w.manifest
+          (put_plan old.next image) d p.0 p.1, change.1))
 
   pub deed_can : (deed : Deed) (asks : List Asked) → Asks honest old new deed asks → Can w v asks d
   deed_can (Ingest ws r) asks a =
@@ -88,9 +102,17 @@ module _ (honest : Type 0) (board : TableId) (old new : Held) (w : World) (v : V
 
 -- ---- openings, and a new database
 
-pub opened_can : (honest : Type 0) (limit : ℕ) (h : Held) (d : Disk) (p : Opens honest limit h d) (asks : List Asked) → HasMade asks p.was p.is → (tables : Tables) → (e : Disk) × DoneAmong tables (plans_of p.begun.before.number asks) d e
+pub opened_can : (honest : Type 0) (limit : ℕ) (h : Held) (d : Disk) (p : Opens honest limit h d)
+    (asks : List Asked) → HasMade asks p.was p.is → (tables : Tables) → (e : Disk)
+    × DoneDropping tables h.journal.number (plans_of p.begun.before.number asks) d e
 opened_can honest limit h d p asks made tables =
-    subst (λ xs. (e : Disk) × DoneAmong tables (plans_of p.begun.before.number xs) d e) (sym (open_asks honest limit h d p asks made)) (start_can tables h.journal.number h.journal.bytes d)
+    let start = start_can tables h.journal.number h.journal.bytes d in
+    subst
+        (λ xs. (e : Disk)
+        × DoneDropping tables h.journal.number (plans_of p.begun.before.number xs) d e)
+        (sym (open_asks honest limit h d p asks made))
+        (start.0, no_drop tables h.journal.number (start_plan h.journal.number h.journal.bytes) d
+        start.0 start.1)
 
 -- a manifest is started, and a name that had no file has none
 pub start_free : (tables : Tables) (d : Disk) (number : ℕ) (bytes q : List ℕ) → d.names q ≡ None → (manifest_name number ≡ q → ⊥) → (temporary_name number ≡ q → ⊥) → (current_name ≡ q → ⊥)

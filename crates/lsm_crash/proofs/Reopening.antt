@@ -13,11 +13,11 @@ use Rattle.lsm_crash.specs.Disk.{Disk, Shows}
 use Rattle.lsm_crash.specs.Versions.{ComesTo, Version}
 use Rattle.lsm_crash.specs.Known.{IsHeld, IsSettled, Known}
 use Rattle.lsm_crash.specs.Operations.{MayStart, started}
-use Rattle.lsm_crash.specs.Among.{DoneAmong}
+use Rattle.lsm_crash.specs.Among.{DoneDropping}
 use Rattle.lsm_crash.specs.States.{Describes, HasTables, IsWorldOf}
 use Rattle.lsm_crash.specs.Database.{Opens, only_of, opened_world}
 use Rattle.lsm_crash.proofs.Standing.{stands_shows}
-use Rattle.lsm_crash.proofs.Starting.{start_done}
+use Rattle.lsm_crash.proofs.Dropping.{follow_done}
 use Rattle.lsm_crash.proofs.Calls.{read_manifest}
 use Rattle.lsm_crash.proofs.Forms.{recorded_describes, table_named}
 use Rattle.lsm_crash.proofs.Deeds.{are_there}
@@ -63,8 +63,13 @@ module _ (honest : Type 0) (board : TableId) (limit : ℕ) (h : Held) (d : Disk)
     there = are_there v h.slots.version known.tables new_describes has;
   }
 
-  pub reopened_settled : (e : Disk) → DoneAmong known.tables (start_plan h.journal.number h.journal.bytes) d e → IsSettled e (opened_world h v (started known h.journal.number h.journal.bytes v))
-  reopened_settled e done = settled_fewer e (started known h.journal.number h.journal.bytes v) (only_of (numbers_in h.slots.version) known.tables) (start_done known h.journal.number h.journal.bytes v may d e i done)
+  pub reopened_settled : (e : Disk)
+      → DoneDropping known.tables h.journal.number (start_plan h.journal.number h.journal.bytes) d e
+      → IsSettled e (opened_world h v (started known h.journal.number h.journal.bytes v))
+  reopened_settled e done =
+      settled_fewer e (started known h.journal.number h.journal.bytes v)
+      (only_of (numbers_in h.slots.version) known.tables)
+      (follow_done known h.journal.number h.journal.bytes v may d e i done)
       (λ n image k. (only_less (numbers_in h.slots.version) known.tables n image k).1) (are_there v h.slots.version (only_of (numbers_in h.slots.version) known.tables) new_describes only_tables)
 
   pub reopened_world : IsWorldOf h (opened_world h v (started known h.journal.number h.journal.bytes v))

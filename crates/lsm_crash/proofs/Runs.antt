@@ -10,17 +10,26 @@ use Rattle.lsm_crash.specs.Crash.{Found, IsLeft}
 use Rattle.lsm_crash.specs.Versions.{AreThere, Version}
 use Rattle.lsm_crash.specs.Known.{IsHeld, IsSettled, IsVacant, Recovers, World, current_name, known_of, nothing}
 use Rattle.lsm_crash.specs.Operations.{Allows, Append, MayStart, Operation, Put, Remove, Start, after, either, plan_of, starting}
-use Rattle.lsm_crash.specs.Among.{CutAmong, Counts, Does, DoneAmong, Event, FailsAmong, Goes, counting, failed}
+use Rattle.lsm_crash.specs.Among.{CutAmong, CutOf, Counts, Does, DoneAmong, DoneOf, Event}
+use Rattle.lsm_crash.specs.Among.{FailsAmong, Goes, counting, failed}
 use Rattle.lsm_crash.proofs.Held.{IsClear, held_recovers, held_wider, only, settled_gap, settled_held, settled_step, surely_recovers, vacant_held}
 use Rattle.lsm_crash.proofs.Appending.{append_cut, append_done, append_fails, pair}
 use Rattle.lsm_crash.proofs.Tables.{clear_folder, count_settled, put_cut, put_done, put_fails, remove_cut, remove_done, settled_either}
+use Rattle.lsm_crash.proofs.Dropping.{done_held, drops_settled}
 use Rattle.lsm_crash.proofs.Starting.{clear_m, clear_t, start_cut, start_done}
 
-pub done_settled : (d e : Disk) (w : World) (o : Operation) → IsSettled d w → Allows w o → DoneAmong (after w o).tables (plan_of w o) d e → IsSettled e (after w o)
-done_settled d e w (Put number image) i ok h = put_done w number image ok d e i h
-done_settled d e w (Remove number) i ok h = remove_done w number ok d e i h
-done_settled d e w (Append text v) i ok h = append_done w text v ok d e i h
-done_settled d e w (Start number bytes v) i ok h = start_done (known_of w) number bytes v ok d e (settled_held d w i) h
+pub plan_settled : (d e : Disk) (w : World) (o : Operation) → IsSettled d w → Allows w o
+    → DoneAmong (after w o).tables (plan_of w o) d e → IsSettled e (after w o)
+plan_settled d e w (Put number image) i ok h = put_done w number image ok d e i h
+plan_settled d e w (Remove number) i ok h = remove_done w number ok d e i h
+plan_settled d e w (Append text v) i ok h = append_done w text v ok d e i h
+plan_settled d e w (Start number bytes v) i ok h =
+    start_done (known_of w) number bytes v ok d e (settled_held d w i) h
+
+pub done_settled : (d e : Disk) (w : World) (o : Operation) → IsSettled d w → Allows w o
+    → DoneOf w o d e → IsSettled e (after w o)
+done_settled d e w o i ok (mid, h, drops) =
+    drops_settled (after w o) mid e drops (plan_settled d mid w o i ok h)
 
 -- ---- refusals after which the database goes on
 
@@ -69,14 +78,25 @@ cut_start d w number bytes v ok i = held_wider d (known_of w) (either w (Start n
   there = pair v w.version (λ u. AreThere u w.tables) ok.there (i.there w.version (inl refl));
 } i
 
-pub cut_held : (d e : Disk) (w : World) (o : Operation) → IsSettled d w → Allows w o → CutAmong (after w o).tables (plan_of w o) d e → IsHeld e (either w o)
-cut_held d e w (Put number image) i ok h = settled_either e w w (Put number image) refl refl refl refl refl (put_cut w number image ok d e i h)
-cut_held d e w (Remove number) i ok h = settled_either e w (after w (Remove number)) (Remove number) refl refl refl refl refl (remove_cut w number ok d e i h)
-cut_held d e w (Append text v) i ok h = append_cut w text v ok d e i h
-cut_held d e w (Start number bytes v) i ok h = elim (start_cut (known_of w) number bytes v ok d e (settled_held d w i) h) [
+pub plan_held : (d e : Disk) (w : World) (o : Operation) → IsSettled d w → Allows w o
+    → CutAmong (after w o).tables (plan_of w o) d e → IsHeld e (either w o)
+plan_held d e w (Put number image) i ok h =
+    settled_either e w w (Put number image) refl refl refl refl refl
+    (put_cut w number image ok d e i h)
+plan_held d e w (Remove number) i ok h =
+    settled_either e w (after w (Remove number)) (Remove number) refl refl refl refl refl
+    (remove_cut w number ok d e i h)
+plan_held d e w (Append text v) i ok h = append_cut w text v ok d e i h
+plan_held d e w (Start number bytes v) i ok h =
+    elim (start_cut (known_of w) number bytes v ok d e (settled_held d w i) h) [
   | inl same ↦ cut_start e w number bytes v ok same
   | inr turned ↦ turned.0
 ]
+
+pub cut_held : (d e : Disk) (w : World) (o : Operation) → IsSettled d w → Allows w o → CutOf w o d e
+    → IsHeld e (either w o)
+cut_held d e w o i ok (inl h) = plan_held d e w o i ok h
+cut_held d e w o i ok (inr h) = done_held d e w o i ok (done_settled d e w o i ok h)
 
 -- ---- runs
 
@@ -87,7 +107,9 @@ goes_settled (Does o ∷ es) d e w u i (ok, (mid, inl r)) = goes_settled es mid 
 goes_settled (Does o ∷ es) d e w u i (ok, (mid, inr r)) = goes_settled es mid e (failed w o) u (fails_settled d mid w o i ok r.0) r.1
 
 -- the whole theorem
-pub crash_recovers : (es : List Event) (o : Operation) (d mid e : Disk) (w u : World) (found : Found) → IsSettled d w → Goes w es u d mid → Allows u o → CutAmong (after u o).tables (plan_of u o) mid e → IsLeft e found
+pub crash_recovers : (es : List Event) (o : Operation) (d mid e : Disk) (w u : World)
+    (found : Found) → IsSettled d w → Goes w es u d mid → Allows u o → CutOf u o mid e
+    → IsLeft e found
     → Recovers (either u o) found
 crash_recovers es o d mid e w u found i g ok c l = surely_recovers e (either u o) found refl (cut_held mid e u o (goes_settled es d mid w u i g) ok c) l
 

@@ -1,13 +1,17 @@
 -- What the calls of a shelf leave, by its plans, each answered Ok or refused.
 use Rattle.std.proofs.Common.{◌≡◌, ℕ, List, [], ◌∷◌, ◌++◌, refl, sym, ◌∙◌, ap, subst, inl, inr}
-use Rattle.std.specs.Prelude.{Ok, Err, Result}
+use Rattle.std.specs.Prelude.{Ok, Err, None, Result, Some}
 use Rattle.std.proofs.lemmas.List.{append_cancel_right}
 use Rattle.lsm_folder.specs.Calls.{Call, appended, loaded, made, measured, removed, synced}
 use Rattle.lsm_folder.specs.declared.folder_fault.FolderFault.{FolderFault}
 use Rattle.lsm_folder.specs.declared.folder_fault.FolderFault.TheVariants as folder
 use Rattle.lsm_storage.specs.FileNames.{manifest_name, table_name, temporary_name, current_text}
 use Rattle.lsm_storage.specs.FolderFault.{missing_of}
-use Rattle.lsm_storage.specs.Plans.{Step as Asked, AppendStopped, CurrentStopped, MeasureStopped, PutStopped, Refused, RemoveStopped, StartStopped, StartedFrom, append_plan, current_plan, current_read, done, durable_plan, manifest_measured, unnamed_plan}
+use Rattle.lsm_storage.specs.Plans.{Step as Asked, AppendStopped, CurrentStopped, IsNamedBy}
+use Rattle.lsm_storage.specs.Plans.{MeasureStopped, NamesOther, PutStopped, Refused, RemoveStopped}
+use Rattle.lsm_storage.specs.Plans.{StartStopped, StartedFrom, append_plan, current_plan}
+use Rattle.lsm_storage.specs.Plans.{current_read, done, durable_plan, manifest_measured, start_plan}
+use Rattle.lsm_storage.specs.Plans.{unnamed_plan}
 use Rattle.lsm_shelf.specs.declared.shelf_fault.ShelfFault.{ShelfFault}
 use Rattle.lsm_shelf.specs.declared.shelf_fault.ShelfFault.TheVariants as why
 use Rattle.lsm_crash.specs.Disk.{After, Disk, Leaves, Step}
@@ -21,16 +25,21 @@ use Rattle.lsm_crash.proofs.Held.{settled_aside}
 use Rattle.lsm_crash.proofs.Tables.{lessen}
 use Rattle.lsm_crash.proofs.Asides.{aside_removed}
 use Rattle.lsm_crash.proofs.Calls.{done_after, no_gap, refused_after}
-use Rattle.lsm_crash.proofs.Runs.{cut_held, done_settled, fails_settled}
+use Rattle.lsm_crash.proofs.Dropping.{drops_settled}
+use Rattle.lsm_crash.proofs.Runs.{fails_settled, plan_held, plan_settled}
 
 module _ (s : Disk) (old : List Call) (w : World) (was : Leaves s old (λ d. IsSettled d w)) where
   -- ---- plans
 
   pub plan_done : (o : Operation) → Allows w o → Leaves s (done (plan_of w o) old) (λ d. IsSettled d (after w o))
-  plan_done o ok e h = (let r = done_after (after w o).tables (plan_of w o) old s e h in done_settled r.0 e w o (was r.0 r.1) ok r.2)
+  plan_done o ok e h =
+      (let r = done_after (after w o).tables (plan_of w o) old s e h in
+      plan_settled r.0 e w o (was r.0 r.1) ok r.2)
 
   pub plan_cut : (o : Operation) (fault : FolderFault) (new : List Call) → Allows w o → Refused (plan_of w o) fault old new → Leaves s new (λ d. IsHeld d (either w o))
-  plan_cut o fault new ok r e h = (let a = refused_after (after w o).tables (plan_of w o) fault old new s e r h in cut_held a.0 e w o (was a.0 a.1) ok a.2)
+  plan_cut o fault new ok r e h =
+      (let a = refused_after (after w o).tables (plan_of w o) fault old new s e r h in
+      plan_held a.0 e w o (was a.0 a.1) ok a.2)
 
   -- ---- reads
 
@@ -99,7 +108,9 @@ module _ (s : Disk) (old : List Call) (w : World) (was : Leaves s old (λ d. IsS
   append_answered n len text v ok e h =
       let r = done_after w.tables (append_plan n text) (manifest_measured n len old) s e h in
       let name = same_name n len r.0 r.1 in
-      done_settled r.0 e w (Append text v) (measure n len r.0 r.1) ok (subst (λ name. DoneAmong w.tables (appended name text ∷ synced name ∷ []) r.0 e) name r.2)
+      plan_settled r.0 e w (Append text v) (measure n len r.0 r.1) ok
+          (subst (λ name. DoneAmong w.tables (appended name text ∷ synced name ∷ []) r.0 e) name
+          r.2)
 
   measure_stopped : (f : ShelfFault) (new : List Call) → MeasureStopped f old new → Leaves s new (λ d. IsSettled d w)
   measure_stopped f new (inl c) = current_stopped s old w was f new c
@@ -109,7 +120,7 @@ module _ (s : Disk) (old : List Call) (w : World) (was : Leaves s old (λ d. IsS
 
   -- nothing of the record was asked for, or a front of the plan
   still_held : (o : Operation) (new : List Call) → Allows w o → Leaves s new (λ d. IsSettled d w) → Leaves s new (λ d. IsHeld d (either w o))
-  still_held o new ok l e h = nothing_done (plan_of w o) e (λ c. cut_held e e w o (l e h) ok c)
+  still_held o new ok l e h = nothing_done (plan_of w o) e (λ c. plan_held e e w o (l e h) ok c)
     where
       nothing_done : (plan : List Asked) (x : Disk) → (CutAmong (after w o).tables plan x x → IsHeld x (either w o)) → IsHeld x (either w o)
       nothing_done [] x f = f (no_gap (after w o).tables x)
@@ -122,12 +133,16 @@ module _ (s : Disk) (old : List Call) (w : World) (was : Leaves s old (λ d. IsS
   append_stopped text v f new ok (inr (inr (n, len, le, inl (inr (fault, is, why))))) = λ e h.
       let a = subst (λ x. After s x e) is h in
       let name = same_name n len a.0 a.1 in
-      cut_held a.0 e w (Append text v) (measure n len a.0 a.1) ok (a.0, no_gap w.tables a.0, inr (inl (fault, e, subst (λ name. Step a.0 (appended name text (Err fault)) e) name a.2, no_gap w.tables e)))
+      plan_held a.0 e w (Append text v) (measure n len a.0 a.1) ok
+          (a.0, no_gap w.tables a.0,
+          inr
+          (inl (fault, e, subst (λ name. Step a.0 (appended name text (Err fault)) e) name a.2,
+          no_gap w.tables e)))
   append_stopped text v f new ok (inr (inr (n, len, le, inr (fault, is, why)))) = λ e h.
       let a = subst (λ x. After s x e) is h in
       let b = a.1 in
       let name = same_name n len b.0 b.1 in
-      cut_held b.0 e w (Append text v) (measure n len b.0 b.1) ok (
+      plan_held b.0 e w (Append text v) (measure n len b.0 b.1) ok (
         b.0,
         no_gap w.tables b.0,
         inr (inr (a.0, subst (λ name. Step b.0 (appended name text (Ok tt)) a.0) name b.2, (a.0, no_gap w.tables a.0, inr (inl (fault, e, subst (λ name. Step a.0 (synced name (Err fault)) e) name a.2, no_gap w.tables e))))),
@@ -161,9 +176,28 @@ refused_behind [] later fault old new r = r
 refused_behind (a ∷ front) later fault old new r = inr (refused_behind front later fault (a (Ok tt) ∷ old) new r)
 
 module _ (s : Disk) (old : List Call) (w : World) (was : Leaves s old (λ d. IsSettled d w)) (number : ℕ) (bytes : List ℕ) (v : Version) (ok : Allows w (Start number bytes v)) where
+  started_from : (answer : Result (List ℕ) FolderFault)
+      → Leaves s (done (start_plan number bytes) (current_read answer old))
+      (λ d. IsSettled d (after w (Start number bytes v)))
+  started_from answer =
+      plan_done s (current_read answer old) w (read_leaves s old w was current_name answer)
+      (Start number bytes v) ok
+
+  -- the manifest that was followed is another one
+  another : (m : ℕ) (answer : Result (List ℕ) FolderFault) → NamesOther number answer
+      → IsNamedBy answer (Some m) → m ≡ number → ⊥
+  another m (Ok text) other named same = other ((named m).0 refl ∙ ap current_text same)
+  another m (Err fault) other named same = absurd (let none = named.1 in cc)
+
   pub start_answered : (new : List Call) → StartedFrom number bytes old new → Leaves s new (λ d. IsSettled d (after w (Start number bytes v)))
-  start_answered new (answer, other, is) = subst (λ x. Leaves s x (λ d. IsSettled d (after w (Start number bytes v)))) (sym is)
-      (plan_done s (current_read answer old) w (read_leaves s old w was current_name answer) (Start number bytes v) ok)
+  start_answered new (answer, other, (None, named, is)) =
+      subst (λ x. Leaves s x (λ d. IsSettled d (after w (Start number bytes v)))) (sym is)
+      (started_from answer)
+  start_answered new (answer, other, (Some m, named, (small, (a, is)))) = λ e h.
+      let x = subst (λ y. After s y e) is h in
+      drops_settled (after w (Start number bytes v)) x.0 e
+          (inr (m, small, another m answer other named, a, e, x.2, no_gap w.tables e))
+          (started_from answer x.0 x.1)
 
   -- a front of the plan before `CURRENT` was to have its new text
   unnamed : (answer : Result (List ℕ) FolderFault) (fault : FolderFault) (new : List Call) → Refused (unnamed_plan number bytes) fault (current_read answer old) new → Leaves s new (λ d. IsSettled d w)

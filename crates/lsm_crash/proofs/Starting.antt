@@ -213,8 +213,10 @@ module _ (k : Known) (number : ℕ) (bytes : List ℕ) (v : Version) (ok : MaySt
   turned_either : (d : Disk) → IsTurned d → Either d
   turned_either d t = inr (t.held, at_shows d current_name t.file text (length text) t.at)
 
-  settled_either : (d : Disk) → ((m : ℕ) → Has k.manifests m → m < 2 ^ 64) → ((u : Version) → Has k.versions u → AreThere u k.tables) → IsSettled d (started k number bytes v) → Either d
-  settled_either d small there i = inr (
+  pub started_either : (d : Disk) → ((m : ℕ) → Has k.manifests m → m < 2 ^ 64)
+      → ((u : Version) → Has k.versions u → AreThere u k.tables)
+      → IsSettled d (started k number bytes v) → Either d
+  started_either d small there i = inr (
     held_wider d (known_of (started k number bytes v)) l record {
       may_miss = λ e. absurd (let f : false ≡ true = e in cc);
       manifests = only number (Has (number ∷ k.manifests)) (inl refl);
@@ -230,9 +232,11 @@ module _ (k : Known) (number : ℕ) (bytes : List ℕ) (v : Version) (ok : MaySt
   last_call d e small there t (m, g, inl same) = either_at m e same (turned_either m (turned_gap d m g t))
   last_call d e small there t (m, g, inr (inl r)) = either_gap r.1 e r.3 (elim r.2 [
     | inl same ↦ either_at m r.1 same (turned_either m (turned_gap d m g t))
-    | inr h ↦ settled_either r.1 small there (seven m r.1 (turned_gap d m g t) h)
+    | inr h ↦ started_either r.1 small there (seven m r.1 (turned_gap d m g t) h)
   ])
-  last_call d e small there t (m, g, inr (inr r)) = settled_either e small there (settled_gap (started k number bytes v) r.0 e r.2 (seven m r.0 (turned_gap d m g t) r.1))
+  last_call d e small there t (m, g, inr (inr r)) =
+      started_either e small there
+      (settled_gap (started k number bytes v) r.0 e r.2 (seven m r.0 (turned_gap d m g t) r.1))
 
   rename_call : (d e : Disk) → IsTexted d (length text) → CutAmong k.tables (renamed T current_name ∷ folder_synced ∷ []) d e → Either e
   rename_call d e t (m, g, inl same) = either_at m e same (inl (texted_gap (length text) d m g t).ready.held)

@@ -1,5 +1,6 @@
 -- A disk is as wide as its rule says: instances of all that a crash may leave.
-use Rattle.std.proofs.Common.{◌≡◌, ℕ, ◌+◌, ◌≤◌, List, ◌++◌, length, take, refl, sym, ◌∙◌, ap, subst, inl, inr, arith, Some, None, zero-add, cond}
+use Rattle.std.proofs.Common.{◌≡◌, ℕ, ◌+◌, ◌≤◌, List, [], ◌∷◌, ◌++◌, length, take, refl, sym, ◌∙◌}
+use Rattle.std.proofs.Common.{ap, subst, inl, inr, arith, Some, None, zero-add, cond}
 use Rattle.std.specs.Prelude.{Option, Ok}
 use Rattle.std.specs.Str.{bytes_eq}
 use Rattle.std.proofs.lemmas.Bool.{cases_Bool}
@@ -7,11 +8,16 @@ use Rattle.std.proofs.lemmas.List.{length-append, length-take-le, take_all, take
 use Rattle.std.proofs.lemmas.Slice.Eq.{bytes_eq-Decides}
 use Rattle.lsm_codec.specs.Lists.{Has}
 use Rattle.lsm_folder.specs.Calls.{appended, made, renamed, removed, wrote}
+use Rattle.lsm_storage.specs.FileNames.{current_text, manifest_name, temporary_name}
 use Rattle.lsm_crash.specs.Disk.{Disk, Names, Shows, Step, filled, moved, named, set, with_file, with_names, without}
 use Rattle.lsm_crash.specs.Crash.{IsFileLeft, IsFileSpoilt, IsLeft, IsSpoilt, MayFind, MayFindBoth, front_of, mixed, rest_of, spoilt}
-use Rattle.lsm_crash.specs.Known.{Is, IsSound, Stands}
+use Rattle.lsm_crash.specs.Versions.{Tables}
+use Rattle.lsm_crash.specs.Known.{Is, IsSettled, IsSound, Stands, World, current_name}
+use Rattle.lsm_crash.specs.Among.{DoneAmong}
+use Rattle.lsm_crash.proofs.Names.{manifest_current}
 use Rattle.lsm_crash.proofs.Disks.{along, named_at, named_else, set_at, set_else, some_is}
-use Rattle.lsm_crash.proofs.Standing.{sure, take_past}
+use Rattle.lsm_crash.proofs.Standing.{stands_shows, sure, take_past}
+use Rattle.lsm_crash.proofs.Calls.{no_gap}
 
 front_left : (d : Disk) (fronts : ℕ → ℕ) (o : Option ℕ) → ((i : ℕ) → d.kept i ≤ fronts i) → IsFileLeft d o (front_of d fronts o)
 front_left d fronts None above = tt
@@ -163,4 +169,29 @@ renamed_may d e from to bytes old s apart (i, at, b) (j, there, c) (h, moves, is
       find_both x from to d.names new (Some bytes) (Some bytes) apart (inr s.now) (inl refl) was_from came,
       find_both x from to new d.names None (Some old) apart (inl refl) (inr s.now) gone was_to,
       find_both x from to new new None (Some bytes) apart (inl refl) (inl refl) gone came,
+    )
+
+-- ---- a manifest that is removed before the rename is durable
+
+pub dropped_early : (tables : Tables) (w : World) (number : ℕ) (d : Disk) → IsSettled d w
+    → Shows d (temporary_name number) (current_text number)
+    → (e : Disk)
+        × DoneAmong tables
+        (renamed (temporary_name number) current_name ∷ removed (manifest_name w.manifest) ∷ []) d e
+        × MayFindBoth e current_name (manifest_name w.manifest)
+        (Some (current_text w.manifest)) None
+dropped_early tables w number d s (i, at, b) =
+    let T = temporary_name number in
+    let M = manifest_name w.manifest in
+    let text = current_text w.manifest in
+    let was = stands_shows d current_name text s.sound s.current in
+    let d1 = with_names (moved d.names T current_name i) d in
+    let d2 = without M d1 in (
+      d2,
+      (d, no_gap tables d,
+          (d1, (i, at, refl), (d1, no_gap tables d1, (d2, refl, no_gap tables d2)))),
+      find_both d2 current_name M d.names d2.names (Some text) None
+          (λ e. manifest_current w.manifest (sym e)) (inr (inr s.sound.now)) (inl refl)
+      (whole_some d2 (d.names current_name) was.0 text was.1 was.2)
+          (whole_none d2 (d2.names M) (named_at d1.names M None)),
     )

@@ -60,6 +60,33 @@ CutAmong tables (s ∷ ss) d e = (m : Disk) × IsGap tables d m
     × ((e ≡ m) ⊎ (((fault : FolderFault) × (x : Disk) × Step m (s (Err fault)) x × IsGap tables x e)
     ⊎ ((mid : Disk) × Step m (s (Ok tt)) mid × CutAmong tables ss mid e)))
 
+-- A manifest of another number than this one is removed, whatever is answered, and others come
+-- behind it; or none is.
+abbrev pub Drops : Tables → (manifest : ℕ) → Disk → Disk → Type 0
+Drops tables manifest d e = (e ≡ d) ⊎ ((m : ℕ) × (m < 2 ^ 64) × (m ≡ manifest → ⊥)
+    × (answer : Answer) × (mid : Disk) × Step d (removed (manifest_name m) answer) mid
+    × IsGap tables mid e)
+
+-- All calls of the plan were Ok, among others; at last another manifest than this one may be
+-- removed.
+abbrev pub DoneDropping : Tables → (manifest : ℕ) → List Asked → Disk → Disk → Type 0
+DoneDropping tables manifest plan d e = (mid : Disk) × DoneAmong tables plan d mid
+    × Drops tables manifest mid e
+
+-- that was cut, in a call of the plan, in the removal, or behind it
+abbrev pub CutDropping : Tables → (manifest : ℕ) → List Asked → Disk → Disk → Type 0
+CutDropping tables manifest plan d e = CutAmong tables plan d e
+    ⊎ DoneDropping tables manifest plan d e
+
+-- An operation was answered Ok. A start removes the manifest that it follows; behind any operation
+-- each manifest may be removed but the one that is counted on then.
+abbrev pub DoneOf : World → Operation → Disk → Disk → Type 0
+DoneOf w o d e = DoneDropping (after w o).tables (after w o).manifest (plan_of w o) d e
+
+-- it was cut, or refused anyhow
+abbrev pub CutOf : World → Operation → Disk → Disk → Type 0
+CutOf w o d e = CutDropping (after w o).tables (after w o).manifest (plan_of w o) d e
+
 -- A refusal after which the database goes on: a table was put or not, or removed or not, and is not
 -- counted on; of a record nothing was appended, since memory was refused; of a new manifest a call
 -- before the one that gives `CURRENT` its new text was refused.
@@ -94,8 +121,7 @@ Goes w (Counts number image ∷ es) u d e = (number < 2 ^ 64)
     × ((m : Disk) × IsGap w.tables d m × Stands m (table_name number) image
     × Goes (counting number image w) es u m e)
 Goes w (Does o ∷ es) u d e = Allows w o
-    × ((mid : Disk) × ((DoneAmong (after w o).tables (plan_of w o) d mid
-    × Goes (after w o) es u mid e)
+    × ((mid : Disk) × ((DoneOf w o d mid × Goes (after w o) es u mid e)
     ⊎ (FailsAmong w o d mid × Goes (failed w o) es u mid e)))
 
 -- calls of any kind, one after another, none of which touches what has the name

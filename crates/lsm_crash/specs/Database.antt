@@ -41,8 +41,8 @@ use Rattle.lsm_crash.specs.Crash.{Found, IsLeft}
 use Rattle.lsm_crash.specs.Versions.{ComesTo, Tables, Version}
 use Rattle.lsm_crash.specs.Known.{Known, Stands, World, current_name, known_of, nothing}
 use Rattle.lsm_crash.specs.Operations.{Allows, Append, Operation, Put, Remove, Start, after, either}
-use Rattle.lsm_crash.specs.Operations.{plan_of, started}
-use Rattle.lsm_crash.specs.Among.{CutAmong, DoneAmong, FailsAmong, IsGap, counting, failed}
+use Rattle.lsm_crash.specs.Operations.{started}
+use Rattle.lsm_crash.specs.Among.{CutOf, DoneAmong, DoneOf, FailsAmong, IsGap, counting, failed}
 use Rattle.lsm_crash.specs.States.{Finds}
 
 -- ---- what a call asks of its shelf
@@ -155,23 +155,21 @@ AllowsAll w (o ∷ os) = Allows w o × AllowsAll (after w o) os
 -- all were answered Ok
 abbrev pub AllDone : World → List Operation → World → Disk → Disk → Type 0
 AllDone w [] u d e = (u ≡ w) × IsGap w.tables d e
-AllDone w (o ∷ os) u d e = (mid : Disk) × DoneAmong (after w o).tables (plan_of w o) d mid
-    × AllDone (after w o) os u mid e
+AllDone w (o ∷ os) u d e = (mid : Disk) × DoneOf w o d mid × AllDone (after w o) os u mid e
 
 -- All of the first ones were Ok; then one was refused so that the database goes on, if there is
 -- any.
 abbrev pub AllFail : World → (os next : List Operation) → World → Disk → Disk → Type 0
 AllFail w [] [] u d e = (u ≡ w) × IsGap w.tables d e
 AllFail w [] (o ∷ next) u d e = FailsAmong w o d e × (u ≡ failed w o)
-AllFail w (o ∷ os) next u d e = (mid : Disk) × DoneAmong (after w o).tables (plan_of w o) d mid
+AllFail w (o ∷ os) next u d e = (mid : Disk) × DoneOf w o d mid
     × AllFail (after w o) os next u mid e
 
 -- A front of them was Ok, and the next one was cut by a crash, or refused anyhow; so much is known.
 abbrev pub AllCut : World → List Operation → Known → Disk → Disk → Type 0
 AllCut w [] known d e = (known ≡ known_of w) × IsGap w.tables d e
-AllCut w (o ∷ os) known d e = (CutAmong (after w o).tables (plan_of w o) d e × (known ≡ either w o))
-    ⊎ ((mid : Disk) × DoneAmong (after w o).tables (plan_of w o) d mid
-    × AllCut (after w o) os known mid e)
+AllCut w (o ∷ os) known d e = (CutOf w o d e × (known ≡ either w o))
+    ⊎ ((mid : Disk) × DoneOf w o d mid × AllCut (after w o) os known mid e)
 
 -- ---- calls one after another
 

@@ -7,9 +7,9 @@ use Rattle.lsm_crash.specs.Disk.{Disk, Shows}
 use Rattle.lsm_crash.specs.Crash.{Found, IsFresh, IsLeft}
 use Rattle.lsm_crash.specs.Versions.{ComesTo, Version}
 use Rattle.lsm_crash.specs.Known.{IsHeld, IsSettled, Known, World, current_name, known_of, nothing}
-use Rattle.lsm_crash.specs.Operations.{Allows, MayStart, Operation, after, either, plan_of, started}
+use Rattle.lsm_crash.specs.Operations.{Allows, MayStart, Operation, either, started}
 use Rattle.lsm_crash.specs.Operations.{starting}
-use Rattle.lsm_crash.specs.Among.{CutAmong, DoneAmong, Event, Goes, IsGap}
+use Rattle.lsm_crash.specs.Among.{CutDropping, CutOf, DoneDropping, Event, Goes, IsGap}
 
 -- The world that is read from a folder: `CURRENT` names its manifest, which has its bytes, and
 -- these come to its version.
@@ -74,14 +74,14 @@ behind (Empties known found) = Unsure nothing
 -- when it may come to pass, and what it makes of the disk
 abbrev pub Passes : Move → Disk → Disk → Type 0
 Passes (Runs w events u) d e = Goes w events u d e
-Passes (Breaks w o) d e = Allows w o × CutAmong (after w o).tables (plan_of w o) d e
+Passes (Breaks w o) d e = Allows w o × CutOf w o d e
 Passes (Rests w) d e = e ≡ d
 Passes (Starts known number bytes version) d e = MayStart known number bytes version
-    × DoneAmong known.tables (start_plan number bytes) d e
+    × DoneDropping known.tables number (start_plan number bytes) d e
 Passes (Stops known number bytes version) d e = MayStart known number bytes version
-    × CutAmong known.tables (start_plan number bytes) d e
+    × CutDropping known.tables number (start_plan number bytes) d e
 Passes (StopsUnseen known number bytes version) d e = MayStart known number bytes version
-    × CutAmong known.tables (start_plan number bytes) d e
+    × CutDropping known.tables number (start_plan number bytes) d e
     × (Shows e current_name (current_text number) → ⊥)
 Passes (Others known) d e = IsGap known.tables d e
 Passes (Crashes known found w) d e = IsLeft d found × IsFresh found e × IsRead known found w

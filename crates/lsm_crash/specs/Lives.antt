@@ -15,7 +15,7 @@ use Rattle.lsm_crash.specs.Crash.{Found, IsFresh, IsLeft}
 use Rattle.lsm_crash.specs.Versions.{ComesTo, Version}
 use Rattle.lsm_crash.specs.Known.{Known, World, current_name, known_of, nothing}
 use Rattle.lsm_crash.specs.Operations.{Start, either, started, starting}
-use Rattle.lsm_crash.specs.Among.{CutAmong, DoneAmong}
+use Rattle.lsm_crash.specs.Among.{CutAmong, CutDropping, DoneAmong, DoneDropping}
 use Rattle.lsm_crash.specs.History.{IsRead}
 use Rattle.lsm_crash.specs.Database.{Answered, Builds, Collect, Deed, Gather, HasMade, Ingest}
 use Rattle.lsm_crash.specs.Database.{Install, IsCut, IsMade, IsState, Looks, Opens, Refused, Turn, Works}
@@ -76,14 +76,15 @@ abbrev pub Begins : Type 0 → TableId → ℕ → Held → (w u : World) → (d
 Begins honest board limit h w u d e = (v : Version) × (asks : List Asked)
     × IsState honest board h × (p : Opens honest limit h d) × HasMade asks p.was p.is
     × ComesTo h.journal.bytes v
-    × DoneAmong w.tables (plans_of p.begun.before.number asks) d e × (u ≡ opened_world h v w)
+    × DoneDropping w.tables h.journal.number (plans_of p.begun.before.number asks) d e
+    × (u ≡ opened_world h v w)
 
 -- the opening was cut; so much is known
 abbrev pub BeginsCut : Type 0 → TableId → ℕ → Held → World → Known → (d e : Disk) → Type 0
 BeginsCut honest board limit h w known d e = (v : Version) × (asks : List Asked)
     × IsState honest board h × (p : Opens honest limit h d) × HasMade asks p.was p.is
     × ComesTo h.journal.bytes v
-    × CutAmong w.tables (plans_of p.begun.before.number asks) d e
+    × CutDropping w.tables h.journal.number (plans_of p.begun.before.number asks) d e
     × (known ≡ either w (Start h.journal.number h.journal.bytes v))
 
 -- from the disk that is opened

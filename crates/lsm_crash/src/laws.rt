@@ -8,7 +8,8 @@ ghost use Rattle.lsm_folder.specs.Calls.{Answer, Call, made, wrote, appended, sy
 ghost use Rattle.lsm_folder.specs.Calls.{folder_synced, renamed, removed, loaded, locked};
 ghost use Rattle.lsm_folder.specs.declared.folder_fault.FolderFault as folder_fault;
 ghost use Rattle.lsm_folder.specs.declared.lock_kind.LockKind.{LockKind};
-ghost use Rattle.lsm_storage.specs.FileNames.{table_name, manifest_name, current_text};
+ghost use Rattle.lsm_storage.specs.FileNames.{table_name, manifest_name, temporary_name};
+ghost use Rattle.lsm_storage.specs.FileNames.{current_text};
 ghost use Rattle.lsm_storage.specs.Plans.{Step as Asked, AppendStopped, PutStopped, Refused};
 ghost use Rattle.lsm_storage.specs.Plans.{RemoveStopped, StartStopped, StartedFrom, append_plan};
 ghost use Rattle.lsm_storage.specs.Plans.{done, manifest_measured, name_plan, put_plan};
@@ -30,8 +31,8 @@ ghost use Rattle.lsm_crash.specs.Known.{Recovers, Stands, World, current_name, k
 ghost use Rattle.lsm_crash.specs.Known.{world_of};
 ghost use Rattle.lsm_crash.specs.Operations.{Allows, Append, MayStart, Operation, Put, Remove};
 ghost use Rattle.lsm_crash.specs.Operations.{Start, after, either, plan_of, started, starting};
-ghost use Rattle.lsm_crash.specs.Among.{Cleans, CutAmong, DoneAmong, Event, Goes, IsAside, IsGap};
-ghost use Rattle.lsm_crash.specs.Among.{Spares};
+ghost use Rattle.lsm_crash.specs.Among.{Cleans, CutAmong, CutDropping, CutOf, DoneAmong};
+ghost use Rattle.lsm_crash.specs.Among.{DoneDropping, DoneOf, Event, Goes, IsAside, IsGap, Spares};
 ghost use Rattle.lsm_crash.specs.History.{History, IsPhase, IsRead, Move, Phase};
 
 /// A crash in any call of an operation, after any run of operations, among calls of other threads:
@@ -40,7 +41,7 @@ ghost use Rattle.lsm_crash.specs.History.{History, IsPhase, IsRead, Move, Phase}
 pub fn crashes_leave_before_or_after()
     ensures { (es : List Event) (o : Operation) (d mid e : Disk) (w u : World) (found : Found)
         → IsSettled d w → Goes w es u d mid
-        → Allows u o → CutAmong (after u o).tables (plan_of u o) mid e → IsLeft e found
+        → Allows u o → CutOf u o mid e → IsLeft e found
         → Recovers (either u o) found }
 {}
 
@@ -50,7 +51,7 @@ pub fn runs_are_durable()
     ensures run { (es : List Event) (d e : Disk) (w u : World) → IsSettled d w → Goes w es u d e
         → IsSettled e u }
     ensures done { (o : Operation) (d e : Disk) (w : World) → IsSettled d w → Allows w o
-        → DoneAmong (after w o).tables (plan_of w o) d e → IsSettled e (after w o) }
+        → DoneOf w o d e → IsSettled e (after w o) }
 {}
 
 /// What is found after a crash is settled once the folder is used again, so the first law holds of
@@ -75,7 +76,7 @@ pub fn tables_stand_once_put()
 /// much is known, calls of other threads leave it, and all else that follows may start from that.
 pub fn refused_operations_leave_before_or_after()
     ensures refused { (o : Operation) (d e : Disk) (w : World) → IsSettled d w → Allows w o
-        → CutAmong (after w o).tables (plan_of w o) d e → IsHeld e (either w o) }
+        → CutOf w o d e → IsHeld e (either w o) }
     ensures settled { (d : Disk) (w : World) → IsSettled d w → IsHeld d (known_of w) }
     ensures others { (known : Known) (d e : Disk) → IsHeld d known → IsGap known.tables d e
         → IsHeld e known }
@@ -87,11 +88,11 @@ pub fn refused_operations_leave_before_or_after()
 pub fn starts_settle_what_is_known()
     ensures done { (known : Known) (number : ℕ) (bytes : List ℕ) (v : Version) (d e : Disk)
         → IsHeld d known → MayStart known number bytes v
-        → DoneAmong known.tables (start_plan number bytes) d e
+        → DoneDropping known.tables number (start_plan number bytes) d e
         → IsSettled e (started known number bytes v) }
     ensures cut { (known : Known) (number : ℕ) (bytes : List ℕ) (v : Version) (d e : Disk)
         → IsHeld d known → MayStart known number bytes v
-        → CutAmong known.tables (start_plan number bytes) d e
+        → CutDropping known.tables number (start_plan number bytes) d e
         → IsHeld e known ⊎ (IsHeld e (starting known number v)
         × Shows e current_name (current_text number)) }
 {}
@@ -273,12 +274,17 @@ pub fn calls_of_other_threads_are_aside()
 {}
 
 /// The laws are not empty: on a disk without files `CURRENT` is not there; each plan can be
-/// answered Ok, that of a put where no file has the table's name; some disk is settled; and each
-/// sound disk may crash, and what is found may be used again.
+/// answered Ok, that of a put where no file has the table's name; behind a start any other manifest
+/// may be gone; some disk is settled; and each sound disk may crash, and what is found may be used
+/// again.
 pub fn premises_are_met()
     ensures vacant { IsVacant empty_disk }
     ensures start { (tables : Tables) (number : ℕ) (bytes : List ℕ) (d : Disk)
         → (e : Disk) × DoneAmong tables (start_plan number bytes) d e }
+    ensures follow { (tables : Tables) (number other : ℕ) (bytes : List ℕ) (d : Disk)
+        → other < 2 ^ 64 → (other ≡ number → ⊥)
+        → (e : Disk) × DoneDropping tables number (start_plan number bytes) d e
+        × (e.names (manifest_name other) ≡ None) }
     ensures put { (tables : Tables) (number : ℕ) (image : List ℕ) (d : Disk)
         → d.names (table_name number) ≡ None
         → (e : Disk) × DoneAmong tables (put_plan number image) d e }
@@ -354,6 +360,8 @@ pub fn disks_may()
 /// Other orders are not safe, so the laws say something of these: a table that is not synced may be
 /// found empty, and where the folder is not synced, not at all; a record that is not synced may be
 /// lost; and where a manifest gets its name before it is synced, `CURRENT` may name an empty one.
+/// Where the manifest that is followed is removed before the rename is durable, `CURRENT` may name
+/// it, and it may be gone.
 pub fn other_orders_lose()
     ensures table { (tables : Tables) (number : ℕ) (image : List ℕ) (d : Disk)
         → d.names (table_name number) ≡ None
@@ -376,6 +384,13 @@ pub fn other_orders_lose()
         d e
         × IsLeft e found × (found current_name ≡ Some (current_text number))
         × (found (manifest_name number) ≡ Some []) }
+    ensures early { (tables : Tables) (w : World) (number : ℕ) (d : Disk) → IsSettled d w
+        → Shows d (temporary_name number) (current_text number)
+        → (e : Disk)
+        × DoneAmong tables (renamed (temporary_name number) current_name
+        ∷ removed (manifest_name w.manifest) ∷ []) d e
+        × MayFindBoth e current_name (manifest_name w.manifest) (Some (current_text w.manifest))
+        None }
 {}
 
 /// The record of the one edit that spells a shape, at the start of a manifest, comes to the shape.

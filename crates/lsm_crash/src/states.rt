@@ -35,7 +35,7 @@ ghost use Rattle.lsm_crash.specs.Crash.{Found, IsFresh, IsLeft};
 ghost use Rattle.lsm_crash.specs.Known.{IsHeld, IsSettled, IsVacant, Known, World};
 ghost use Rattle.lsm_crash.specs.Known.{current_name, nothing};
 ghost use Rattle.lsm_crash.specs.Operations.{Operation, started};
-ghost use Rattle.lsm_crash.specs.Among.{CutAmong, DoneAmong, counting};
+ghost use Rattle.lsm_crash.specs.Among.{CutAmong, CutDropping, DoneAmong, DoneDropping, counting};
 ghost use Rattle.lsm_crash.specs.States.{Describes, Finds, IsWorldOf, Shown};
 ghost use Rattle.lsm_crash.specs.Database.{AllowsAll, Asks, Deed, IsIngestOf, IsCut, IsReady};
 ghost use Rattle.lsm_crash.specs.Database.{IsState, Turn};
@@ -180,20 +180,21 @@ pub fn databases_open_on_what_was_found<P: Premise>()
         (asks : List Asked)
         → IsState P.holds board h → IsSettled d w → (p : Opens P.holds limit h d)
         → HasMade asks p.was p.is → ComesTo h.journal.bytes v
-        → DoneAmong w.tables (plans_of p.begun.before.number asks) d e
+        → DoneDropping w.tables h.journal.number (plans_of p.begun.before.number asks) d e
         → IsSettled e (opened_world h v w) × IsWorldOf h (opened_world h v w) }
     ensures cut { (board : TableId) (limit : ℕ) (h : Held) (d e : Disk) (w : World) (v : Version)
         (asks : List Asked) (found : Found)
         → IsState P.holds board h → IsSettled d w → (p : Opens P.holds limit h d)
         → HasMade asks p.was p.is → ComesTo h.journal.bytes v
-        → CutAmong w.tables (plans_of p.begun.before.number asks) d e → IsLeft e found
+        → CutDropping w.tables h.journal.number (plans_of p.begun.before.number asks) d e
+        → IsLeft e found
         → Finds h.slots.version found }
     ensures unsure { (board : TableId) (limit : ℕ) (h : Held) (d e : Disk) (known : Known)
         (v : Version) (asks : List Asked)
         → IsState P.holds board h → IsHeld d known → (p : Opens P.holds limit h d)
         → HasMade asks p.was p.is
         → ((m : ℕ) → Has known.manifests m → m < h.journal.number) → ComesTo h.journal.bytes v
-        → DoneAmong known.tables (plans_of p.begun.before.number asks) d e
+        → DoneDropping known.tables h.journal.number (plans_of p.begun.before.number asks) d e
         → IsSettled e (opened_world h v (started known h.journal.number h.journal.bytes v))
         × IsWorldOf h (opened_world h v (started known h.journal.number h.journal.bytes v))
         × ((s : Version) × Has known.versions s × Describes s h.slots.version) }
@@ -324,7 +325,8 @@ pub fn premises_of_runs_are_met<P: Premise>()
         × Works P.holds board old new (Answered deed ∷ []) w u d e }
     ensures opened { (limit : ℕ) (h : Held) (d : Disk) (asks : List Asked) (tables : Tables)
         → (p : Opens P.holds limit h d) → HasMade asks p.was p.is
-        → (e : Disk) × DoneAmong tables (plans_of p.begun.before.number asks) d e }
+        → (e : Disk)
+        × DoneDropping tables h.journal.number (plans_of p.begun.before.number asks) d e }
     ensures small { (board : TableId) (h new : Held) (first asks : List Asked) (ws : List Write)
         (r : Ingested) (v s : Version) → IsState P.holds board h → IsState P.holds board new
         → (m : IsMade h) → HasMade first m.was m.now → ComesTo h.journal.bytes v

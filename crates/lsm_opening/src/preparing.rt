@@ -116,8 +116,8 @@ fn look_and_tidy<C: FolderCalls, R: Wait>(
 }
 
 /// Takes the lock of a folder, looks which database is meant there, and which logs are beside it,
-/// and removes what the last openings of this database left behind: manifests that `CURRENT` does
-/// not name, and temporary files, and no other file. No file is made but the lock's.
+/// and removes what crashes of this database left behind: manifests that `CURRENT` does not name,
+/// and temporary files, and no other file. No file is made but the lock's.
 ///
 /// Nothing is removed beside a log that is not empty, where logs are looked at; nor where the
 /// manifest that `CURRENT` names can't be read, has no record, ends with bytes that hold no whole

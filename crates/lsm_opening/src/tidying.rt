@@ -1,5 +1,5 @@
-//! What an opening leaves behind is removed by the next one: each begins a manifest, and `CURRENT`
-//! names the last.
+//! What a crash leaves behind is removed by the next opening: manifests that `CURRENT` does not
+//! name, and temporary files.
 
 ghost use Rattle.std.specs.Prelude.{◌≡◌, ◌∷◌, List, ℕ, Ok, Result, IfErr, IfOk, MatchBool};
 ghost use Rattle.std.specs.Prelude.{MatchOption, OnErr, OnOk, map, string_bytes};

@@ -8,6 +8,7 @@ pub mod RangesBelow
 pub mod PlanFault
 pub mod Gathering
 pub mod Joining
+pub mod Outermost
 pub mod Manual
 -- What private functions and proofs cite alone
 pub mod TableRanges

@@ -15,7 +15,7 @@ use lsm_table::{Naming, Registry, Shelf, TableReceipt, TableRef};
 use lsm_version::Version;
 
 /// Whether a table is below half the target size.
-fn is_small<N: Naming, S: Shelf>(
+pub(crate) fn is_small<N: Naming, S: Shelf>(
     registry: &Registry<N, S>,
     table: &TableRef<N, S>,
     target_size: u64,

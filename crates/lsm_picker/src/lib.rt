@@ -20,14 +20,15 @@ mod conflicts;
 mod move_rule;
 mod plan_maker;
 
-// Which plan: by the scores of levels, by a range that is asked for, or by small files that are
-// joined; and which files of level 0 become one.
+// Which plan: by the scores of levels, by a range that is asked for, by a file of level 0 that
+// needs no merge, or by small files that are joined; and which files of level 0 become one.
 mod candidates;
 mod choice;
 mod gathering;
 mod joining;
 mod level_scores;
 mod manual;
+mod outermost;
 mod plan_fault;
 mod range_plan;
 
@@ -41,7 +42,8 @@ pub use gathering::{level_zero_is_ready, to_gather};
 pub use joining::span_to_join;
 pub use level_scores::scores;
 pub use manual::{is_cleared, span_to_clear};
-pub use move_rule::is_move;
+pub use move_rule::{is_large_move, is_move};
+pub use outermost::outermost_span;
 pub use plan::Plan;
 pub use plan_fault::PlanFault;
 pub use range_plan::plan_range;

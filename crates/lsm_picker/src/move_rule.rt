@@ -2,11 +2,12 @@
 
 ghost use Rattle.std.specs.Prelude.{◌≡◌, ◌<◌, ◌^◌, ◌↔◌, IsTrue, suc};
 ghost use Rattle.std.specs.List.{filter};
-ghost use Rattle.lsm_picker.specs.Moves.{IsMovable};
+ghost use Rattle.lsm_picker.specs.Moves.{IsLargeMove, IsMovable};
 ghost use Rattle.lsm_table.specs.Registry.{bytes_of};
 ghost use Rattle.lsm_picker.specs.TablePlans.{tables_over};
 ghost use Rattle.lsm_version.specs.Overlap.{meets};
 
+use crate::gathering::is_small;
 use crate::plan::Plan;
 use crate::table_range::meets;
 use lsm_table::{Naming, Registry, Shelf, TableReceipt, TableRef};
@@ -65,4 +66,18 @@ pub fn is_move<N: Naming, S: Shelf>(
     plan.upper().len() == 1
         && plan.lower().is_empty()
         && bytes_below(registry, version, plan) <= 10 * u128::from(target_size)
+}
+
+/// Whether a plan that `choose` gave only moves a file that is not small: `is_move` holds of it,
+/// and its one input has half the target size at least.
+pub fn is_large_move<N: Naming, S: Shelf>(
+    registry: &Registry<N, S>,
+    version: &Version<N, S>,
+    plan: &Plan<N, S>,
+    target_size: u64,
+) -> bool
+    ensures { IsTrue result ↔ IsLargeMove version.now plan.now target_size }
+{
+    is_move(registry, version, plan, target_size)
+        && !is_small(registry, &plan.upper()[0], target_size)
 }

@@ -133,10 +133,11 @@ pub trait Shelf: Drop + Send + Sync {
         ensures counts { CountedBy result (told self.old) (told self.new) };
 
     /// Writes a new manifest and makes it the directory's. `Taken` where the directory's manifest
-    /// has this number; a file of that name which is not the directory's manifest is replaced. No
-    /// manifest is removed. `Device` where the device fails, or where a shelf on a folder is handed
-    /// more than 1 GiB; a shelf in memory has no such limit. After `Device` the directory names the
-    /// old manifest or the new one whole, and after any other refusal the old one.
+    /// has this number; a file of that name which is not the directory's manifest is replaced. Once
+    /// the new one is the directory's, the old one is removed, if it can be. `Device` where the
+    /// device fails, or where a shelf on a folder is handed more than 1 GiB; a shelf in memory has
+    /// no such limit. After `Device` the directory names the old manifest or the new one whole, and
+    /// after any other refusal the old one.
     fn start_manifest<R: Wait>(
         &mut self,
         rt: &R,

@@ -17,6 +17,7 @@ use Rattle.lsm_version.specs.Versions.{AreInOrder, IsSound, IsWhole, Levels, fil
 use Rattle.lsm_picker.specs.Choice.{HasNoChoice, IsChoice}
 use Rattle.lsm_picker.specs.Gathering as picker
 use Rattle.lsm_picker.specs.Joining.{IsJoined, Span}
+use Rattle.lsm_picker.specs.Outermost.{HasNoOutermost, IsOverOutermost}
 use Rattle.lsm_picker.specs.Reservations.{IsClear, IsLeastConflict, Reserved, conflicts, reserved_of}
 use Rattle.lsm_picker.specs.TablePlans.{IsPlanFrom, StandsIn, TablePlan, files_over, plan_of}
 use Rattle.lsm_picker.specs.TablePlans as planned
@@ -27,7 +28,11 @@ use Rattle.lsm_live.specs.Planned.{IsWorkOf}
 use Rattle.lsm_live.specs.Reserving.{reserved_jobs}
 use Rattle.lsm_live.proofs.CallerLemmas.{live_has, live_says, lives_added, reserved_has}
 use Rattle.lsm_state.specs.Held.{HasInputs, Held, IsLawfulState, plain}
-use Rattle.lsm_state.specs.Reserving.{HasOrderedInputs, IsChosen, IsClosedPlan, IsOfMoment, IsPlanAt, IsRangePlan, IsRangeRefusal, IsReserveRefusal, IsReserving, plan_in, reserved, HasNoJoining, HasNoNext, IsReady, WaitsForJoining, IsJoining, IsNext, IsNextRefusal, IsPlanRefusal}
+use Rattle.lsm_state.specs.Reserving.{HasOrderedInputs, IsChosen, IsClosedPlan, IsOfMoment}
+use Rattle.lsm_state.specs.Reserving.{IsPlanAt, IsRangePlan, IsRangeRefusal, IsReserveRefusal}
+use Rattle.lsm_state.specs.Reserving.{IsReserving, plan_in, reserved, GoesBefore, HasNoneAtOnce}
+use Rattle.lsm_state.specs.Reserving.{HasNoNext, IsReady, NoneGoesBefore, WaitsForOthers, IsNext}
+use Rattle.lsm_state.specs.Reserving.{IsNextRefusal, IsPlanRefusal}
 use Rattle.lsm_state.specs.declared.state_fault.StateFault.{StateFault}
 use Rattle.lsm_state.specs.declared.state_fault.StateFault.TheVariants.{OutOfMemory, Shelf, Read, BadLevel, EmptyBatch, KeyOrder, TooLarge, LevelZeroFull, SequencesSpent, Halted, UnknownSnapshot, Conflict, UnknownTicket, NumbersSpent, Stale, SlotsHeld, VersionsSpent, PinsSpent}
 use Rattle.lsm_state.proofs.StateLaws.{agreed, stepped}
@@ -246,33 +251,65 @@ range_refused honest h level from to PinsSpent low unspent other r = absurd r
 
 pub closed_next : (h : Held) (p : TablePlan) → IsNext h p → IsClosedPlan h p
 closed_next h p (inl chosen) = closed_choice h h.slots.version (reserved_jobs h.live) p refl chosen.0
-closed_next h p (inr (inl joining)) =
-    (let j = joining.1 in (files_over h.slots.version j.span.level j.span.from j.span.to, j.planned))
-closed_next h p (inr (inr chosen)) = closed_choice h h.slots.version (reserved_jobs h.live) p refl chosen.1
+closed_next h p (inr (inl down)) =
+    (let d = down.1 in (files_over h.slots.version d.span.level d.span.from d.span.to, d.planned))
+closed_next h p (inr (inr (inl joining))) =
+    (let j = joining.2 in
+        (files_over h.slots.version j.span.level j.span.from j.span.to, j.planned))
+closed_next h p (inr (inr (inr chosen))) =
+    closed_choice h h.slots.version (reserved_jobs h.live) p refl chosen.2
 
 pub refused_next : (honest : Type 0) (h : Held) (p : TablePlan) (e : StateFault) → h.halted ≡ false → (honest → IsNext h p) → ((e ≡ NumbersSpent) × (h.next_ticket ≡ 2 ^ 64 - 1)) ⊎ (e ≡ OutOfMemory)
     → IsNextRefusal honest h e
 refused_next honest h p e going next (inl x) = subst (λ (f : StateFault). IsNextRefusal honest h f) (sym x.0) (going, x.1, λ y. (p, next y))
 refused_next honest h p e going next (inr x) = subst (λ (f : StateFault). IsNextRefusal honest h f) (sym x) going
 
--- where nothing is chosen, what is joined is next
-pub next_unchosen : (h : Held) (o : Option TablePlan) → HasNoChoice h.slots.version (reserved_jobs h.live) → MatchOption o (HasNoJoining h) (λ p. IsJoining h p) → MatchOption o (HasNoNext h) (λ p. IsNext h p)
-next_unchosen h None none m = (m, inl none)
-next_unchosen h (Some p) none m = inr (inl (inl none, m))
+-- what goes before a choice that is not made, or waits, is next
+before_next : (h : Held) (p : TablePlan) → HasNoneAtOnce h → GoesBefore h p → IsNext h p
+before_next h p none (inl down) = inr (inl (none, down))
+before_next h p none (inr joining) = inr (inr (inl (none, joining.0, joining.1)))
+
+pub next_unchosen : (h : Held) (o : Option TablePlan)
+    → HasNoChoice h.slots.version (reserved_jobs h.live)
+    → MatchOption o (NoneGoesBefore h) (λ p. GoesBefore h p)
+    → MatchOption o (HasNoNext h) (λ p. IsNext h p)
+next_unchosen h None none m = (m.0, m.1, inl none)
+next_unchosen h (Some p) none m = before_next h p (inl none) m
 
 pub match_none : {A : Type 0} (o : Option A) (P : Type 0) (Q : A → Type 0) → ((x : A) → o ≡ Some x → ⊥) → MatchOption o P Q → P
 match_none None P Q f m = m
 match_none (Some x) P Q f m = absurd (f x refl)
 
--- where the choice waits, what is joined is next, or else the choice, where level 0 is ready
-pub next_joined : (h : Held) (chosen p : TablePlan) → WaitsForJoining h chosen → IsJoining h p → IsNext h p
-next_joined h chosen p w j = inr (inl (inr (chosen, w), j))
+-- where the choice waits, what goes before it is next, or else the choice, where level 0 is ready
+pub next_before : (h : Held) (chosen p : TablePlan) → WaitsForOthers h chosen → GoesBefore h p
+    → IsNext h p
+next_before h chosen p w b = before_next h p (inr (chosen, w)) b
 
-pub next_chosen : (h : Held) (p : TablePlan) → HasNoJoining h → IsChosen h p → IsReady h → IsNext h p
-next_chosen h p none c ready = inr (inr (none, c, ready))
+pub next_chosen : (h : Held) (p : TablePlan) → NoneGoesBefore h → IsChosen h p → IsReady h
+    → IsNext h p
+next_chosen h p none c ready = inr (inr (inr (none.0, none.1, c, ready)))
 
-pub next_waits : (h : Held) (chosen : TablePlan) → HasNoJoining h → WaitsForJoining h chosen → (IsReady h → ⊥) → HasNoNext h
-next_waits h chosen none w waits = (none, inr (chosen, w, waits))
+pub next_waits : (h : Held) (chosen : TablePlan) → NoneGoesBefore h → WaitsForOthers h chosen
+    → (IsReady h → ⊥) → HasNoNext h
+next_waits h chosen none w waits = (none.0, none.1, inr (chosen, w, waits))
+
+-- ---- the outermost file
+
+pub outermost_low : (v : Levels) (rs : List Reserved) (s : Span) → IsOverOutermost v rs s
+    → s.level ≤ 5
+outermost_low v rs s o = (let zero = o.level in omega arith)
+
+pub outermost_of : (h : Held) (v : Levels) (rs : List Reserved) (o : Option Span)
+    → v ≡ h.slots.version → rs ≡ reserved_jobs h.live
+    → MatchOption o (HasNoOutermost v rs) (λ s. IsOverOutermost v rs s)
+    → MatchOption o (HasNoOutermost h.slots.version (reserved_jobs h.live))
+        (λ s. IsOverOutermost h.slots.version (reserved_jobs h.live) s)
+outermost_of h v rs o same live m =
+    subst
+        (λ (x : Levels). MatchOption o (HasNoOutermost x (reserved_jobs h.live))
+        (λ s. IsOverOutermost x (reserved_jobs h.live) s)) same
+    (subst (λ (x : List Reserved). MatchOption o (HasNoOutermost v x) (λ s. IsOverOutermost v x s))
+        live m)
 
 pub joined_low : (v : Levels) (target_size : ℕ) (s : Span) → IsJoined v target_size s → s.level ≤ 5
 joined_low v target_size s j = j.inside

@@ -9,7 +9,8 @@ use Rattle.lsm_model.specs.Plain.{Reserves, floor_of}
 use Rattle.lsm_picker.specs.Choice.{HasNoChoice, IsChoice}
 use Rattle.lsm_picker.specs.Gathering as picker
 use Rattle.lsm_picker.specs.Joining.{IsJoined, IsSettled, Span}
-use Rattle.lsm_picker.specs.Moves.{IsMovable}
+use Rattle.lsm_picker.specs.Moves.{IsLargeMove}
+use Rattle.lsm_picker.specs.Outermost.{HasNoOutermost, IsOverOutermost}
 use Rattle.lsm_picker.specs.RangesBelow.{AreRangesBelow}
 use Rattle.lsm_picker.specs.Reservations.{IsClear, IsHeldUp, IsLeastConflict}
 use Rattle.lsm_picker.specs.TablePlans.{IsPlanFrom, StandsIn, TablePlan, files_over, plan_of}
@@ -113,27 +114,45 @@ IsRangeRefusal honest h level from to NumbersSpent =
 IsRangeRefusal honest h level from to OutOfMemory = (h.halted ≡ false) × (level ≤ 5)
 IsRangeRefusal honest h level from to e = ⊥
 
--- ---- what workers reserve: the choice below level 0 or that moves a file, then a run of files that
--- are joined, then the choice of level 0 where that is ready (this project's rule)
+-- ---- what workers reserve: the choice below level 0, or that moves a file which is not small;
+-- then the outermost file of level 0; then a run of files that are joined; then the choice of level
+-- 0 where that is ready (this project's rule)
 
--- a job of the plan only moves a file
-abbrev pub Moves : Held → TablePlan → Type 0
-Moves h p = IsMovable h.slots.version p h.options.target_size
+-- a job of the plan only moves a file, and that one is not small
+abbrev pub MovesLarge : Held → TablePlan → Type 0
+MovesLarge h p = IsLargeMove h.slots.version p h.options.target_size
 
--- it is below level 0, or only moves a file
+-- it is below level 0, or only moves a file that is not small
 abbrev pub GoesAtOnce : Held → TablePlan → Type 0
-GoesAtOnce h p = (1 ≤ p.level) ⊎ Moves h p
+GoesAtOnce h p = (1 ≤ p.level) ⊎ MovesLarge h p
 
--- the choice has to wait until nothing can be joined
-pub record WaitsForJoining (h : Held) (p : TablePlan) : Type 0 where
+-- the choice has to wait until there is no outermost file, and nothing can be joined
+pub record WaitsForOthers (h : Held) (p : TablePlan) : Type 0 where
   pub chosen : IsChosen h p
   pub level : p.level ≡ 0
-  pub no_move : Moves h p → ⊥
+  pub no_move : MovesLarge h p → ⊥
 
 -- there is no choice, or it has to wait
 abbrev pub HasNoneAtOnce : Held → Type 0
 HasNoneAtOnce h = HasNoChoice h.slots.version (reserved_jobs h.live)
-    ⊎ ((p : TablePlan) × WaitsForJoining h p)
+    ⊎ ((p : TablePlan) × WaitsForOthers h p)
+
+-- the range meets no file, or the plan of those that it meets conflicts with a live job
+abbrev pub HasToWait : Held → Span → Type 0
+HasToWait h s = (tables_over h.slots.version s.level s.from s.to ≡ [])
+    ⊎ ((p : TablePlan) × IsRangePlan h s.level s.from s.to p × IsHeldUp p (reserved_jobs h.live))
+
+-- the plan of the range of level 0's outermost file, which conflicts with no live job
+pub record GoesDown (h : Held) (p : TablePlan) : Type 0 where
+  pub span : Span
+  pub outermost : IsOverOutermost h.slots.version (reserved_jobs h.live) span
+  pub planned : IsRangePlan h span.level span.from span.to p
+  pub clear : IsClear p (reserved_jobs h.live)
+
+-- No file of level 0 goes down so: there is no outermost one, or it has to wait.
+abbrev pub NoneGoesDown : Held → Type 0
+NoneGoesDown h = HasNoOutermost h.slots.version (reserved_jobs h.live)
+    ⊎ ((s : Span) × IsOverOutermost h.slots.version (reserved_jobs h.live) s × HasToWait h s)
 
 -- the plan of the files that are joined, which conflicts with no live job
 pub record IsJoining (h : Held) (p : TablePlan) : Type 0 where
@@ -141,11 +160,6 @@ pub record IsJoining (h : Held) (p : TablePlan) : Type 0 where
   pub joined : IsJoined h.slots.version h.options.target_size span
   pub planned : IsRangePlan h span.level span.from span.to p
   pub clear : IsClear p (reserved_jobs h.live)
-
--- the range meets no file, or the plan of those that it meets conflicts with a live job
-abbrev pub HasToWait : Held → Span → Type 0
-HasToWait h s = (tables_over h.slots.version s.level s.from s.to ≡ [])
-    ⊎ ((p : TablePlan) × IsRangePlan h s.level s.from s.to p × IsHeldUp p (reserved_jobs h.live))
 
 -- Nothing can be joined: there is no run, or the files of the first one have to wait.
 abbrev pub HasNoJoining : Held → Type 0
@@ -159,16 +173,18 @@ IsReady h = picker.IsReady h.slots.version (reserved_jobs h.live) h.options.targ
 -- there is no choice, or it has to wait, and level 0 is not ready
 abbrev pub HasNoneReady : Held → Type 0
 HasNoneReady h = HasNoChoice h.slots.version (reserved_jobs h.live)
-    ⊎ ((p : TablePlan) × WaitsForJoining h p × (IsReady h → ⊥))
+    ⊎ ((p : TablePlan) × WaitsForOthers h p × (IsReady h → ⊥))
 
--- The chosen plan where it goes at once; else that of the files that are joined; else the chosen
--- one, where level 0 is ready.
+-- The chosen plan where it goes at once; else that of the outermost file; else that of the files
+-- that are joined; else the chosen one, where level 0 is ready.
 abbrev pub IsNext : Held → TablePlan → Type 0
-IsNext h p = (IsChosen h p × GoesAtOnce h p) ⊎ (HasNoneAtOnce h × IsJoining h p)
-    ⊎ (HasNoJoining h × IsChosen h p × IsReady h)
+IsNext h p = (IsChosen h p × GoesAtOnce h p)
+    ⊎ (HasNoneAtOnce h × GoesDown h p)
+    ⊎ (HasNoneAtOnce h × NoneGoesDown h × IsJoining h p)
+    ⊎ (NoneGoesDown h × HasNoJoining h × IsChosen h p × IsReady h)
 
 abbrev pub HasNoNext : Held → Type 0
-HasNoNext h = HasNoJoining h × HasNoneReady h
+HasNoNext h = NoneGoesDown h × HasNoJoining h × HasNoneReady h
 
 -- Why there is no next job: the state is halted; or there is one, but its ticket would be
 -- 2^64 - 1; or memory was refused.
@@ -178,3 +194,12 @@ IsNextRefusal honest h NumbersSpent = (h.halted ≡ false) × (h.next_ticket ≡
     × (honest → (p : TablePlan) × IsNext h p)
 IsNextRefusal honest h OutOfMemory = h.halted ≡ false
 IsNextRefusal honest h e = ⊥
+
+-- ---- how the code looks for it
+
+-- what goes before a choice that has to wait
+abbrev pub GoesBefore : Held → TablePlan → Type 0
+GoesBefore h p = GoesDown h p ⊎ (NoneGoesDown h × IsJoining h p)
+
+abbrev pub NoneGoesBefore : Held → Type 0
+NoneGoesBefore h = NoneGoesDown h × HasNoJoining h

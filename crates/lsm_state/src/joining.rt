@@ -1,27 +1,74 @@
-//! What workers reserve: the choice below level 0, then runs of files that are joined, then level 0.
+//! What workers reserve: the choice below level 0, or that moves a file which is not small; then
+//! the outermost file of level 0; then runs of files that are joined; then level 0.
 
-ghost use Rattle.std.specs.Prelude.{◌≡◌, ◌-◌, ◌^◌, ◌↔◌, false, IfErr, IfNone, IfOk, IfSome, IsTrue};
-ghost use Rattle.std.specs.Prelude.{MatchOption, OnErr, OnOk};
+ghost use Rattle.std.specs.Prelude.{◌≡◌, ◌≤◌, ◌-◌, ◌^◌, ◌↔◌, false, IfErr, IfNone, IfOk, IfSome};
+ghost use Rattle.std.specs.Prelude.{IsTrue, MatchOption, OnErr, OnOk};
 ghost use Rattle.lsm_picker.specs.Moves.{IsMovable};
 ghost use Rattle.lsm_picker.specs.Reservations.{IsClear};
 ghost use Rattle.lsm_picker.specs.TablePlans.{StandsIn};
 ghost use Rattle.lsm_live.specs.Reserving.{reserved_jobs};
-ghost use Rattle.lsm_state.specs.Reserving.{GoesAtOnce, HasNoJoining, HasNoNext};
-ghost use Rattle.lsm_state.specs.Reserving.{HasOrderedInputs, IsJoining, Moves};
+ghost use Rattle.lsm_state.specs.Reserving.{GoesAtOnce, GoesBefore, GoesDown, HasNoJoining};
+ghost use Rattle.lsm_state.specs.Reserving.{HasNoNext, HasOrderedInputs, HasToWait, IsJoining};
 ghost use Rattle.lsm_state.specs.Reserving.{IsNext, IsNextRefusal, IsOfMoment, IsPlanRefusal};
-ghost use Rattle.lsm_state.specs.Reserving.{IsReady, IsReserving, plan_in, reserved};
+ghost use Rattle.lsm_state.specs.Reserving.{IsRangePlan, IsReady, IsReserving, MovesLarge};
+ghost use Rattle.lsm_state.specs.Reserving.{NoneGoesBefore, NoneGoesDown, plan_in, reserved};
 
 use crate::state::State;
 use crate::state_fault::StateFault;
 use lsm_merge::Job;
-use lsm_picker::{Plan, is_move, level_zero_is_ready, span_to_join};
+use lsm_picker::{
+    Plan, Span, is_large_move, is_move, level_zero_is_ready, outermost_span, span_to_join,
+};
 use lsm_slots::Boarded;
 use lsm_table::Shelf;
 use std::alloc::{AllocError, Global};
 
 impl<N: Boarded, S: Shelf> State<N, S> {
+    // The plan of the files that meet a range; none where no file does, or where that plan
+    // conflicts with a live job, and so has to wait.
+    #[tactic(auto, using(crate::proofs::ReserveLaws::range_refused))]
+    fn plan_over(&self, alloc: Global, span: &Span<'_>) -> Result<Option<Plan<N, S>>, StateFault>
+        requires open { self.now.halted ≡ false }
+        requires level { span.now.level ≤ 5 }
+        ensures planned { S.honest → IfOk result (λ r.
+            MatchOption r (HasToWait self.now span.now) (λ p.
+            IsRangePlan self.now span.now.level span.now.from span.now.to p)) }
+        ensures stands { IfOk result (λ r.
+            IfSome r (λ p. StandsIn self.now.slots.version p)) }
+        ensures clear { IfOk result (λ r.
+            IfSome r (λ p. IsClear p (reserved_jobs self.now.live))) }
+        ensures refused { IfErr result (IsPlanRefusal self.now) }
+    {
+        match self.range_plan(alloc, span.level(), span.from(), span.to()) {
+            Ok(plan) => Ok(plan),
+            Err(fault) => match fault {
+                StateFault::Conflict(_) => Ok(None),
+                _ => Err(fault),
+            },
+        }
+    }
+
+    // The plan of the outermost file of level 0; none where none goes down so.
+    #[tactic(auto, using(crate::proofs::ReserveLaws::outermost_low, crate::proofs::ReserveLaws::outermost_of))]
+    fn outermost_plan(&self, alloc: Global) -> Result<Option<Plan<N, S>>, StateFault>
+        requires open { self.now.halted ≡ false }
+        ensures down { S.honest → IfOk result (λ r.
+            MatchOption r (NoneGoesDown self.now) (λ p. GoesDown self.now p)) }
+        ensures stands { IfOk result (λ r.
+            IfSome r (λ p. StandsIn self.now.slots.version p)) }
+        ensures clear { IfOk result (λ r.
+            IfSome r (λ p. IsClear p (reserved_jobs self.now.live))) }
+        ensures refused { IfErr result (IsPlanRefusal self.now) }
+    {
+        let live = self.live.reservations(alloc, &self.registry)?;
+        let Some(span) = outermost_span(&self.registry, self.slots.version(), &live) else {
+            return Ok(None);
+        };
+        self.plan_over(alloc, &span)
+    }
+
     // The plan of the files that are joined; none where nothing can be joined.
-    #[tactic(auto, using(crate::proofs::ReserveLaws::joined_low, crate::proofs::ReserveLaws::range_refused))]
+    #[tactic(auto, using(crate::proofs::ReserveLaws::joined_low))]
     fn joining_plan(&self, alloc: Global) -> Result<Option<Plan<N, S>>, StateFault>
         requires open { self.now.halted ≡ false }
         ensures joined { S.honest → IfOk result (λ r.
@@ -36,24 +83,34 @@ impl<N: Boarded, S: Shelf> State<N, S> {
         let Some(span) = span_to_join(&self.registry, version, self.options.target_size) else {
             return Ok(None);
         };
-        match self.range_plan(alloc, span.level(), span.from(), span.to()) {
-            Ok(plan) => Ok(plan),
-            Err(fault) => match fault {
-                // A plan that conflicts with a live job has to wait.
-                StateFault::Conflict(_) => Ok(None),
-                _ => Err(fault),
-            },
-        }
+        self.plan_over(alloc, &span)
     }
 
-    // Whether a plan is below level 0, or only moves a file.
+    // The plan that goes before a choice which has to wait; none where there is none.
+    fn plan_before(&self, alloc: Global) -> Result<Option<Plan<N, S>>, StateFault>
+        requires open { self.now.halted ≡ false }
+        ensures before { S.honest → IfOk result (λ r.
+            MatchOption r (NoneGoesBefore self.now) (λ p. GoesBefore self.now p)) }
+        ensures stands { IfOk result (λ r.
+            IfSome r (λ p. StandsIn self.now.slots.version p)) }
+        ensures clear { IfOk result (λ r.
+            IfSome r (λ p. IsClear p (reserved_jobs self.now.live))) }
+        ensures refused { IfErr result (IsPlanRefusal self.now) }
+    {
+        if let Some(plan) = self.outermost_plan(alloc)? {
+            return Ok(Some(plan));
+        }
+        self.joining_plan(alloc)
+    }
+
+    // Whether a plan is below level 0, or only moves a file that is not small.
     fn goes_at_once(&self, plan: &Plan<N, S>) -> bool
         ensures goes { IsTrue result → GoesAtOnce self.now plan.now }
         ensures waits { result ≡ false
-            → (plan.now.level ≡ 0) × (Moves self.now plan.now → ⊥) }
+            → (plan.now.level ≡ 0) × (MovesLarge self.now plan.now → ⊥) }
     {
-        let version = self.slots.version();
-        plan.level() > 0 || is_move(&self.registry, version, plan, self.options.target_size)
+        let target_size = self.options.target_size;
+        plan.level() > 0 || is_large_move(&self.registry, self.slots.version(), plan, target_size)
     }
 
     // Whether level 0 is compacted.
@@ -79,12 +136,12 @@ impl<N: Boarded, S: Shelf> State<N, S> {
         ensures refused { IfErr result (IsPlanRefusal self.now) }
     {
         let Some(chosen) = self.chosen_plan(alloc)? else {
-            return self.joining_plan(alloc);
+            return self.plan_before(alloc);
         };
         if self.goes_at_once(&chosen) {
             return Ok(Some(chosen));
         }
-        if let Some(plan) = self.joining_plan(alloc)? {
+        if let Some(plan) = self.plan_before(alloc)? {
             return Ok(Some(plan));
         }
         if !self.is_ready(alloc)? {
@@ -94,9 +151,10 @@ impl<N: Boarded, S: Shelf> State<N, S> {
     }
 
     /// Reserves the next compaction of a worker: the chosen one, as `reserve` does, where that is
-    /// below level 0, or only moves a file; else that of the files that are joined
-    /// (`lsm_picker::span_to_join`), so that small files become larger ones; and where nothing can
-    /// be joined, as where a live job is in the way, the chosen one, where level 0 is ready for it
+    /// below level 0, or only moves a file that is not small; else that of the outermost file of
+    /// level 0 (`lsm_picker::outermost_span`), which only moves it; else that of the files that are
+    /// joined (`lsm_picker::span_to_join`), so that small files become larger ones; and where there
+    /// is neither, or a live job is in the way, the chosen one, where level 0 is ready for it
     /// (`lsm_picker::level_zero_is_ready`). None exactly where there is none of these; then nothing
     /// changes.
     ///

@@ -3,3 +3,4 @@ mod Ascending
 mod Tables
 mod Receipts
 mod Words
+mod Following

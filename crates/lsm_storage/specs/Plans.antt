@@ -1,13 +1,14 @@
 -- What a shelf asks of its folder, in which order, and what it makes of a refusal (LevelDB's
 -- `doc/impl.md`: tables, manifest, `CURRENT`).
 use Rattle.std.specs.Prelude.{◌≡◌, ◌≢◌, ◌⊎◌, ◌↔◌, ℕ, ◌+◌, ◌<◌, ◌≤◌, ◌^◌, List, [], ◌∷◌, length}
-use Rattle.std.specs.Prelude.{codes, Result, Ok, Err}
+use Rattle.std.specs.Prelude.{codes, Option, None, Some, Result, Ok, Err}
 use Rattle.std.specs.List.{Contains}
 use Rattle.lsm_folder.specs.Calls.{Call, Answer, made, wrote, appended, synced, folder_synced}
 use Rattle.lsm_folder.specs.Calls.{renamed, removed, measured, read, loaded, listed}
 use Rattle.lsm_folder.specs.declared.folder_fault.FolderFault.{FolderFault}
 use Rattle.lsm_folder.specs.declared.folder_fault.FolderFault.TheVariants as folder
 use Rattle.lsm_storage.specs.FileNames.{table_name, manifest_name, temporary_name, current_text}
+use Rattle.lsm_storage.specs.FileNames.{IsNumberOf}
 use Rattle.lsm_storage.specs.FolderFault.{device_of, missing_of, taken_of, undone_of}
 use Rattle.lsm_shelf.specs.declared.shelf_fault.ShelfFault.{ShelfFault}
 use Rattle.lsm_shelf.specs.declared.shelf_fault.ShelfFault.TheVariants.{OutOfMemory, Device}
@@ -132,6 +133,12 @@ abbrev pub NamesOther : (number : ℕ) → Result (List ℕ) FolderFault → Typ
 NamesOther number (Ok text) = text ≢ current_text number
 NamesOther number (Err fault) = fault ≡ folder.Missing
 
+-- The number of the manifest that an answer of `CURRENT` names, or none, where it names none. A
+-- `CURRENT` that could not be read tells neither
+abbrev pub IsNamedBy : Result (List ℕ) FolderFault → Option ℕ → Type 0
+IsNamedBy (Ok text) o = IsNumberOf current_text text o
+IsNamedBy (Err fault) o = (fault ≡ folder.Missing) × (o ≡ None)
+
 -- a file gets the name `CURRENT`, and that is made durable
 abbrev pub current_plan : (name : List ℕ) → List Step
 current_plan name = renamed name (codes "CURRENT") ∷ folder_synced ∷ []
@@ -147,11 +154,19 @@ abbrev pub start_plan : (number : ℕ) (bytes : List ℕ) → List Step
 start_plan number bytes = wrote (manifest_name number) bytes ∷ synced (manifest_name number)
     ∷ folder_synced ∷ name_plan number
 
--- `CURRENT` was asked for, and did not name the manifest of this number; then it was started
+-- The manifest that was followed is removed at last, whatever is answered: no sync comes behind it.
+-- Where none was followed, nothing is removed
+abbrev pub Clears : (followed : Option ℕ) (old new : List Call) → Type 0
+Clears None old new = new ≡ old
+Clears (Some m) old new = (m < 2 ^ 64) × ((answer : Answer)
+    × (new ≡ removed (manifest_name m) answer ∷ old))
+
+-- `CURRENT` was asked for, and did not name the manifest of this number; then that was started, and
+-- the one that `CURRENT` named, if it named one, was removed
 abbrev pub StartedFrom : (number : ℕ) (bytes : List ℕ) (old new : List Call) → Type 0
-StartedFrom number bytes old new =
-    (answer : Result (List ℕ) FolderFault) × NamesOther number answer
-    × (new ≡ done (start_plan number bytes) (current_read answer old))
+StartedFrom number bytes old new = (answer : Result (List ℕ) FolderFault)
+    × NamesOther number answer × ((followed : Option ℕ) × IsNamedBy answer followed
+    × Clears followed (done (start_plan number bytes) (current_read answer old)) new)
 
 -- the plan before the call that gives `CURRENT` its new text
 abbrev pub unnamed_plan : (number : ℕ) (bytes : List ℕ) → List Step

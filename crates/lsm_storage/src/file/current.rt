@@ -1,10 +1,10 @@
 //! Which manifest a folder's `CURRENT` names, and that manifest's bytes.
 
 ghost use Rattle.std.specs.Prelude.{◌≡◌, ℕ, ◌<◌, ◌≤◌, ◌^◌, List, Ok, Err, Result, IfOk, IfErr};
-ghost use Rattle.std.specs.Prelude.{MatchBool, length};
+ghost use Rattle.std.specs.Prelude.{length};
 ghost use Rattle.lsm_folder.specs.declared.folder_fault.FolderFault.{FolderFault};
 ghost use Rattle.lsm_storage.specs.FileNames.{current_text, longest_current};
-ghost use Rattle.lsm_storage.specs.Plans.{CurrentUnread, CurrentStopped, NoneIn, NamesOther};
+ghost use Rattle.lsm_storage.specs.Plans.{CurrentUnread, CurrentStopped, NoneIn, IsNamedBy};
 ghost use Rattle.lsm_storage.specs.Plans.{ReadStopped, current_read, manifest_read};
 ghost use Rattle.lsm_shelf.specs.Told.{NotNamed, NotTaken};
 
@@ -71,25 +71,23 @@ pub(crate) fn current<C: FolderCalls, W: Wait>(
     }
 }
 
-/// Whether `CURRENT` names this manifest. A `CURRENT` that is not there or not well-formed names
-/// none.
-pub(crate) fn names_manifest<C: FolderCalls, W: Wait>(
+/// The number of the manifest that `CURRENT` names, if it names one. A `CURRENT` that is not there
+/// or not well-formed names none.
+pub(crate) fn named_manifest<C: FolderCalls, W: Wait>(
     folder: &mut C,
     rt: &W,
     alloc: Global,
-    number: u64,
-) -> Result<bool, ShelfFault>
-    ensures ok { IfOk result (λ b. (answer : Result (List ℕ) FolderFault)
+) -> Result<Option<u64>, ShelfFault>
+    ensures ok { IfOk result (λ o. (answer : Result (List ℕ) FolderFault)
         × (C.calls folder.new ≡ current_read answer (C.calls folder.old))
-        × MatchBool b (answer ≡ Ok (current_text number)) (NamesOther number answer)) }
+        × IsNamedBy answer o) }
     ensures err { IfErr result (λ e. CurrentStopped e (C.calls folder.old) (C.calls folder.new)) }
     ensures place { C.place folder.new ≡ C.place folder.old }
     ensures fault { IfErr result NotNamed }
 {
     match current(folder, rt, alloc) {
-        Ok(named) if named == number => Ok(true),
-        Ok(_) => Ok(false),
-        Err(ShelfFault::Missing) => Ok(false),
+        Ok(number) => Ok(Some(number)),
+        Err(ShelfFault::Missing) => Ok(None),
         Err(fault) => Err(fault),
     }
 }

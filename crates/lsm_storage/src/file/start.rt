@@ -1,12 +1,12 @@
 //! How a manifest is started in a folder.
 
-ghost use Rattle.std.specs.Prelude.{◌≡◌, ◌<◌, ◌^◌, ◌∷◌, [], length, IfErr, OnOk, IsErrOf};
+ghost use Rattle.std.specs.Prelude.{◌≡◌, ◌<◌, ◌^◌, ◌∷◌, [], Some, length, IfErr, OnOk, IsErrOf};
 ghost use Rattle.lsm_folder.specs.Calls.{wrote, synced, folder_synced};
 ghost use Rattle.lsm_storage.specs.Plans.{done, Refused, StartedFrom, StartStopped, WriteStopped};
-ghost use Rattle.lsm_storage.specs.Plans.{current_plan, start_plan};
+ghost use Rattle.lsm_storage.specs.Plans.{Clears, current_plan, start_plan};
 ghost use Rattle.lsm_shelf.specs.Told.{NotNamed, TakenIs};
 
-use crate::file::current::names_manifest;
+use crate::file::current::named_manifest;
 use crate::file::fault::device;
 use crate::file::file_names::{manifest_file, temporary_file, text_of_current};
 use lsm_folder::{FolderCalls, FolderFault};
@@ -84,7 +84,31 @@ fn write_manifest<C: FolderCalls, W: Wait>(
     }
 }
 
-/// Starts a manifest, where `CURRENT` does not name one of this number.
+/// Starts a manifest in the place of another one, which is removed at last. Where that is refused,
+/// its file is left.
+fn follow_manifest<C: FolderCalls, W: Wait>(
+    folder: &mut C,
+    rt: &W,
+    alloc: Global,
+    followed: u64,
+    number: u64,
+    bytes: &[u8],
+) -> Result<(), ShelfFault>
+    ensures ok { OnOk result (Clears (Some followed)
+        (done (start_plan number bytes.now) (C.calls folder.old)) (C.calls folder.new)) }
+    ensures err { IfErr result (λ e.
+        WriteStopped number bytes.now e (C.calls folder.old) (C.calls folder.new)) }
+    ensures place { C.place folder.new ≡ C.place folder.old }
+    ensures fault { IfErr result NotNamed }
+{
+    let name = manifest_file(alloc, followed)?;
+    write_manifest(folder, rt, alloc, number, bytes)?;
+    let _is_removed = folder.remove(rt, name.as_str());
+    Ok(())
+}
+
+/// Starts a manifest, where `CURRENT` does not name one of this number. The one that it names is
+/// removed.
 pub(crate) fn start_manifest<C: FolderCalls, W: Wait>(
     folder: &mut C,
     rt: &W,
@@ -104,11 +128,9 @@ pub(crate) fn start_manifest<C: FolderCalls, W: Wait>(
     if bytes.len() > MAX_IMAGE {
         return Err(ShelfFault::Device);
     }
-    if names_manifest(folder, rt, alloc, number)? {
-        return Err(ShelfFault::Taken(number));
-    }
-    match write_manifest(folder, rt, alloc, number, bytes) {
-        Ok(()) => Ok(()),
-        Err(fault) => Err(fault),
+    match named_manifest(folder, rt, alloc)? {
+        Some(named) if named == number => Err(ShelfFault::Taken(number)),
+        Some(named) => follow_manifest(folder, rt, alloc, named, number, bytes),
+        None => write_manifest(folder, rt, alloc, number, bytes),
     }
 }

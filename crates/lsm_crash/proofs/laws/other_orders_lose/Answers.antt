@@ -1,4 +1,5 @@
 use Rattle.lsm_crash.proofs.Instances.{append_unsynced, manifest_unsynced, name_unsynced, table_unsynced}
+use Rattle.lsm_crash.proofs.Width.{dropped_early}
 use Rattle.lsm_crash.proofs.laws.other_orders_lose.Goals as goal
 
 pub returns-clause-table : goal.returns-clause-table
@@ -12,3 +13,6 @@ returns-clause-unsynced c = append_unsynced
 
 pub returns-clause-manifest : goal.returns-clause-manifest
 returns-clause-manifest c = manifest_unsynced
+
+pub returns-clause-early : goal.returns-clause-early
+returns-clause-early c = dropped_early

@@ -1,3 +1,4 @@
+use Rattle.lsm_crash.proofs.Dropping.{drop_can}
 use Rattle.lsm_crash.proofs.Instances.{append_can, crash_can, empty_vacant, put_can, remove_can, some_settled, start_can}
 use Rattle.lsm_crash.proofs.laws.premises_are_met.Goals as goal
 
@@ -6,6 +7,9 @@ returns-clause-vacant c = empty_vacant
 
 pub returns-clause-start : goal.returns-clause-start
 returns-clause-start c = start_can
+
+pub returns-clause-follow : goal.returns-clause-follow
+returns-clause-follow c = drop_can
 
 pub returns-clause-put : goal.returns-clause-put
 returns-clause-put c = put_can
