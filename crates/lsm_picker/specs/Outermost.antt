@@ -1,6 +1,7 @@
 -- Which file of level 0 goes down although it is small, for nothing is ever to be merged with it
 -- where keys only rise, or only fall (this project's rule).
-use Rattle.std.specs.Prelude.{◌≡◌, ℕ, ◌<◌, ◌≤◌, ◌⊎◌, Bool, true, not, ◌||◌, List, length}
+use Rattle.std.specs.Prelude.{◌≡◌, ℕ, suc, ◌-◌, ◌<◌, ◌≤◌, ◌⊎◌, Bool, true, false, not, ◌||◌}
+use Rattle.std.specs.Prelude.{Option, Some, List, length, slice_get}
 use Rattle.lsm_codec.specs.Keys.{user_le}
 use Rattle.lsm_codec.specs.Lists.{Has}
 use Rattle.lsm_table.specs.Registry.{Table}
@@ -25,27 +26,44 @@ MayGoBefore t u = (t.number ≤ u.number) × (t.number < u.number → are_apart 
 abbrev pub MayGoFirst : List Table → Table → Type 0
 MayGoFirst ts t = (u : Table) → Has ts u → MayGoBefore t u
 
--- each of these lies before it
-abbrev pub IsBehind : List Table → Table → Type 0
-IsBehind ts t = (u : Table) → Has ts u → is_before u t ≡ true
+-- the last file of a sorted level where keys rise, the first one where they fall
+pub foremost : (rising : Bool) → List Table → Option Table
+foremost true ts = slice_get ts (length ts - 1)
+foremost false ts = slice_get ts 0
 
--- it lies before each of these
-abbrev pub IsAhead : List Table → Table → Type 0
-IsAhead ts t = (u : Table) → Has ts u → is_before t u ≡ true
+-- t lies beyond u, in the direction in which keys go
+pub is_beyond : (rising : Bool) → Table → Table → Bool
+is_beyond true t u = is_before u t
+is_beyond false t u = is_before t u
 
--- so it lies behind all files of levels 1 to 6
-abbrev pub IsBehindAll : Levels → Table → Type 0
-IsBehindAll v t = (level : ℕ) → 1 ≤ level → level ≤ 6 → IsBehind (level_in v.tables level) t
+-- it lies beyond all of a sorted level
+abbrev pub IsBeyond : (rising : Bool) → Table → List Table → Type 0
+IsBeyond rising t ts = (u : Table) → foremost rising ts ≡ Some u → is_beyond rising t u ≡ true
 
--- so it lies before all files of levels 1 to 6
-abbrev pub IsAheadOfAll : Levels → Table → Type 0
-IsAheadOfAll v t = (level : ℕ) → 1 ≤ level → level ≤ 6 → IsAhead (level_in v.tables level) t
+-- it lies beyond all levels from the first one to level 6
+abbrev pub IsBeyondFrom : Levels → (rising : Bool) → Table → (first : ℕ) → Type 0
+IsBeyondFrom v rising t first =
+    (level : ℕ) → first ≤ level → level ≤ 6 → IsBeyond rising t (level_in v.tables level)
 
--- The oldest file of level 0, which meets no other one there, and lies behind all files below, or
--- before all of them.
+-- each file of this level lies beyond all deeper levels, for its innermost one does
+abbrev pub IsStair : Levels → (rising : Bool) → (level : ℕ) → Type 0
+IsStair v rising level = (t : Table) → foremost (not rising) (level_in v.tables level) ≡ Some t
+    → IsBeyondFrom v rising t (suc level)
+
+-- the deeper a level lies, the further its keys lie back
+abbrev pub AreStairs : Levels → (rising : Bool) → Type 0
+AreStairs v rising = (level : ℕ) → 1 ≤ level → level ≤ 5 → IsStair v rising level
+
+-- It lies beyond all files of levels 1 to 6, and these are stairs.
+pub record GoesOn (v : Levels) (rising : Bool) (t : Table) : Type 0 where
+  pub beyond : IsBeyondFrom v rising t 1
+  pub stairs : AreStairs v rising
+
+-- The oldest file of level 0, which meets no other one there, and goes on where keys rise, or where
+-- they fall.
 pub record LiesOutside (v : Levels) (t : Table) : Type 0 where
   pub first : MayGoFirst (level_in v.tables 0) t
-  pub outside : IsBehindAll v t ⊎ IsAheadOfAll v t
+  pub outside : GoesOn v true t ⊎ GoesOn v false t
 
 -- Level 0 has four files, the inputs of live jobs not counted, and of its files this one lies
 -- outside.

@@ -1,9 +1,10 @@
 //! Which file of level 0 goes down although it is small: where keys only rise, or only fall.
 
-ghost use Rattle.std.specs.Prelude.{◌≡◌, ◌↔◌, IsTrue, MatchOption};
-ghost use Rattle.lsm_picker.specs.Outermost.{HasNoOutermost, IsAhead, IsAheadOfAll, IsBehind};
-ghost use Rattle.lsm_picker.specs.Outermost.{IsBehindAll, IsOverOutermost, LiesOutside};
-ghost use Rattle.lsm_picker.specs.Outermost.{MayGoBefore, MayGoFirst, are_apart, is_before};
+ghost use Rattle.std.specs.Prelude.{◌≡◌, ◌≤◌, ◌↔◌, IsTrue, MatchOption, option_copied};
+ghost use Rattle.lsm_picker.specs.Outermost.{AreStairs, GoesOn, HasNoOutermost, IsBeyond};
+ghost use Rattle.lsm_picker.specs.Outermost.{IsBeyondFrom, IsOverOutermost, IsStair, LiesOutside};
+ghost use Rattle.lsm_picker.specs.Outermost.{MayGoBefore, MayGoFirst, are_apart, foremost};
+ghost use Rattle.lsm_picker.specs.Outermost.{is_before, is_beyond};
 
 use crate::level_scores::free_count;
 use crate::reservation::Reservation;
@@ -63,72 +64,108 @@ fn may_go_first<N: Naming, S: Shelf>(
     true
 }
 
-/// Whether a table lies behind each of the others.
-fn is_behind<N: Naming, S: Shelf>(
-    registry: &Registry<N, S>,
-    others: &[TableRef<N, S>],
-    table: &TableRef<N, S>,
-) -> bool
-    ensures { IsTrue result ↔ IsBehind others.now table.now }
+/// The table of a level that is met first from outside: the last one where keys rise, the first one
+/// where they fall.
+fn foremost<'a, N: Naming, S: Shelf>(
+    rising: bool,
+    tables: &'a [TableRef<N, S>],
+) -> Option<&'a TableRef<N, S>>
+    ensures { option_copied result ≡ foremost rising tables.now }
 {
-    for other in others {
-        if !is_before(registry, other, table) {
-            return false;
-        }
-    }
-    true
+    if rising { tables.last() } else { tables.first() }
 }
 
-/// Whether a table lies before each of the others.
-fn is_ahead<N: Naming, S: Shelf>(
+/// Whether a table lies beyond the other one, in the direction in which keys go.
+fn is_beyond<N: Naming, S: Shelf>(
     registry: &Registry<N, S>,
-    others: &[TableRef<N, S>],
+    rising: bool,
     table: &TableRef<N, S>,
+    other: &TableRef<N, S>,
 ) -> bool
-    ensures { IsTrue result ↔ IsAhead others.now table.now }
+    ensures { result ≡ is_beyond rising table.now other.now }
 {
-    for other in others {
-        if !is_before(registry, table, other) {
-            return false;
-        }
-    }
-    true
+    if rising { is_before(registry, other, table) } else { is_before(registry, table, other) }
 }
 
-/// Whether a table lies behind all files of levels 1 to 6.
-fn is_behind_all<N: Naming, S: Shelf>(
+/// Whether a table lies beyond the foremost one of a level, or the level is empty.
+fn is_beyond_level<N: Naming, S: Shelf>(
     registry: &Registry<N, S>,
-    version: &Version<N, S>,
+    rising: bool,
     table: &TableRef<N, S>,
+    tables: &[TableRef<N, S>],
 ) -> bool
-    ensures { IsTrue result ↔ IsBehindAll version.now table.now }
+    ensures { IsTrue result ↔ IsBeyond rising table.now tables.now }
 {
-    for level in 1..7usize {
-        if !is_behind(registry, version.level(level), table) {
-            return false;
-        }
+    match foremost(rising, tables) {
+        None => true,
+        Some(other) => is_beyond(registry, rising, table, other),
     }
-    true
 }
 
-/// Whether a table lies before all files of levels 1 to 6.
-fn is_ahead_of_all<N: Naming, S: Shelf>(
+/// Whether a table lies beyond all levels from the first one to level 6.
+fn is_beyond_from<N: Naming, S: Shelf>(
     registry: &Registry<N, S>,
     version: &Version<N, S>,
+    rising: bool,
     table: &TableRef<N, S>,
+    first: usize,
 ) -> bool
-    ensures { IsTrue result ↔ IsAheadOfAll version.now table.now }
+    ensures { IsTrue result ↔ IsBeyondFrom version.now rising table.now first }
 {
-    for level in 1..7usize {
-        if !is_ahead(registry, version.level(level), table) {
+    for level in first..7usize {
+        if !is_beyond_level(registry, rising, table, version.level(level)) {
             return false;
         }
     }
     true
 }
 
-/// Whether a table is the oldest of level 0, meets no other one there, and lies outside of all
-/// files below.
+/// Whether a level lies beyond all deeper ones, or is empty.
+fn is_stair<N: Naming, S: Shelf>(
+    registry: &Registry<N, S>,
+    version: &Version<N, S>,
+    rising: bool,
+    level: usize,
+) -> bool
+    requires { level ≤ 5 }
+    ensures { IsTrue result ↔ IsStair version.now rising level }
+{
+    match foremost(!rising, version.level(level)) {
+        None => true,
+        Some(table) => is_beyond_from(registry, version, rising, table, level + 1),
+    }
+}
+
+/// Whether each of levels 1 to 5 lies beyond all deeper ones.
+fn are_stairs<N: Naming, S: Shelf>(
+    registry: &Registry<N, S>,
+    version: &Version<N, S>,
+    rising: bool,
+) -> bool
+    ensures { IsTrue result ↔ AreStairs version.now rising }
+{
+    for level in 1..6usize {
+        if !is_stair(registry, version, rising, level) {
+            return false;
+        }
+    }
+    true
+}
+
+/// Whether a table goes on where the levels below end as stairs.
+fn goes_on<N: Naming, S: Shelf>(
+    registry: &Registry<N, S>,
+    version: &Version<N, S>,
+    rising: bool,
+    table: &TableRef<N, S>,
+) -> bool
+    ensures { IsTrue result ↔ GoesOn version.now rising table.now }
+{
+    is_beyond_from(registry, version, rising, table, 1) && are_stairs(registry, version, rising)
+}
+
+/// Whether a table is the oldest of level 0, meets no other one there, and goes on where keys rise,
+/// or where they fall.
 fn lies_outside<N: Naming, S: Shelf>(
     registry: &Registry<N, S>,
     version: &Version<N, S>,
@@ -137,16 +174,18 @@ fn lies_outside<N: Naming, S: Shelf>(
     ensures { IsTrue result ↔ LiesOutside version.now table.now }
 {
     may_go_first(registry, version.level(0), table)
-        && (is_behind_all(registry, version, table) || is_ahead_of_all(registry, version, table))
+        && (goes_on(registry, version, true, table) || goes_on(registry, version, false, table))
 }
 
 /// The range of the outermost file of level 0: where four files at least are there, the inputs of
 /// live jobs not counted, the oldest one, if it meets no other one there in user keys, and lies
-/// behind all files of levels 1 to 6, or before all of them. None where there is no such file.
+/// behind all files of levels 1 to 6, each of which lies behind all deeper levels; or before all of
+/// them, each before all deeper ones. None where there is no such file.
 ///
-/// So files go down one by one where keys only rise, or only fall, and need no merge. That the file
-/// itself is no input of a live job is not asked: its plan then conflicts with that one, and has to
-/// wait.
+/// So files go down one by one where keys only rise, or only fall, and need no merge. Where levels
+/// are no such stairs, keys come at both ends or in between, and a file that went down alone would
+/// be merged with a deep level's files between the ends. That the file itself is no input of a live
+/// job is not asked: its plan then conflicts with that one, and has to wait.
 pub fn outermost_span<'a, N: Naming, S: Shelf>(
     registry: &'a Registry<N, S>,
     version: &Version<N, S>,

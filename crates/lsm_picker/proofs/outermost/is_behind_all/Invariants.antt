@@ -1,8 +1,0 @@
-use Rattle.std.proofs.Common.{ℕ, ◌<◌, ◌≤◌}
-use Rattle.lsm_version.specs.Versions.{level_in}
-use Rattle.lsm_picker.specs.Outermost.{IsBehind}
-use Rattle.lsm_picker.proofs.outermost.is_behind_all.Given as goal
-
-abbrev pub invariant-loop-level : goal.invariant-loop-level
-invariant-loop-level g l = (n : ℕ) → 1 ≤ n → n < l.level
-    → IsBehind (level_in l.version.tables n) l.table
