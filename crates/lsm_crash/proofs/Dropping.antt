@@ -33,9 +33,11 @@ pub drop_can : (tables : Tables) (number m : ℕ) (bytes : List ℕ) (d : Disk) 
 drop_can tables number m bytes d small other =
     let start = start_can tables number bytes d in
     let M = manifest_name m in
-    let e = without M start.0 in
-    (e, (start.0, start.1, inr (m, small, other, Ok tt, e, refl, no_gap tables e)),
-        named_at start.0.names M None)
+    let e = without M start.0 in (
+      e,
+      (start.0, start.1, inr (m, small, other, Ok tt, e, refl, no_gap tables e)),
+      named_at start.0.names M None,
+    )
 
 -- all that is counted on stays
 pub drops_settled : (w : World) (d e : Disk) → Drops w.tables w.manifest d e → IsSettled d w
@@ -43,8 +45,8 @@ pub drops_settled : (w : World) (d e : Disk) → Drops w.tables w.manifest d e �
 drops_settled w d e (inl same) i = subst (λ x. IsSettled x w) (sym same) i
 drops_settled w d e (inr (m, small, other, a, mid, step, gap)) i =
     settled_gap w mid e gap
-        (settled_step d mid w (removed (manifest_name m) a)
-        (spare_clear d w (manifest_name m) a i (inl (m, small, other, refl))) step i)
+    (settled_step d mid w (removed (manifest_name m) a)
+    (spare_clear d w (manifest_name m) a i (inl (m, small, other, refl))) step i)
 
 -- ---- behind a start over whatever is known
 
@@ -75,27 +77,27 @@ done_held d e w (Put number image) i ok j =
     settled_either e w w (Put number image) refl refl refl refl refl
     (settled_less e (after w (Put number image)) w.tables j
     (λ n img is. elim (set_cases w.tables number (Some image) n) [
-  | inl h ↦ absurd (none_is img (sym ok.1 ∙ (ap w.tables (sym h.0) ∙ is)))
-  | inr h ↦ h.1 ∙ is
-]) i.there)
+      | inl h ↦ absurd (none_is img (sym ok.1 ∙ (ap w.tables (sym h.0) ∙ is)))
+      | inr h ↦ h.1 ∙ is
+    ]) i.there)
 done_held d e w (Remove number) i ok j =
     settled_either e w (after w (Remove number)) (Remove number) refl refl refl refl refl j
 done_held d e w (Append text v) i ok j =
     held_wider e (known_of (after w (Append text v))) (either w (Append text v)) record {
-  may_miss = λ x. x;
-  manifests = only w.manifest (Has (w.manifest ∷ w.manifest ∷ [])) (inl refl);
-  small = pair w.manifest w.manifest (λ m. m < 2 ^ 64) j.small j.small;
-  versions = only v (Has (v ∷ w.version ∷ [])) (inl refl);
-  tables = λ n image is. is;
-  there = pair v w.version (λ u. AreThere u w.tables) ok.1 i.there;
-} (settled_held e (after w (Append text v)) j)
+      may_miss = λ x. x;
+      manifests = only w.manifest (Has (w.manifest ∷ w.manifest ∷ [])) (inl refl);
+      small = pair w.manifest w.manifest (λ m. m < 2 ^ 64) j.small j.small;
+      versions = only v (Has (v ∷ w.version ∷ [])) (inl refl);
+      tables = λ n image is. is;
+      there = pair v w.version (λ u. AreThere u w.tables) ok.1 i.there;
+    } (settled_held e (after w (Append text v)) j)
 done_held d e w (Start number bytes v) i ok j =
     held_wider e (known_of (after w (Start number bytes v)))
     (either w (Start number bytes v)) record {
-  may_miss = λ x. x;
-  manifests = only number (Has (number ∷ w.manifest ∷ [])) (inl refl);
-  small = pair number w.manifest (λ m. m < 2 ^ 64) j.small i.small;
-  versions = only v (Has (v ∷ w.version ∷ [])) (inl refl);
-  tables = λ n image is. is;
-  there = pair v w.version (λ u. AreThere u w.tables) ok.there i.there;
-} (settled_held e (after w (Start number bytes v)) j)
+      may_miss = λ x. x;
+      manifests = only number (Has (number ∷ w.manifest ∷ [])) (inl refl);
+      small = pair number w.manifest (λ m. m < 2 ^ 64) j.small i.small;
+      versions = only v (Has (v ∷ w.version ∷ [])) (inl refl);
+      tables = λ n image is. is;
+      there = pair v w.version (λ u. AreThere u w.tables) ok.there i.there;
+    } (settled_held e (after w (Start number bytes v)) j)

@@ -167,11 +167,15 @@ module _ (honest : Type 0) (board : TableId) where
       elim (ingest_err_made old new ws fault was is x) [
         | inl none ↦ refused_can old new (Ingest ws answer) [] [] w d l (fault, was, is, x, none, inl refl) going f (d, (refl, no_gap w.tables d))
         | inr put ↦ refused_can old new (Ingest ws answer) (PutTable old.next image ∷ []) [] w d l
-            (fault, was, is, x, put, inl refl) going f
-            (p.0,
-            (p.0, no_drop (after w (Put old.next image)).tables w.manifest
-            (put_plan old.next image) d p.0 p.1,
-            (refl, no_gap (after w (Put old.next image)).tables p.0)))
+            (fault, was, is, x, put, inl refl) going f (
+              p.0,
+              (
+                p.0,
+                no_drop (after w (Put old.next image)).tables w.manifest
+                    (put_plan old.next image) d p.0 p.1,
+                (refl, no_gap (after w (Put old.next image)).tables p.0),
+              ),
+            )
       ]
 
   pub refused_gather : (old new : Held) (number : ℕ) (fault : GatherFault) (was is : Told) (w : World) (d : Disk) → IsState honest board new → IsSettled d w → IsWorldOf old w → d.names (table_name old.next) ≡ None
@@ -181,11 +185,15 @@ module _ (honest : Type 0) (board : TableId) where
     | inr put ↦ (
         let p = put_can (after w (Put old.next put.image)).tables old.next put.image d free in
         refused_can old new (Gather number) (PutTable old.next put.image ∷ []) [] w d l
-            (fault, was, is, x, put.made, inl refl) going f
-            (p.0,
-            (p.0, no_drop (after w (Put old.next put.image)).tables w.manifest
-            (put_plan old.next put.image) d p.0 p.1,
-            (refl, no_gap (after w (Put old.next put.image)).tables p.0))))
+        (fault, was, is, x, put.made, inl refl) going f (
+          p.0,
+          (
+            p.0,
+            no_drop (after w (Put old.next put.image)).tables w.manifest
+                (put_plan old.next put.image) d p.0 p.1,
+            (refl, no_gap (after w (Put old.next put.image)).tables p.0),
+          ),
+        ))
   ]
 
   pub refused_install : (old new : Held) (done : Done) (fault : StateFault) (was is : Told) (w : World) (d : Disk) → IsState honest board new → IsInstallRefusal old new done fault was is → Becomes was is → new.halted ≡ false → Follows honest old new (Refused (Install done))
@@ -225,16 +233,18 @@ module _ (honest : Type 0) (board : TableId) where
 -- an opening after which a table has no file yet
 begins_can : (honest : Type 0) (limit : ℕ) (h : Held) (w : World) (d : Disk) (p : Opens honest limit h d) (asks : List Asked) (n : ℕ) → HasMade asks p.was p.is → d.names (table_name n) ≡ None → n < 2 ^ 64
     → (m : Disk) × DoneDropping w.tables h.journal.number (plans_of p.begun.before.number asks) d m
-        × (m.names (table_name n) ≡ None)
+    × (m.names (table_name n) ≡ None)
 begins_can honest limit h w d p asks n made free small =
     let start = start_free w.tables d h.journal.number h.journal.bytes (table_name n) free (λ e. table_manifest n h.journal.number small (sym e)) (λ e. table_temporary n h.journal.number (sym e)) (λ e. table_current n (sym e)) in
     let done =
-        no_drop w.tables h.journal.number (start_plan h.journal.number h.journal.bytes) d start.0
-        start.1 in
-    (start.0,
-        subst
-        (λ xs. DoneDropping w.tables h.journal.number (plans_of p.begun.before.number xs) d start.0)
-        (sym (open_asks honest limit h d p asks made)) done, start.2)
+    no_drop w.tables h.journal.number (start_plan h.journal.number h.journal.bytes) d start.0
+    start.1 in (
+      start.0,
+      subst
+          (λ xs. DoneDropping w.tables h.journal.number (plans_of p.begun.before.number xs) d start.0)
+          (sym (open_asks honest limit h d p asks made)) done,
+      start.2,
+    )
 
 -- an opening, whatever is there
 opens_can : (honest : Type 0) (board : TableId) (limit : ℕ) (h : Held) (w : World) (d : Disk) (p : Opens honest limit h d) → IsState honest board h → (u : World) × (m : Disk) × Begins honest board limit h w u d m
@@ -279,8 +289,8 @@ module _ (law : TablesChange) (honest : Type 0) (board : TableId) (limit : ℕ) 
             let o = Start g.journal.number g.journal.bytes z.0 in
             let alive = crashed works.1 crash.1 cut.0 crash.2.0 crash.0 held.0 crash.2.1 crash.2.2 crash.2.3 in
             let c : CutDropping crash.0.tables g.journal.number
-                (start_plan g.journal.number g.journal.bytes) crash.1 crash.1 =
-                cut_first crash.0 o crash.1 in
+            (start_plan g.journal.number g.journal.bytes) crash.1 crash.1 =
+            cut_first crash.0 o crash.1 in
             let m = crashed_can (either crash.0 o) crash.1 (cut_held crash.1 crash.1 crash.0 o alive (opening_allowed honest other more g crash.1 crash.0 z.0 lg.0 alive q z.1) c) refl in
             (m.0, m.1, (board, limit, crash.0, crash.1, lived, (other, more, m.0, m.1, (either crash.0 o, crash.1, (z.0, StartManifest g.journal.number g.journal.bytes ∷ [], lg, q, open_made honest more g crash.1 q, z.1, c, refl), m.2), (refl, refl)))));
       }

@@ -45,22 +45,30 @@ Can w v asks d = (e : Disk) × AllDone w (operations v asks) (after_all w (opera
 module _ (h : Held) (c : Difference) (v : Version) (w : World) (d : Disk) (i : IsSettled d w) where
   write_at : (b : Bool) → Can w v ((if b then started_by (changed_by c h.slots.version) h.next h.journal else AppendManifest (record_of h.journal.bytes (change_edit h.journal c h.next))) ∷ []) d
   write_at true =
-      let r = start_can w.tables h.next (record_of [] (version_edit h.journal (changed_by c h.slots.version) (h.next + 1))) d in
-      (r.0,
-          (r.0,
+      let r = start_can w.tables h.next (record_of [] (version_edit h.journal (changed_by c h.slots.version) (h.next + 1))) d in (
+        r.0,
+        (
+          r.0,
           no_drop w.tables h.next
-          (start_plan h.next
-          (record_of [] (version_edit h.journal (changed_by c h.slots.version) (h.next + 1)))) d r.0
-          r.1, (refl, no_gap w.tables r.0)))
+              (start_plan h.next
+              (record_of [] (version_edit h.journal (changed_by c h.slots.version) (h.next + 1)))) d r.0
+              r.1,
+          (refl, no_gap w.tables r.0),
+        ),
+      )
   write_at false =
       let M = manifest_name w.manifest in
       let now = sure (Is i.its.0 w.bytes) d M i.its.1 (d.names M) (d.names, i.sound.now, refl) in
-      let r = append_can w.tables w.manifest (record_of h.journal.bytes (change_edit h.journal c h.next)) d now.0 now.1 in
-      (r.0,
-          (r.0,
+      let r = append_can w.tables w.manifest (record_of h.journal.bytes (change_edit h.journal c h.next)) d now.0 now.1 in (
+        r.0,
+        (
+          r.0,
           no_drop w.tables w.manifest
-          (append_plan w.manifest (record_of h.journal.bytes (change_edit h.journal c h.next))) d
-          r.0 r.1, (refl, no_gap w.tables r.0)))
+              (append_plan w.manifest (record_of h.journal.bytes (change_edit h.journal c h.next))) d
+              r.0 r.1,
+          (refl, no_gap w.tables r.0),
+        ),
+      )
 
   pub write_can : Can w v (changes_by h c ∷ []) d
   write_can = write_at (is_at_limit h.journal)
@@ -79,11 +87,16 @@ module _ (honest : Type 0) (board : TableId) (old new : Held) (w : World) (v : V
       let may : Allows w (Put old.next image) = ((let f = o.fits in omega arith), none_or (w.tables old.next) (λ other k. (let lt = o.below old.next other k in omega arith))) in
       let p = put_can (after w (Put old.next image)).tables old.next image d free in
       let change =
-          write_can h c v (after w (Put old.next image)) p.0
-          (plan_settled d p.0 w (Put old.next image) i may p.1) in
-      (change.0,
-          (p.0, no_drop (after w (Put old.next image)).tables w.manifest
-          (put_plan old.next image) d p.0 p.1, change.1))
+      write_can h c v (after w (Put old.next image)) p.0
+      (plan_settled d p.0 w (Put old.next image) i may p.1) in (
+        change.0,
+        (
+          p.0,
+          no_drop (after w (Put old.next image)).tables w.manifest
+              (put_plan old.next image) d p.0 p.1,
+          change.1,
+        ),
+      )
 
   pub deed_can : (deed : Deed) (asks : List Asked) → Asks honest old new deed asks → Can w v asks d
   deed_can (Ingest ws r) asks a =
@@ -108,11 +121,13 @@ pub opened_can : (honest : Type 0) (limit : ℕ) (h : Held) (d : Disk) (p : Open
 opened_can honest limit h d p asks made tables =
     let start = start_can tables h.journal.number h.journal.bytes d in
     subst
-        (λ xs. (e : Disk)
-        × DoneDropping tables h.journal.number (plans_of p.begun.before.number xs) d e)
-        (sym (open_asks honest limit h d p asks made))
-        (start.0, no_drop tables h.journal.number (start_plan h.journal.number h.journal.bytes) d
-        start.0 start.1)
+    (λ xs. (e : Disk)
+    × DoneDropping tables h.journal.number (plans_of p.begun.before.number xs) d e)
+    (sym (open_asks honest limit h d p asks made)) (
+      start.0,
+      no_drop tables h.journal.number (start_plan h.journal.number h.journal.bytes) d
+          start.0 start.1,
+    )
 
 -- a manifest is started, and a name that had no file has none
 pub start_free : (tables : Tables) (d : Disk) (number : ℕ) (bytes q : List ℕ) → d.names q ≡ None → (manifest_name number ≡ q → ⊥) → (temporary_name number ≡ q → ⊥) → (current_name ≡ q → ⊥)

@@ -89,9 +89,9 @@ plan_held d e w (Remove number) i ok h =
 plan_held d e w (Append text v) i ok h = append_cut w text v ok d e i h
 plan_held d e w (Start number bytes v) i ok h =
     elim (start_cut (known_of w) number bytes v ok d e (settled_held d w i) h) [
-  | inl same ↦ cut_start e w number bytes v ok same
-  | inr turned ↦ turned.0
-]
+      | inl same ↦ cut_start e w number bytes v ok same
+      | inr turned ↦ turned.0
+    ]
 
 pub cut_held : (d e : Disk) (w : World) (o : Operation) → IsSettled d w → Allows w o → CutOf w o d e
     → IsHeld e (either w o)

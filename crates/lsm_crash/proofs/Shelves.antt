@@ -109,8 +109,8 @@ module _ (s : Disk) (old : List Call) (w : World) (was : Leaves s old (λ d. IsS
       let r = done_after w.tables (append_plan n text) (manifest_measured n len old) s e h in
       let name = same_name n len r.0 r.1 in
       plan_settled r.0 e w (Append text v) (measure n len r.0 r.1) ok
-          (subst (λ name. DoneAmong w.tables (appended name text ∷ synced name ∷ []) r.0 e) name
-          r.2)
+      (subst (λ name. DoneAmong w.tables (appended name text ∷ synced name ∷ []) r.0 e) name
+      r.2)
 
   measure_stopped : (f : ShelfFault) (new : List Call) → MeasureStopped f old new → Leaves s new (λ d. IsSettled d w)
   measure_stopped f new (inl c) = current_stopped s old w was f new c
@@ -133,11 +133,17 @@ module _ (s : Disk) (old : List Call) (w : World) (was : Leaves s old (λ d. IsS
   append_stopped text v f new ok (inr (inr (n, len, le, inl (inr (fault, is, why))))) = λ e h.
       let a = subst (λ x. After s x e) is h in
       let name = same_name n len a.0 a.1 in
-      plan_held a.0 e w (Append text v) (measure n len a.0 a.1) ok
-          (a.0, no_gap w.tables a.0,
-          inr
-          (inl (fault, e, subst (λ name. Step a.0 (appended name text (Err fault)) e) name a.2,
-          no_gap w.tables e)))
+      plan_held a.0 e w (Append text v) (measure n len a.0 a.1) ok (
+        a.0,
+        no_gap w.tables a.0,
+        inr
+            (inl (
+              fault,
+              e,
+              subst (λ name. Step a.0 (appended name text (Err fault)) e) name a.2,
+              no_gap w.tables e,
+            )),
+      )
   append_stopped text v f new ok (inr (inr (n, len, le, inr (fault, is, why)))) = λ e h.
       let a = subst (λ x. After s x e) is h in
       let b = a.1 in
@@ -196,8 +202,8 @@ module _ (s : Disk) (old : List Call) (w : World) (was : Leaves s old (λ d. IsS
   start_answered new (answer, other, (Some m, named, (small, (a, is)))) = λ e h.
       let x = subst (λ y. After s y e) is h in
       drops_settled (after w (Start number bytes v)) x.0 e
-          (inr (m, small, another m answer other named, a, e, x.2, no_gap w.tables e))
-          (started_from answer x.0 x.1)
+      (inr (m, small, another m answer other named, a, e, x.2, no_gap w.tables e))
+      (started_from answer x.0 x.1)
 
   -- a front of the plan before `CURRENT` was to have its new text
   unnamed : (answer : Result (List ℕ) FolderFault) (fault : FolderFault) (new : List Call) → Refused (unnamed_plan number bytes) fault (current_read answer old) new → Leaves s new (λ d. IsSettled d w)

@@ -176,10 +176,10 @@ renamed_may d e from to bytes old s apart (i, at, b) (j, there, c) (h, moves, is
 pub dropped_early : (tables : Tables) (w : World) (number : ℕ) (d : Disk) → IsSettled d w
     → Shows d (temporary_name number) (current_text number)
     → (e : Disk)
-        × DoneAmong tables
-        (renamed (temporary_name number) current_name ∷ removed (manifest_name w.manifest) ∷ []) d e
-        × MayFindBoth e current_name (manifest_name w.manifest)
-        (Some (current_text w.manifest)) None
+    × DoneAmong tables
+    (renamed (temporary_name number) current_name ∷ removed (manifest_name w.manifest) ∷ []) d e
+    × MayFindBoth e current_name (manifest_name w.manifest)
+    (Some (current_text w.manifest)) None
 dropped_early tables w number d s (i, at, b) =
     let T = temporary_name number in
     let M = manifest_name w.manifest in
@@ -188,10 +188,13 @@ dropped_early tables w number d s (i, at, b) =
     let d1 = with_names (moved d.names T current_name i) d in
     let d2 = without M d1 in (
       d2,
-      (d, no_gap tables d,
-          (d1, (i, at, refl), (d1, no_gap tables d1, (d2, refl, no_gap tables d2)))),
+      (
+        d,
+        no_gap tables d,
+        (d1, (i, at, refl), (d1, no_gap tables d1, (d2, refl, no_gap tables d2))),
+      ),
       find_both d2 current_name M d.names d2.names (Some text) None
           (λ e. manifest_current w.manifest (sym e)) (inr (inr s.sound.now)) (inl refl)
-      (whole_some d2 (d.names current_name) was.0 text was.1 was.2)
+          (whole_some d2 (d.names current_name) was.0 text was.1 was.2)
           (whole_none d2 (d2.names M) (named_at d1.names M None)),
     )

@@ -72,7 +72,11 @@ fn foremost<'a, N: Naming, S: Shelf>(
 ) -> Option<&'a TableRef<N, S>>
     ensures { option_copied result ≡ foremost rising tables.now }
 {
-    if rising { tables.last() } else { tables.first() }
+    if rising {
+        tables.last()
+    } else {
+        tables.first()
+    }
 }
 
 /// Whether a table lies beyond the other one, in the direction in which keys go.
@@ -84,7 +88,11 @@ fn is_beyond<N: Naming, S: Shelf>(
 ) -> bool
     ensures { result ≡ is_beyond rising table.now other.now }
 {
-    if rising { is_before(registry, other, table) } else { is_before(registry, table, other) }
+    if rising {
+        is_before(registry, other, table)
+    } else {
+        is_before(registry, table, other)
+    }
 }
 
 /// Whether a table lies beyond the foremost one of a level, or the level is empty.

@@ -255,7 +255,7 @@ closed_next h p (inr (inl down)) =
     (let d = down.1 in (files_over h.slots.version d.span.level d.span.from d.span.to, d.planned))
 closed_next h p (inr (inr (inl joining))) =
     (let j = joining.2 in
-        (files_over h.slots.version j.span.level j.span.from j.span.to, j.planned))
+    (files_over h.slots.version j.span.level j.span.from j.span.to, j.planned))
 closed_next h p (inr (inr (inr chosen))) =
     closed_choice h h.slots.version (reserved_jobs h.live) p refl chosen.2
 
@@ -303,13 +303,13 @@ pub outermost_of : (h : Held) (v : Levels) (rs : List Reserved) (o : Option Span
     → v ≡ h.slots.version → rs ≡ reserved_jobs h.live
     → MatchOption o (HasNoOutermost v rs) (λ s. IsOverOutermost v rs s)
     → MatchOption o (HasNoOutermost h.slots.version (reserved_jobs h.live))
-        (λ s. IsOverOutermost h.slots.version (reserved_jobs h.live) s)
+    (λ s. IsOverOutermost h.slots.version (reserved_jobs h.live) s)
 outermost_of h v rs o same live m =
     subst
-        (λ (x : Levels). MatchOption o (HasNoOutermost x (reserved_jobs h.live))
-        (λ s. IsOverOutermost x (reserved_jobs h.live) s)) same
+    (λ (x : Levels). MatchOption o (HasNoOutermost x (reserved_jobs h.live))
+    (λ s. IsOverOutermost x (reserved_jobs h.live) s)) same
     (subst (λ (x : List Reserved). MatchOption o (HasNoOutermost v x) (λ s. IsOverOutermost v x s))
-        live m)
+    live m)
 
 pub joined_low : (v : Levels) (target_size : ℕ) (s : Span) → IsJoined v target_size s → s.level ≤ 5
 joined_low v target_size s j = j.inside

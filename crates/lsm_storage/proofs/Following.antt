@@ -26,7 +26,7 @@ pub begun_stopped : {T : Type 0} (number : ℕ) (bytes : List ℕ)
     (answer : Result (List ℕ) FolderFault) (old mid new : List Call) (r : Result T ShelfFault)
     → mid ≡ current_read answer old → NamesOther number answer
     → IfErr r (λ e. WriteStopped number bytes e mid new)
-        → IfErr r (λ e. StartStopped number bytes e old new)
+    → IfErr r (λ e. StartStopped number bytes e old new)
 begun_stopped number bytes answer old mid new (Ok v) is other stopped = tt
 begun_stopped number bytes answer old mid new (Err e) is other stopped =
     inr (inr (inr (answer, other, subst (λ x. WriteStopped number bytes e x new) is stopped)))

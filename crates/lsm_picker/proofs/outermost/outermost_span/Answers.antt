@@ -14,9 +14,9 @@ returns-then-lies_outside g c =
     let us = c.level-tables.result.now in
     let x = c.table-item.result in
     let here : Has us x =
-        item_has us c.loop-table.table-index x c.loop-table-test.true c.table-item.is in
+    item_has us c.loop-table.table-index x c.loop-table-test.true c.table-item.is in
     let four : 4 ≤ length (free_tables rs us) =
-        omega (arith, c.free_count.ensures.count, c.if-free_count-lt4.false) in
+    omega (arith, c.free_count.ensures.count, c.if-free_count-lt4.false) in
     record {
       file = x;
       outermost = record {
@@ -32,7 +32,7 @@ returns-then-lies_outside g c =
 pub loop-table-preserved : goal.loop-table-preserved
 loop-table-preserved g c =
     each_more (λ t. LiesOutside c.args.version.now t → ⊥) c.level-tables.result.now
-        c.loop-table.table-index c.table-item.result c.loop-table-test.true c.table-item.is
-        c.loop-table.invariant
+    c.loop-table.table-index c.table-item.result c.loop-table-test.true c.table-item.is
+    c.loop-table.invariant
     (λ lies. (let yes = c.lies_outside.ensures.1 lies in let off = c.if-lies_outside.false in
-        absurd (cc (yes, off))))
+    absurd (cc (yes, off))))

@@ -16,4 +16,4 @@ pub returns-in_default-clause-next : goal.returns-in_default-clause-next
 returns-in_default-clause-next g c honest =
     let h : Held = c.args.self.now in
     match_none c.in_ok-plan.field-0 (HasNoNext h) (IsNext h) c.in_default.not-Some
-        (c.in_ok-plan.ensures.next honest)
+    (c.in_ok-plan.ensures.next honest)
