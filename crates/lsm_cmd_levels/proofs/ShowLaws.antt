@@ -1,5 +1,5 @@
 -- What a run says, by what reading the manifest and showing its shape say.
-use Rattle.std.proofs.Common.{◌≡◌, ◌⊎◌, ⊥, ℕ, Bool, List, ◌∷◌, ◌++◌, Option, None, Some, IfErr, OnErr, OnOk, arith, inl, inr, refl, sym, subst}
+use Rattle.std.proofs.Common.{◌≡◌, ◌⊎◌, ℕ, Bool, List, ◌∷◌, ◌++◌, Option, None, Some, IfErr, OnErr, OnOk, arith, inl, inr, refl, sym, subst}
 use Rattle.std.specs.Prelude.{Result, Ok, Err, IsTrue}
 use Rattle.std.specs.Io.KnownBytes.{Appends, Keeps}
 use Rattle.std.proofs.KnownBytes.{Keeps-refl, Keeps-trans}
@@ -69,7 +69,7 @@ module _ (form : Form) (output : LevelsOutput) where
   not_named e Refused strict others was is old fault = inl (fault, Keeps-refl old)
 
   none_of : {A B C : Type 0} → (A × ⊥ × B) ⊎ ⊥ → C
-  none_of (inl x) = absurd x.1.0
+  none_of (inl x) = absurd x.1
   none_of (inr x) = absurd x
 
   -- where a fault says that the manifest is gone, nothing was shown
@@ -120,7 +120,7 @@ appends_kept (Some xs) (Some ys) None text kept grown = absurd grown
 appends_kept (Some xs) (Some ys) (Some zs) text kept grown = subst (λ (l : List ℕ). zs ≡ l ++ text) kept grown
 
 pub begins_kept : (old mid new : Option (List ℕ)) (text : List ℕ) → Keeps old mid → Begins mid new text → Begins old new text
-begins_kept None mid new text kept begun = tt
+begins_kept None mid new text kept (lost, (written, grown, is)) = (lost, (written, tt, is))
 begins_kept (Some xs) None new text kept begun = absurd kept
 begins_kept (Some xs) (Some ys) new text kept begun = subst (λ (l : List ℕ). Begins (Some l) new text) kept begun
 

@@ -1,7 +1,7 @@
 -- What a run of `levels` comes to, for the words of its command line: this project's rule. It is
 -- about a folder that was opened at the path of these words, and about a shelf on its place; that
 -- such a shelf is the run's own is to be read.
-use Rattle.std.specs.Prelude.{◌≡◌, ◌⊎◌, ℕ, Bool, IsTrue, List, Option, ⊤}
+use Rattle.std.specs.Prelude.{◌≡◌, ◌⊎◌, ℕ, Bool, IsTrue, List, Option}
 use Rattle.std.specs.Io.KnownBytes.{Appends, Keeps}
 use Rattle.lsm_folder.specs.declared.folder_calls.FolderCalls.{Ghosts}
 use Rattle.lsm_manifest.specs.declared.shape.Shape.{Shape}
