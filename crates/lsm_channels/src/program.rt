@@ -2,7 +2,6 @@
 
 ghost use Rattle.std.specs.Prelude.{◌≡◌, ◌≤◌, ◌<◌, ◌^◌, ◌⊎◌, ◌++◌, IfErr, IfNone, IfOk};
 ghost use Rattle.std.specs.Prelude.{IfSome, OnOk, length, map};
-ghost use Rattle.std.specs.Prelude.{false};
 ghost use Rattle.std.specs.Option.{is_some, option_map};
 ghost use Rattle.lsm_directory.specs.Folders.{IsFolderAt};
 ghost use Rattle.lsm_frames.specs.OpeningView.{opened_of};
@@ -108,7 +107,6 @@ where
         (map (option_map (λ w. end (W.descriptor w) (W.happened w))) r.1.items)) }
     ensures refused { IfErr result (λ u. IsUnserved C.FolderCalls C.Mark.Mark none_said O.refuses
         (opened_of opening.now) u.fault) }
-    ensures asked { IfErr result (λ u. LeavesDoor u.fault false) }
     ensures back { IfErr result (λ u.
         AreHandedBack (Folder OutOfMemory) wires.items u.wires.items u.fault) }
 {
@@ -285,9 +283,9 @@ where
         Ok(opening) => match serve_at(rt, door, descriptors, &opening) {
             Ok((folder, wires)) => Ended::Served(folder, wires),
             Err((unserved, door)) => {
-                let first = opening.first_channel;
                 let Unserved { fault, wires } = unserved;
-                let (wire, others) = refuse(alloc, descriptors, first, &fault, wires);
+                let channel = opening.first_channel;
+                let (wire, others) = refuse(alloc, descriptors, channel, &fault, wires);
                 Ended::Refused(wire, others, door)
             }
         },
