@@ -52,7 +52,7 @@ returns-clause-refused g c =
           unserved_as (stored_at g.C.FolderCalls g.C.Mark.Mark (told_by g.C.FolderCalls c.over-shelf.result).place) MayRefuse (AreHonest g.C.FolderCalls.calls) c.args.plan.channels
           c.args.opening.now.channels start logs c.in-Err-done.unserved.fault (told_by g.C.FolderCalls c.over-shelf.result) (told_by g.C.FolderCalls c.serve_on-done.result.1) c.requires.channels
           (err_at _ c.serve_on-done.result.0 c.in-Err-done.unserved c.in-Err-done.is c.serve_on-done.ensures.refused)
-      );
+          );
     })
 
 pub returns-clause-back : goal.returns-clause-back
