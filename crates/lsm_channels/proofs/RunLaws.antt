@@ -205,18 +205,21 @@ ok_at {T} {E} P r v is ok = subst (λ (x : Result T E). IfOk x P) is ok
 pub err_at : {T E : Type 0} (P : E → Type 0) (r : Result T E) (e : E) → r ≡ Err e → IfErr r P → P e
 err_at {T} {E} P r e is err = subst (λ (x : Result T E). IfErr x P) is err
 
--- by as many channels and workers as the opening has
-pub served_as : (Honest : Type 0) (Refused : Asked → ShelfFault → Type 0) (gives : List ℕ → Type 0) (n m k l : ℕ) (start : Start) (logs : List FolderFile) (was is : Told) (ws : List End)
-    (rs : List (Option End)) → n ≡ m → k ≡ l → IsDatabaseServed Honest Refused gives (options_for n) k start logs was is ws rs
-    → IsDatabaseServed Honest Refused gives (options_for m) l start logs was is ws rs
-served_as Honest Refused gives n m k l start logs was is ws rs channels workers served =
-    subst (λ (x : ℕ). IsDatabaseServed Honest Refused gives (options_for x) l start logs was is ws rs) channels
-    (subst (λ (x : ℕ). IsDatabaseServed Honest Refused gives (options_for n) x start logs was is ws rs) workers served)
+-- by as many channels and workers as the opening has, on a shelf that was told the same
+pub served_as : (Honest : Type 0) (Refused : Asked → ShelfFault → Type 0) (gives : List ℕ → Type 0) (n m k l : ℕ) (start : Start) (logs : List FolderFile) (was old is : Told) (ws : List End)
+    (rs : List (Option End)) → n ≡ m → k ≡ l → was ≡ old → IsDatabaseServed Honest Refused gives (options_for n) k start logs was is ws rs
+    → IsDatabaseServed Honest Refused gives (options_for m) l start logs old is ws rs
+served_as Honest Refused gives n m k l start logs was old is ws rs channels workers told served =
+    subst (λ (x : ℕ). IsDatabaseServed Honest Refused gives (options_for x) l start logs old is ws rs) channels
+    (subst (λ (x : ℕ). IsDatabaseServed Honest Refused gives (options_for n) x start logs old is ws rs) workers
+    (subst (λ (t : Told). IsDatabaseServed Honest Refused gives (options_for n) k start logs t is ws rs) told served))
 
-pub unserved_as : (Stored : ℕ → List ℕ → Type 0) (Refused : Asked → ShelfFault → Type 0) (Honest : Type 0) (n m : ℕ) (start : Start) (logs : List FolderFile) (e : WriterFault) (was is : Told)
-    → n ≡ m → IsDatabaseUnserved Stored Refused Honest (options_for n) start logs e was is → IsDatabaseUnserved Stored Refused Honest (options_for m) start logs e was is
-unserved_as Stored Refused Honest n m start logs e was is channels refused =
-    subst (λ (x : ℕ). IsDatabaseUnserved Stored Refused Honest (options_for x) start logs e was is) channels refused
+pub unserved_as : (Stored : Place → ℕ → List ℕ → Type 0) (Refused : Asked → ShelfFault → Type 0) (Honest : Type 0) (n m : ℕ) (start : Start) (logs : List FolderFile) (e : WriterFault) (was old is : Told)
+    → n ≡ m → was ≡ old → IsDatabaseUnserved (Stored was.place) Refused Honest (options_for n) start logs e was is
+    → IsDatabaseUnserved (Stored old.place) Refused Honest (options_for m) start logs e old is
+unserved_as Stored Refused Honest n m start logs e was old is channels told refused =
+    subst (λ (x : ℕ). IsDatabaseUnserved (Stored old.place) Refused Honest (options_for x) start logs e old is) channels
+    (subst (λ (t : Told). IsDatabaseUnserved (Stored t.place) Refused Honest (options_for n) start logs e t is) told refused)
 
 -- the wires come back with the refusal of the opening
 pub back_as : {W : Type 0} (given back : List W) (e : WriterFault) → AreHandedBack OutOfMemory given back e → AreHandedBack (Folder OutOfMemory) given back (Folder e)

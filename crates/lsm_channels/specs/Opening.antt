@@ -153,7 +153,7 @@ pub data Outcome (C : Type 0) : Type 0 where
   -- the folder, and the wires
   ServedTo : C → List (Option End) → Outcome C
 
-abbrev pub outcome_of : {C O W : Type 0} → (W → End) → Ended C O W → Outcome C
+abbrev pub outcome_of : {C O W M : Type 0} → (W → End) → Ended C O W M → Outcome C
 outcome_of seen (ended.Unopened door) = NoneOpened
 outcome_of seen (ended.Refused wire others door) =
     RefusedOn (seen wire) (map seen others.items) (is_some door)

@@ -1,8 +1,7 @@
-use Rattle.std.proofs.Common.{◌≡◌, ap, inl, inr, refl, sym, ◌∙◌}
+use Rattle.std.proofs.Common.{inl, inr, refl}
 use Rattle.lsm_directory.specs.Folders.{stored_at, told_by}
 use Rattle.lsm_folder.specs.Calls.{AreHonest}
 use Rattle.lsm_frames.specs.OpeningView.{opened_of}
-use Rattle.lsm_shelf.specs.Place.{Place}
 use Rattle.lsm_shelf.specs.Refusals.{MayRefuse}
 use Rattle.lsm_shelf.specs.Told.{fresh}
 use Rattle.lsm_channels.proofs.RunLaws.{barred, back_as, err_at, ok_at, served_as, told_there, unprepared, unserved_as}
@@ -33,7 +32,7 @@ returns-in-Ok-done-clause-served g c =
       allowed = c.in-Ok-judge.ensures.ok;
       held = c.in-Ok.ensures.prepared;
       ended = c.serve_on-done.result.1;
-      served = rw new at (served_as _ _ _ _ _ _ _ _ _ _ _ _ _ c.requires.channels c.requires.workers (ok_at _ c.serve_on-done.result.0 c.in-Ok-done.wires c.in-Ok-done.is c.serve_on-done.ensures.served));
+      served = served_as _ _ _ _ _ _ _ _ _ _ _ _ _ _ c.requires.channels c.requires.workers new (ok_at _ c.serve_on-done.result.0 c.in-Ok-done.wires c.in-Ok-done.is c.serve_on-done.ensures.served);
     }
 
 pub returns-clause-refused : goal.returns-clause-refused
@@ -48,11 +47,9 @@ returns-clause-refused g c =
       folder = c.in-Ok.found.0;
       at = c.in-Ok.ensures.prepared;
       ended = c.serve_on-done.result.1;
-      refused = rw new at (
-          unserved_as (stored_at g.C.FolderCalls g.C.Mark.Mark (told_by g.C.FolderCalls c.over-shelf.result).place) MayRefuse (AreHonest g.C.FolderCalls.calls) c.args.plan.channels
-          c.args.opening.now.channels start logs c.in-Err-done.unserved.fault (told_by g.C.FolderCalls c.over-shelf.result) (told_by g.C.FolderCalls c.serve_on-done.result.1) c.requires.channels
-          (err_at _ c.serve_on-done.result.0 c.in-Err-done.unserved c.in-Err-done.is c.serve_on-done.ensures.refused)
-          );
+      refused = unserved_as (stored_at g.C.FolderCalls g.C.Mark.Mark) MayRefuse (AreHonest g.C.FolderCalls.calls) c.args.plan.channels c.args.opening.now.channels start logs c.in-Err-done.unserved.fault
+          (told_by g.C.FolderCalls c.over-shelf.result) (fresh (g.C.FolderCalls.place c.in-Ok.found.0)) (told_by g.C.FolderCalls c.serve_on-done.result.1) c.requires.channels new
+          (err_at _ c.serve_on-done.result.0 c.in-Err-done.unserved c.in-Err-done.is c.serve_on-done.ensures.refused);
     })
 
 pub returns-clause-back : goal.returns-clause-back
