@@ -29,6 +29,9 @@ impl Door<SystemFolder<HostRuntime, Mute>> for SystemDoor {
         path: &str,
         reasons: &Reasons,
     ) -> Result<SystemFolder<HostRuntime, Mute>, FolderFault> {
-        self.paths.open_folder(path, reasons)
+        match self.paths.open_folder(path, reasons) {
+            Ok(folder) => Ok(folder),
+            Err(fault) => Err(fault),
+        }
     }
 }
