@@ -1,5 +1,4 @@
-use Rattle.std.proofs.Common.{◌≤◌, List, ap, arith, map, refl}
-use Rattle.std.specs.Prelude.{◌^◌}
+use Rattle.std.proofs.Common.{List, ap, arith, map, refl}
 use Rattle.lsm_channels.specs.Serving.{End, end}
 use Rattle.lsm_channels.proofs.RunLaws.{content_past, content_refused, content_short}
 use Rattle.lsm_channels.proofs.program.refuse_content.Goals as goal

@@ -1,4 +1,3 @@
-use Rattle.std.proofs.Common.{inl, refl}
 use Rattle.lsm_frames.specs.OpeningView.{opened_of}
 use Rattle.lsm_channels.specs.Serving.{End, end}
 use Rattle.lsm_channels.proofs.RunLaws.{asked_door, opened_back, unserved_open}

@@ -1,5 +1,4 @@
 use Rattle.std.proofs.Common.{arith, map, sym, true≢false}
-use Rattle.std.specs.Option.{is_some}
 use Rattle.lsm_frames.specs.OpeningView.{opened_of}
 use Rattle.lsm_channels.specs.Serving.{End, end}
 use Rattle.lsm_channels.proofs.RunLaws.{opening_refused}
