@@ -35,8 +35,8 @@ returns-in-Ok-done-clause-served g c =
       served = served_as _ _ _ _ _ _ _ _ _ _ _ _ _ _ c.requires.channels c.requires.workers new (ok_at _ c.serve_on-done.result.0 c.in-Ok-done.wires c.in-Ok-done.is c.serve_on-done.ensures.served);
     }
 
-pub returns-clause-refused : goal.returns-clause-refused
-returns-clause-refused g c =
+pub returns-in-Err-done-clause-refused : goal.returns-in-Err-done-clause-refused
+returns-in-Err-done-clause-refused g c =
     let start = c.in-Ok.found.1.start in
     let logs = c.in-Ok.found.1.logs.items in
     let new = told_there g.C.FolderCalls c.in-Ok.found.0 c.in-Ok-fork.fork c.over-shelf.result c.in-Ok-fork.ensures.fork.1 c.over-shelf.ensures.fresh in
@@ -52,5 +52,5 @@ returns-clause-refused g c =
           (err_at _ c.serve_on-done.result.0 c.in-Err-done.unserved c.in-Err-done.is c.serve_on-done.ensures.refused);
     })
 
-pub returns-clause-back : goal.returns-clause-back
-returns-clause-back g c = back_as _ _ _ (err_at _ c.serve_on-done.result.0 c.in-Err-done.unserved c.in-Err-done.is c.serve_on-done.ensures.back)
+pub returns-in-Err-done-clause-back : goal.returns-in-Err-done-clause-back
+returns-in-Err-done-clause-back g c = back_as _ _ _ (err_at _ c.serve_on-done.result.0 c.in-Err-done.unserved c.in-Err-done.is c.serve_on-done.ensures.back)
