@@ -1,9 +1,10 @@
 -- How a run ends.
-use Rattle.std.proofs.Common.{◌≡◌, ℕ, zero, suc, ◌+◌, ◌<◌, ◌≤◌, ℤ, pos, Bool, List, [], ◌∷◌, ◌++◌, length, map, take, drop, Option, Result, Ok, Err, IfErr, IfOk, refl, sym, ap, ◌∙◌, subst, inl, inr, ◌⊎◌, arith}
+use Rattle.std.proofs.Common.{◌≡◌, ℕ, zero, suc, ◌+◌, ◌<◌, ◌≤◌, ℤ, pos, Bool, true, List, [], ◌∷◌, ◌++◌, length, map, take, drop, Option, Result, Ok, Err, IfErr, IfOk, refl, sym, ap, ◌∙◌, subst, inl, inr, ◌⊎◌, arith}
 use Rattle.std.specs.Prelude.{◌^◌, MatchResult, slice_index_or}
 use Rattle.std.specs.Int.{w32, from_le_bytes}
 use Rattle.lsm_folder.specs.Calls.{Call, opened}
 use Rattle.lsm_folder.specs.declared.folder_calls.FolderCalls.{Ghosts}
+use Rattle.lsm_folder.specs.declared.folder_fault.FolderFault.{FolderFault}
 use Rattle.lsm_folder.specs.declared.mark.Mark as mark
 use Rattle.lsm_frames.specs.Answers.{IsRefused}
 use Rattle.lsm_frames.specs.Openings.{IsOpening, Opened}
@@ -11,9 +12,8 @@ use Rattle.lsm_shelf.specs.Place.{IsAtPath, Place}
 use Rattle.lsm_shelf.specs.Asked.{Asked}
 use Rattle.lsm_shelf.specs.Told.{Told, fresh}
 use Rattle.lsm_shelf.specs.declared.shelf_fault.ShelfFault.{ShelfFault}
-use Rattle.lsm_storage.specs.FileShelf.{folder_of}
 use Rattle.lsm_storage.specs.declared.file.file_shelf.FileShelf.{FileShelf}
-use Rattle.lsm_directory.specs.Folders.{IsFolderAt, IsShelfAt, told_by}
+use Rattle.lsm_directory.specs.Folders.{IsFolderAt, told_by}
 use Rattle.lsm_directory.specs.declared.folder.folder_file.FolderFile.{FolderFile}
 use Rattle.lsm_opening.specs.Preparing.{IsPrepared, plainly}
 use Rattle.lsm_opening.specs.declared.faults.writer_fault.WriterFault.{WriterFault}
@@ -22,7 +22,7 @@ use Rattle.lsm_opening.specs.declared.prepared.Start.{Start}
 use Rattle.lsm_opening.specs.declared.prepared.Start.TheVariants.{Begin, Open}
 use Rattle.lsm_wire.specs.Happenings.{Happening, Came, Went, IsUnanswered, IsWritten, unanswered}
 use Rattle.lsm_channels.specs.Answered.{answer_frame}
-use Rattle.lsm_channels.specs.Opening.{AreLeft, AreLost, IsBarred, IsContentServed, IsNoContent, IsNoOpening, IsRun, IsUnpreparedAt, IsUnserved, Names, NoneOpened, Outcome, RefusedOn, SaysRefusal, ServedTo}
+use Rattle.lsm_channels.specs.Opening.{AreLeft, AreLost, IsBarred, IsContentServed, IsNoContent, IsNoOpening, IsRun, IsUnpreparedAt, IsUnserved, LeavesDoor, Names, NoneOpened, Outcome, RefusedOn, SaysRefusal}
 use Rattle.lsm_channels.specs.OpeningFault.{name_of, number_of}
 use Rattle.lsm_channels.specs.Refusal.{AreOpened, IsFirst, IsSaidOn, none_said}
 use Rattle.lsm_channels.specs.Serving.{AreHandedBack, End, IsDatabaseServed, IsDatabaseUnserved, end, ends_from, opened_from}
@@ -113,80 +113,84 @@ module _ {C M : Type 0} (folders : Ghosts C M) where
     called = subst (λ (cs : List Call). Called cs (folders.calls now)) none called;
   }
 
-  -- a shelf on it
-  pub shelf_on : (path : List ℕ) (Called : List Call → List Call → Type 0) (folder : C) (shelf : FileShelf C M) → IsFolderAt folders path Called folder → folder_of shelf ≡ folder
-      → told_by folders shelf ≡ fresh (folders.place folder) → IsShelfAt folders path Called shelf
-  shelf_on path Called folder shelf at on new = record {
-    on = subst (λ (f : C). IsFolderAt folders path Called f) (sym on) at;
-    new = subst (λ (f : C). told_by folders shelf ≡ fresh (folders.place f)) (sym on) new;
-  }
+  -- a shelf on a fork of it was told nothing
+  pub told_there : (folder fork : C) (shelf : FileShelf C M) → folders.place fork ≡ folders.place folder → told_by folders shelf ≡ fresh (folders.place fork)
+      → told_by folders shelf ≡ fresh (folders.place folder)
+  told_there folder fork shelf same new = new ∙ ap (λ (p : Place). fresh p) same
 
 -- ---- what becomes of an opening
 
 module _ {C M : Type 0} (folders : Ghosts C M) (marks : mark.Ghosts M) where
   -- where of no descriptor anything was said
-  pub unserved_open : (says : ℤ → Bool → Type 0) (o : Opened) (e : OpeningFault) → IsUnserved folders marks none_said o e → IsUnserved folders marks says o e
-  unserved_open says o BadOpening why = absurd why.2
-  unserved_open says o NoDatabase why = why
-  unserved_open says o IsThere why = why
-  unserved_open says o (Folder f) why = why
+  pub unserved_open : (says : ℤ → Bool → Type 0) (refuses : List ℕ → FolderFault → Type 0) (o : Opened) (e : OpeningFault) → IsUnserved folders marks none_said refuses o e
+      → IsUnserved folders marks says refuses o e
+  unserved_open says refuses o BadOpening why = absurd why.2
+  unserved_open says refuses o NoDatabase why = why
+  unserved_open says refuses o IsThere why = why
+  unserved_open says refuses o (Folder f) why = why
+
+  -- and there the door need not be left
+  pub asked_door : (refuses : List ℕ → FolderFault → Type 0) (o : Opened) (e : OpeningFault) (left : Bool) → IsUnserved folders marks none_said refuses o e → LeavesDoor e left
+  asked_door refuses o BadOpening left why = absurd why.2
+  asked_door refuses o NoDatabase left why = tt
+  asked_door refuses o IsThere left why = tt
+  asked_door refuses o (Folder f) left why = tt
 
   -- there is none, or one, and that was to be refused
-  pub barred : (o : Opened) (start : Start) (logs : List FolderFile) (folder : C) (e : OpeningFault) → IsBarred start o.make o.refuse e
-      → IsFolderAt folders o.path (IsPrepared plainly start logs) folder → IsUnserved folders marks none_said o e
-  barred o Open logs folder BadOpening why at = absurd why
-  barred o Open logs folder NoDatabase why at = absurd why
-  barred o Open logs folder IsThere why at = record { start = Open; logs = logs; barred = why; folder = folder; at = at }
-  barred o Open logs folder (Folder f) why at = absurd why
-  barred o (Begin n) logs folder BadOpening why at = absurd why
-  barred o (Begin n) logs folder NoDatabase why at = record { start = Begin n; logs = logs; barred = why; folder = folder; at = at }
-  barred o (Begin n) logs folder IsThere why at = absurd why
-  barred o (Begin n) logs folder (Folder f) why at = absurd why
+  pub barred : (refuses : List ℕ → FolderFault → Type 0) (o : Opened) (start : Start) (logs : List FolderFile) (folder : C) (e : OpeningFault) → IsBarred start o.make o.refuse e
+      → IsFolderAt folders o.path (IsPrepared plainly start logs) folder → IsUnserved folders marks none_said refuses o e
+  barred refuses o Open logs folder BadOpening why at = absurd why
+  barred refuses o Open logs folder NoDatabase why at = absurd why
+  barred refuses o Open logs folder IsThere why at = record { start = Open; logs = logs; barred = why; folder = folder; at = at }
+  barred refuses o Open logs folder (Folder f) why at = absurd why
+  barred refuses o (Begin n) logs folder BadOpening why at = absurd why
+  barred refuses o (Begin n) logs folder NoDatabase why at = record { start = Begin n; logs = logs; barred = why; folder = folder; at = at }
+  barred refuses o (Begin n) logs folder IsThere why at = absurd why
+  barred refuses o (Begin n) logs folder (Folder f) why at = absurd why
 
   -- memory ran out, or the folder was not prepared
-  pub unprepared : (o : Opened) (e : WriterFault) → (e ≡ OutOfMemory) ⊎ IsUnpreparedAt folders o.path e → IsUnserved folders marks none_said o (Folder e)
-  unprepared o e (inl h) = inl h
-  unprepared o e (inr h) = inr (inl h)
+  pub unprepared : (refuses : List ℕ → FolderFault → Type 0) (o : Opened) (e : WriterFault) → (e ≡ OutOfMemory) ⊎ IsUnpreparedAt folders refuses o.path e
+      → IsUnserved folders marks none_said refuses o (Folder e)
+  unprepared refuses o e (inl h) = inl h
+  unprepared refuses o e (inr h) = inr (inl h)
 
   -- an opening was refused over its first channel
-  pub opening_refused : (says : ℤ → Bool → Type 0) (gives : List ℕ → Type 0) (content : List ℕ) (o : Opened) (e : OpeningFault) (ws : List End) (outcome : Outcome) (was mid is : List ℤ)
-      → IsOpening content o → IsUnserved folders marks says o e → AreOpened e o.first o.channels ws was mid → IsSaidOn e o.first ws mid is outcome
-      → IsContentServed folders marks says gives content outcome was is
-  opening_refused says gives content o e ws NoneOpened was mid is opening why wires said =
-      let numbers = opening.fits.descriptors in
-      let some = opening.fits.some_channel in
-      let past : 2 ^ 31 ≤ o.first = said.0 in
-      absurd (omega (arith, numbers, some, past))
-  opening_refused says gives content o e ws (RefusedOn w others) was mid is opening why wires said =
-      let left = wires_left e o.first o.channels ws said.0 others was mid is opening.fits.some_channel wires said.1 in
-      inr (o, opening, record { fault = e; why = why; said = said.2 left.0; wires = left.1 })
-  opening_refused says gives content o e ws (ServedTo rs) was mid is opening why wires said = absurd said
+  pub opening_refused : (says : ℤ → Bool → Type 0) (refuses : List ℕ → FolderFault → Type 0) (gives : List ℕ → Type 0) (content : List ℕ) (o : Opened) (e : OpeningFault) (ws : List End) (w : End)
+      (others : List End) (left : Bool) (was mid is : List ℤ) → IsOpening content o → IsUnserved folders marks says refuses o e → LeavesDoor e left → AreOpened e o.first o.channels ws was mid
+      → IsSaidOn e o.first ws mid is w others → IsContentServed folders marks says refuses gives content (RefusedOn w others left) was is
+  opening_refused says refuses gives content o e ws w others left was mid is opening why door wires said =
+      let back = wires_left e o.first o.channels ws said.0 others was mid is opening.fits.some_channel wires said.1 in
+      inr (o, opening, record { fault = e; why = why; door = door; said = said.2 back.0; wires = back.1 })
 
   -- what is no opening was refused over the channel that it names
-  pub content_refused : (says : ℤ → Bool → Type 0) (gives : List ℕ → Type 0) (content : List ℕ) (first : ℕ) (ws : List End) (outcome : Outcome) (was is : List ℤ) → IsNoOpening content → Names content first
-      → ws ≡ [] → IsSaidOn BadOpening first ws was is outcome → IsContentServed folders marks says gives content outcome was is
-  content_refused says gives content first ws NoneOpened was is none named empty said =
-      (none, (λ other names. subst (λ (n : ℕ). 2 ^ 31 ≤ n) (named.1 ∙ sym names.1) said.0), said.1)
-  content_refused says gives content first ws (RefusedOn w others) was is none named empty said =
+  pub content_refused : (says : ℤ → Bool → Type 0) (refuses : List ℕ → FolderFault → Type 0) (gives : List ℕ → Type 0) (content : List ℕ) (first : ℕ) (ws : List End) (w : End) (others : List End)
+      (was is : List ℤ) → IsNoOpening content → Names content first → ws ≡ [] → IsSaidOn BadOpening first ws was is w others
+      → IsContentServed folders marks says refuses gives content (RefusedOn w others true) was is
+  content_refused says refuses gives content first ws w others was is none named empty said =
       let t = first_none first said.0 others was is (subst (λ (vs : List End). IsFirst first vs said.0 others was is) empty said.1) in
-      inl (none, (first, named, (said.2 t.0, t.1, t.2)))
-  content_refused says gives content first ws (ServedTo rs) was is none named empty said = absurd said
+      inl (none, (first, named, (said.2 t.0, t.1, refl, t.2)))
 
-  -- and what names none was not
-  pub content_short : (says : ℤ → Bool → Type 0) (gives : List ℕ → Type 0) (content : List ℕ) (was is : List ℤ) → IsNoOpening content → length content < 4 → is ≡ was
-      → IsContentServed folders marks says gives content NoneOpened was is
-  content_short says gives content was is none short same = (none, (λ other names. let long = names.0 in absurd (omega (arith, short, long))), same)
+  -- what names none that a descriptor can be was not
+  pub content_past : (says : ℤ → Bool → Type 0) (refuses : List ℕ → FolderFault → Type 0) (gives : List ℕ → Type 0) (content : List ℕ) (first : ℕ) (was is : List ℤ) → IsNoOpening content
+      → Names content first → 2 ^ 31 ≤ first → is ≡ was → IsContentServed folders marks says refuses gives content NoneOpened was is
+  content_past says refuses gives content first was is none named past same = (none, (λ other names. subst (λ (n : ℕ). 2 ^ 31 ≤ n) (named.1 ∙ sym names.1) past), same)
+
+  -- nor what names none
+  pub content_short : (says : ℤ → Bool → Type 0) (refuses : List ℕ → FolderFault → Type 0) (gives : List ℕ → Type 0) (content : List ℕ) (was is : List ℤ) → IsNoOpening content → length content < 4
+      → is ≡ was → IsContentServed folders marks says refuses gives content NoneOpened was is
+  content_short says refuses gives content was is none short same = (none, (λ other names. let long = names.0 in absurd (omega (arith, short, long))), same)
 
   -- ---- what came at descriptor 0
 
-  pub nothing_came : (says : ℤ → Bool → Type 0) (gives : List ℕ → Type 0) (came : Happening) (opening : End) (was is : List ℤ) → IsNoContent came → opening ≡ end (pos 0) (came ∷ [])
-      → is ≡ pos 0 ∷ was → IsRun folders marks says gives opening NoneOpened was is
-  nothing_came says gives came opening was is none seen made = inl (came, none, seen, refl, made)
+  pub nothing_came : (says : ℤ → Bool → Type 0) (refuses : List ℕ → FolderFault → Type 0) (gives : List ℕ → Type 0) (came : Happening) (opening : End) (was is : List ℤ) → IsNoContent came
+      → opening ≡ end (pos 0) (came ∷ []) → is ≡ pos 0 ∷ was → IsRun folders marks says refuses gives opening NoneOpened was is
+  nothing_came says refuses gives came opening was is none seen made = inl (came, none, seen, refl, made)
 
-  pub content_came : (says : ℤ → Bool → Type 0) (gives : List ℕ → Type 0) (content : List ℕ) (opening : End) (outcome : Outcome) (was mid is : List ℤ) → opening ≡ end (pos 0) (Came content ∷ [])
-      → mid ≡ pos 0 ∷ was → IsContentServed folders marks says gives content outcome mid is → IsRun folders marks says gives opening outcome was is
-  content_came says gives content opening outcome was mid is seen made served =
-      inr (content, seen, subst (λ (ds : List ℤ). IsContentServed folders marks says gives content outcome ds is) made served)
+  pub content_came : (says : ℤ → Bool → Type 0) (refuses : List ℕ → FolderFault → Type 0) (gives : List ℕ → Type 0) (content : List ℕ) (opening : End) (outcome : Outcome C) (was mid is : List ℤ)
+      → opening ≡ end (pos 0) (Came content ∷ []) → mid ≡ pos 0 ∷ was → IsContentServed folders marks says refuses gives content outcome mid is
+      → IsRun folders marks says refuses gives opening outcome was is
+  content_came says refuses gives content opening outcome was mid is seen made served =
+      inr (content, seen, subst (λ (ds : List ℤ). IsContentServed folders marks says refuses gives content outcome ds is) made served)
 
 pub seen_end : (d e : ℤ) (was is : List Happening) (came : Happening) → d ≡ pos 0 → e ≡ d → was ≡ [] → is ≡ came ∷ was → end e is ≡ end (pos 0) (came ∷ [])
 seen_end d e was is came opening same none noted =
@@ -201,18 +205,21 @@ ok_at {T} {E} P r v is ok = subst (λ (x : Result T E). IfOk x P) is ok
 pub err_at : {T E : Type 0} (P : E → Type 0) (r : Result T E) (e : E) → r ≡ Err e → IfErr r P → P e
 err_at {T} {E} P r e is err = subst (λ (x : Result T E). IfErr x P) is err
 
--- by as many channels and workers as the opening has
-pub served_as : (Honest : Type 0) (Refused : Asked → ShelfFault → Type 0) (gives : List ℕ → Type 0) (n m k l : ℕ) (start : Start) (logs : List FolderFile) (was is : Told) (ws : List End)
-    (rs : List (Option End)) → n ≡ m → k ≡ l → IsDatabaseServed Honest Refused gives (options_for n) k start logs was is ws rs
-    → IsDatabaseServed Honest Refused gives (options_for m) l start logs was is ws rs
-served_as Honest Refused gives n m k l start logs was is ws rs channels workers served =
-    subst (λ (x : ℕ). IsDatabaseServed Honest Refused gives (options_for x) l start logs was is ws rs) channels
-    (subst (λ (x : ℕ). IsDatabaseServed Honest Refused gives (options_for n) x start logs was is ws rs) workers served)
+-- by as many channels and workers as the opening has, on a shelf that was told the same
+pub served_as : (Honest : Type 0) (Refused : Asked → ShelfFault → Type 0) (gives : List ℕ → Type 0) (n m k l : ℕ) (start : Start) (logs : List FolderFile) (was old is : Told) (ws : List End)
+    (rs : List (Option End)) → n ≡ m → k ≡ l → was ≡ old → IsDatabaseServed Honest Refused gives (options_for n) k start logs was is ws rs
+    → IsDatabaseServed Honest Refused gives (options_for m) l start logs old is ws rs
+served_as Honest Refused gives n m k l start logs was old is ws rs channels workers told served =
+    subst (λ (x : ℕ). IsDatabaseServed Honest Refused gives (options_for x) l start logs old is ws rs) channels
+    (subst (λ (x : ℕ). IsDatabaseServed Honest Refused gives (options_for n) x start logs old is ws rs) workers
+    (subst (λ (t : Told). IsDatabaseServed Honest Refused gives (options_for n) k start logs t is ws rs) told served))
 
-pub unserved_as : (Stored : ℕ → List ℕ → Type 0) (Refused : Asked → ShelfFault → Type 0) (Honest : Type 0) (n m : ℕ) (start : Start) (logs : List FolderFile) (e : WriterFault) (was is : Told)
-    → n ≡ m → IsDatabaseUnserved Stored Refused Honest (options_for n) start logs e was is → IsDatabaseUnserved Stored Refused Honest (options_for m) start logs e was is
-unserved_as Stored Refused Honest n m start logs e was is channels refused =
-    subst (λ (x : ℕ). IsDatabaseUnserved Stored Refused Honest (options_for x) start logs e was is) channels refused
+pub unserved_as : (Stored : Place → ℕ → List ℕ → Type 0) (Refused : Asked → ShelfFault → Type 0) (Honest : Type 0) (n m : ℕ) (start : Start) (logs : List FolderFile) (e : WriterFault) (was old is : Told)
+    → n ≡ m → was ≡ old → IsDatabaseUnserved (Stored was.place) Refused Honest (options_for n) start logs e was is
+    → IsDatabaseUnserved (Stored old.place) Refused Honest (options_for m) start logs e old is
+unserved_as Stored Refused Honest n m start logs e was old is channels told refused =
+    subst (λ (x : ℕ). IsDatabaseUnserved (Stored old.place) Refused Honest (options_for x) start logs e old is) channels
+    (subst (λ (t : Told). IsDatabaseUnserved (Stored t.place) Refused Honest (options_for n) start logs e t is) told refused)
 
 -- the wires come back with the refusal of the opening
 pub back_as : {W : Type 0} (given back : List W) (e : WriterFault) → AreHandedBack OutOfMemory given back e → AreHandedBack (Folder OutOfMemory) given back (Folder e)

@@ -1,5 +1,5 @@
 -- What a server's lock keeps of a state (this project's rule).
-use Rattle.std.specs.Prelude.{◌≡◌, ⊤, ℕ, List, [], ◌∷◌, Option, None, Some}
+use Rattle.std.specs.Prelude.{◌≡◌, ℕ, List, [], ◌∷◌, Option, None, Some}
 use Rattle.lsm_batch.specs.declared.write.Write.{Write}
 use Rattle.lsm_codec.specs.Entries.{Entry}
 use Rattle.lsm_codec.specs.Lists.{Has}
@@ -26,11 +26,21 @@ pub record IsQuietStep (Honest : Type 0) (was is : Held) : Type 0 where
   pub run : Run Honest (plain was) events (plain is)
   pub history : is.history ≡ was.history
 
+-- What is done by a request that only looks, or removes tables that nothing needs: of the state just
+-- who pins which version is another, which the plain machine does not see.
+pub record IsLook (was is : Held) : Type 0 where
+  pub rest : is ≡ record was { slots = is.slots }
+  pub machine : plain is ≡ plain was
+
 -- ---- which facts of a state may be kept
 
 -- Such a step keeps the fact.
 abbrev pub IsKeptQuietly : Type 0 → (Held → Type 0) → Type 0
 IsKeptQuietly Honest keeps = (was is : Held) → IsQuietStep Honest was is → keeps was → keeps is
+
+-- A look keeps it.
+abbrev pub IsKeptByLooks : (Held → Type 0) → Type 0
+IsKeptByLooks keeps = (was is : Held) → IsLook was is → keeps was → keeps is
 
 -- The batch of the last ones of these writes keeps it, where it comes in and where it is refused.
 abbrev pub IsKeptByWrites : (shelf.Asked → ShelfFault → Type 0) → List Written → (Held → Type 0)
@@ -47,24 +57,27 @@ IsKeptByTakes keeps =
 abbrev pub IsKeptByRelease : ℕ → (Held → Type 0) → Type 0
 IsKeptByRelease number keeps = (was is : Held) → ReleasesAt was is number → keeps was → keeps is
 
--- What is asked keeps it: that is to be said of those three alone.
-abbrev pub IsKeptByAsked : (shelf.Asked → ShelfFault → Type 0) → Asked → (Held → Type 0) → Type 0
-IsKeptByAsked Refused (Writes ws) keeps = IsKeptByWrites Refused ws keeps
-IsKeptByAsked Refused (Reads when keys) keeps = ⊤
-IsKeptByAsked Refused (Scans s) keeps = ⊤
-IsKeptByAsked Refused Snapshots keeps = IsKeptByTakes keeps
-IsKeptByAsked Refused (Releases number) keeps = IsKeptByRelease number keeps
-IsKeptByAsked Refused Compacts keeps = ⊤
-IsKeptByAsked Refused (CompactsRange b) keeps = ⊤
-IsKeptByAsked Refused Collects keeps = ⊤
-IsKeptByAsked Refused Statistics keeps = ⊤
+-- What is done for a request keeps it: looks, its batch, what it says of a snapshot, or what workers
+-- do. So by no other request than to compact anything is done that workers do.
+abbrev pub IsKeptByAsked : Type 0 → (shelf.Asked → ShelfFault → Type 0) → Asked → (Held → Type 0)
+    → Type 0
+IsKeptByAsked Honest Refused (Writes ws) keeps =
+    IsKeptByLooks keeps × IsKeptByWrites Refused ws keeps
+IsKeptByAsked Honest Refused (Reads when keys) keeps = IsKeptByLooks keeps
+IsKeptByAsked Honest Refused (Scans s) keeps = IsKeptByLooks keeps
+IsKeptByAsked Honest Refused Snapshots keeps = IsKeptByTakes keeps
+IsKeptByAsked Honest Refused (Releases number) keeps = IsKeptByRelease number keeps
+IsKeptByAsked Honest Refused Compacts keeps = IsKeptQuietly Honest keeps
+IsKeptByAsked Honest Refused (CompactsRange b) keeps = IsKeptQuietly Honest keeps
+IsKeptByAsked Honest Refused Collects keeps = IsKeptByLooks keeps
+IsKeptByAsked Honest Refused Statistics keeps = IsKeptByLooks keeps
 
 -- Each request that may come keeps it.
-abbrev pub IsKeptByRequests : (shelf.Asked → ShelfFault → Type 0) → (gives : List ℕ → Type 0)
-    → (Held → Type 0) → Type 0
-IsKeptByRequests Refused gives keeps =
+abbrev pub IsKeptByRequests : Type 0 → (shelf.Asked → ShelfFault → Type 0)
+    → (gives : List ℕ → Type 0) → (Held → Type 0) → Type 0
+IsKeptByRequests Honest Refused gives keeps =
     (content : List ℕ) (asked : Asked) → gives content → IsRequest content asked
-    → IsKeptByAsked Refused asked keeps
+    → IsKeptByAsked Honest Refused asked keeps
 
 -- ---- what is known by it
 

@@ -2,17 +2,19 @@
 use Rattle.std.specs.Prelude.{◌≡◌, ⊤, ◌⊎◌, ℕ, suc, ◌+◌, ◌^◌, ◌<◌, ◌≤◌, ℤ, pos, Bool, true, false}
 use Rattle.std.specs.Prelude.{List, [], ◌∷◌, ◌++◌, Option, length, map, take}
 use Rattle.std.specs.Int.{w32, from_le_bytes}
-use Rattle.std.specs.Option.{option_map}
-use Rattle.lsm_directory.specs.Folders.{IsFolderAt, IsShelfAt, stored_at, told_by}
-use Rattle.lsm_directory.specs.Holding.{IsFolderFault}
-use Rattle.lsm_directory.specs.declared.faults.directory_fault.DirectoryFault.{DirectoryFault}
+use Rattle.std.specs.Option.{is_some, option_map}
+use Rattle.lsm_directory.specs.Folders.{IsFolderAt, stored_at, told_by}
+use Rattle.lsm_directory.specs.declared.faults.directory_fault.DirectoryFault.TheVariants.{Shelf}
 use Rattle.lsm_directory.specs.declared.folder.folder_file.FolderFile.{FolderFile}
 use Rattle.lsm_folder.specs.Calls.{AreHonest}
 use Rattle.lsm_folder.specs.declared.folder_calls.FolderCalls.{Ghosts}
+use Rattle.lsm_folder.specs.declared.folder_fault.FolderFault.{FolderFault}
 use Rattle.lsm_folder.specs.declared.mark.Mark as mark
 use Rattle.lsm_frames.specs.Answers.{IsRefused}
 use Rattle.lsm_frames.specs.Openings.{IsOpening, Opened}
 use Rattle.lsm_shelf.specs.Refusals.{MayRefuse}
+use Rattle.lsm_shelf.specs.Told.{fresh}
+use Rattle.lsm_storage.specs.FolderFault.{device_of}
 use Rattle.lsm_storage.specs.declared.file.file_shelf.FileShelf.{FileShelf}
 use Rattle.lsm_opening.specs.Preparing.{IsPrepared, IsUnprepared, plainly}
 use Rattle.lsm_opening.specs.declared.faults.writer_fault.WriterFault.{WriterFault}
@@ -56,24 +58,26 @@ HasClosed says first channels = (n : ℕ) × (n < channels) × says (pos (first 
 -- ---- in a folder
 
 module _ {C M : Type 0} (folders : Ghosts C M) where
-  -- The folder of an opening was served over these wires, to the end of each: it was locked and
-  -- looked at, what there is was to be opened, or begun, and on a shelf of it that database was
-  -- served.
-  pub record IsFolderServed (gives : List ℕ → Type 0) (o : Opened) (ws : List End)
+  -- The folder of an opening was served over these wires, to the end of each. It comes back as it
+  -- is then: opened at that path, locked, looked at, and asked for nothing since, so it holds the
+  -- lock. What there is was to be opened, or begun, and on a shelf of it that database was served.
+  pub record IsFolderServed (gives : List ℕ → Type 0) (o : Opened) (ws : List End) (folder : C)
       (rs : List (Option End)) : Type 0 where
     pub start : Start
     pub logs : List FolderFile
     pub allowed : IsAllowed start o.make o.refuse
-    pub begun : FileShelf C M
-    pub on : IsShelfAt folders o.path (IsPrepared plainly start logs) begun
+    pub held : IsFolderAt folders o.path (IsPrepared plainly start logs) folder
     pub ended : FileShelf C M
     pub served : IsDatabaseServed (AreHonest folders.calls) MayRefuse gives
-        (options_for o.channels) o.workers start logs (told_by folders begun)
+        (options_for o.channels) o.workers start logs (fresh (folders.place folder))
         (told_by folders ended) ws rs
 
-  -- No folder was opened at the path; or its lock was not held, or the looking stopped.
-  abbrev pub IsUnpreparedAt : (path : List ℕ) → WriterFault → Type 0
-  IsUnpreparedAt path e = ((fault : DirectoryFault) × (e ≡ Directory fault) × IsFolderFault fault)
+  -- The folder of the path was asked for, and refused; or its lock was asked for and not held, or
+  -- the looking stopped.
+  abbrev pub IsUnpreparedAt : (refuses : List ℕ → FolderFault → Type 0) → (path : List ℕ)
+      → WriterFault → Type 0
+  IsUnpreparedAt refuses path e =
+      ((fault : FolderFault) × (e ≡ Directory (Shelf (device_of fault))) × refuses path fault)
       ⊎ ((folder : C) × IsFolderAt folders path (IsUnprepared plainly e) folder)
 
   -- It was locked and looked at, and what there is was not to be opened, or begun.
@@ -90,21 +94,30 @@ module _ {C M : Type 0} (folders : Ghosts C M) (marks : mark.Ghosts M) where
     pub start : Start
     pub logs : List FolderFile
     pub allowed : IsAllowed start o.make o.refuse
-    pub begun : FileShelf C M
-    pub on : IsShelfAt folders o.path (IsPrepared plainly start logs) begun
+    pub folder : C
+    pub at : IsFolderAt folders o.path (IsPrepared plainly start logs) folder
     pub ended : FileShelf C M
-    pub refused : IsDatabaseUnserved (stored_at folders marks (told_by folders begun).place)
-        MayRefuse (AreHonest folders.calls) (options_for o.channels) start logs e
-        (told_by folders begun) (told_by folders ended)
+    pub refused : IsDatabaseUnserved (stored_at folders marks (folders.place folder)) MayRefuse
+        (AreHonest folders.calls) (options_for o.channels) start logs e
+        (fresh (folders.place folder)) (told_by folders ended)
 
-  -- Why an opening is refused: a channel is not open; memory ran out; the folder was not locked, or
-  -- the looking stopped; what there is was not to be opened, or begun; or it was, and was not.
-  abbrev pub IsUnserved : (says : ℤ → Bool → Type 0) → Opened → OpeningFault → Type 0
-  IsUnserved says o BadOpening = HasClosed says o.first o.channels
-  IsUnserved says o NoDatabase = IsBarredAt folders o NoDatabase
-  IsUnserved says o IsThere = IsBarredAt folders o IsThere
-  IsUnserved says o (Folder e) =
-      (e ≡ OutOfMemory) ⊎ (IsUnpreparedAt folders o.path e ⊎ IsUnservedAt o e)
+  -- Why an opening is refused: a channel is not open; memory ran out; the folder was not opened, or
+  -- not locked, or the looking stopped; what there is was not to be opened, or begun; or it was,
+  -- and was not.
+  abbrev pub IsUnserved : (says : ℤ → Bool → Type 0) → (refuses : List ℕ → FolderFault → Type 0)
+      → Opened → OpeningFault → Type 0
+  IsUnserved says refuses o BadOpening = HasClosed says o.first o.channels
+  IsUnserved says refuses o NoDatabase = IsBarredAt folders o NoDatabase
+  IsUnserved says refuses o IsThere = IsBarredAt folders o IsThere
+  IsUnserved says refuses o (Folder e) =
+      (e ≡ OutOfMemory) ⊎ (IsUnpreparedAt folders refuses o.path e ⊎ IsUnservedAt o e)
+
+-- Where a channel is not open no folder was asked for: the door is left.
+abbrev pub LeavesDoor : OpeningFault → (left : Bool) → Type 0
+LeavesDoor BadOpening left = left ≡ true
+LeavesDoor NoDatabase left = ⊤
+LeavesDoor IsThere left = ⊤
+LeavesDoor (Folder e) left = ⊤
 
 -- ---- a refusal
 
@@ -132,16 +145,19 @@ AreLost e first channels others was is = (e ≡ Folder OutOfMemory) × (others �
 -- ---- a run
 
 -- how it ended, as contracts see it
-pub data Outcome : Type 0 where
-  NoneOpened : Outcome
-  -- the wire over which that was said, and the others
-  RefusedOn : End → List End → Outcome
-  ServedTo : List (Option End) → Outcome
+pub data Outcome (C : Type 0) : Type 0 where
+  -- the door is left
+  NoneOpened : Outcome C
+  -- the wire over which that was said, the others, and whether the door is left
+  RefusedOn : End → List End → Bool → Outcome C
+  -- the folder, and the wires
+  ServedTo : C → List (Option End) → Outcome C
 
-abbrev pub outcome_of : {W : Type 0} → (W → End) → Ended W → Outcome
-outcome_of seen ended.Unopened = NoneOpened
-outcome_of seen (ended.Refused wire others) = RefusedOn (seen wire) (map seen others.items)
-outcome_of seen (ended.Served wires) = ServedTo (map (option_map seen) wires.items)
+abbrev pub outcome_of : {C O W M : Type 0} → (W → End) → Ended C O W M → Outcome C
+outcome_of seen (ended.Unopened door) = NoneOpened
+outcome_of seen (ended.Refused wire others door) =
+    RefusedOn (seen wire) (map seen others.items) (is_some door)
+outcome_of seen (ended.Served folder wires) = ServedTo folder (map (option_map seen) wires.items)
 
 -- what came is no frame with a content
 abbrev pub IsNoContent : Happening → Type 0
@@ -160,18 +176,20 @@ Names content first = (4 ≤ length content) × (first ≡ from_le_bytes w32 (ta
 abbrev pub IsNoOpening : (content : List ℕ) → Type 0
 IsNoOpening content = (o : Opened) → IsOpening content o → ⊥
 
--- What is no opening was refused as such, over the first channel that it names.
-abbrev pub IsMalformedRefusal : (first : ℕ) → (w : End) → (others : List End) → (was is : List ℤ)
-    → Type 0
-IsMalformedRefusal first w others was is =
-    SaysRefusal BadOpening first w × (others ≡ []) × (is ≡ pos first ∷ was)
+-- What is no opening was refused as such, over the first channel that it names, and the door is
+-- left.
+abbrev pub IsMalformedRefusal : (first : ℕ) → (w : End) → (others : List End) → (left : Bool)
+    → (was is : List ℤ) → Type 0
+IsMalformedRefusal first w others left was is =
+    SaysRefusal BadOpening first w × (others ≡ []) × (left ≡ true) × (is ≡ pos first ∷ was)
 
 module _ {C M : Type 0} (folders : Ghosts C M) (marks : mark.Ghosts M) where
   -- An opening was refused over its first channel.
-  pub record IsOpeningRefusal (says : ℤ → Bool → Type 0) (o : Opened) (w : End) (others : List End)
-      (was is : List ℤ) : Type 0 where
+  pub record IsOpeningRefusal (says : ℤ → Bool → Type 0) (refuses : List ℕ → FolderFault → Type 0)
+      (o : Opened) (w : End) (others : List End) (left : Bool) (was is : List ℤ) : Type 0 where
     pub fault : OpeningFault
-    pub why : IsUnserved folders marks says o fault
+    pub why : IsUnserved folders marks says refuses o fault
+    pub door : LeavesDoor fault left
     pub said : SaysRefusal fault o.first w
     pub wires : AreLeft o.first o.channels others was is
         ⊎ AreLost fault o.first o.channels others was is
@@ -179,26 +197,29 @@ module _ {C M : Type 0} (folders : Ghosts C M) (marks : mark.Ghosts M) where
   -- What becomes of an opening frame. It is no opening, no descriptor has the number of a first
   -- channel, and nothing was done; or it was refused over its first channel; or the folder that it
   -- names was served over its channels.
-  abbrev pub IsContentServed : (says : ℤ → Bool → Type 0) → (gives : List ℕ → Type 0)
-      → (content : List ℕ) → Outcome → (was is : List ℤ) → Type 0
-  IsContentServed says gives content NoneOpened was is =
+  abbrev pub IsContentServed : (says : ℤ → Bool → Type 0)
+      → (refuses : List ℕ → FolderFault → Type 0) → (gives : List ℕ → Type 0)
+      → (content : List ℕ) → Outcome C → (was is : List ℤ) → Type 0
+  IsContentServed says refuses gives content NoneOpened was is =
       IsNoOpening content × ((first : ℕ) → Names content first → 2 ^ 31 ≤ first) × (is ≡ was)
-  IsContentServed says gives content (RefusedOn w others) was is =
+  IsContentServed says refuses gives content (RefusedOn w others left) was is =
       (IsNoOpening content × ((first : ℕ) × Names content first
-      × IsMalformedRefusal first w others was is))
-      ⊎ ((o : Opened) × IsOpening content o × IsOpeningRefusal says o w others was is)
-  IsContentServed says gives content (ServedTo rs) was is =
+      × IsMalformedRefusal first w others left was is))
+      ⊎ ((o : Opened) × IsOpening content o
+      × IsOpeningRefusal says refuses o w others left was is)
+  IsContentServed says refuses gives content (ServedTo folder rs) was is =
       (o : Opened) × IsOpening content o × AreOpen says o.first o.channels
-      × IsFolderServed folders gives o (ends_from o.first o.channels) rs
+      × IsFolderServed folders gives o (ends_from o.first o.channels) folder rs
       × (is ≡ opened_from o.first o.channels ++ was)
 
   -- One run: what happened at descriptor 0, how it ended, and of which descriptors wires were made,
   -- the last one first. No opening came, and nothing was done; or one came, and nothing more was
-  -- read there.
-  abbrev pub IsRun : (says : ℤ → Bool → Type 0) → (gives : List ℕ → Type 0) → (opening : End)
-      → Outcome → (was is : List ℤ) → Type 0
-  IsRun says gives opening outcome was is =
+  -- read there. It has one door, which opens one folder, and then is not left: so it opened no
+  -- other.
+  abbrev pub IsRun : (says : ℤ → Bool → Type 0) → (refuses : List ℕ → FolderFault → Type 0)
+      → (gives : List ℕ → Type 0) → (opening : End) → Outcome C → (was is : List ℤ) → Type 0
+  IsRun says refuses gives opening outcome was is =
       ((came : Happening) × IsNoContent came × (opening ≡ end (pos 0) (came ∷ []))
       × (outcome ≡ NoneOpened) × (is ≡ pos 0 ∷ was))
       ⊎ ((content : List ℕ) × (opening ≡ end (pos 0) (Came content ∷ []))
-      × IsContentServed says gives content outcome (pos 0 ∷ was) is)
+      × IsContentServed says refuses gives content outcome (pos 0 ∷ was) is)

@@ -1,7 +1,7 @@
 -- What private functions say of an opening that is refused (this project's rule).
-use Rattle.std.specs.Prelude.{◌≡◌, ◌⊎◌, ℕ, ◌^◌, ◌≤◌, ℤ, pos, Bool, List, [], ◌∷◌, ◌++◌}
+use Rattle.std.specs.Prelude.{◌≡◌, ◌⊎◌, ℕ, ℤ, pos, Bool, List, [], ◌∷◌, ◌++◌}
 use Rattle.lsm_opening.specs.declared.faults.writer_fault.WriterFault.TheVariants.{OutOfMemory}
-use Rattle.lsm_channels.specs.Opening.{NoneOpened, Outcome, RefusedOn, SaysRefusal, ServedTo}
+use Rattle.lsm_channels.specs.Opening.{SaysRefusal}
 use Rattle.lsm_channels.specs.Serving.{End, end, ends_from, opened_from}
 use Rattle.lsm_channels.specs.declared.opening_fault.OpeningFault.{OpeningFault}
 use Rattle.lsm_channels.specs.declared.opening_fault.OpeningFault.TheVariants.{Folder}
@@ -24,11 +24,9 @@ IsFirst first ws w others was is =
     ((ws ≡ []) × (w ≡ end (pos first) []) × (others ≡ []) × (is ≡ pos first ∷ was))
     ⊎ ((ws ≡ w ∷ others) × (is ≡ was))
 
--- A refusal was said over the first of these wires, as it was till then; or no descriptor has its
--- number.
-abbrev pub IsSaidOn : OpeningFault → (first : ℕ) → List End → (was is : List ℤ) → Outcome → Type 0
-IsSaidOn e first ws was is NoneOpened = (2 ^ 31 ≤ first) × (is ≡ was)
-IsSaidOn e first ws was is (RefusedOn w others) =
+-- A refusal was said over the first of these wires, as it was till then.
+abbrev pub IsSaidOn : OpeningFault → (first : ℕ) → List End → (was is : List ℤ) → (w : End)
+    → (others : List End) → Type 0
+IsSaidOn e first ws was is w others =
     (old : End) × IsFirst first ws old others was is
     × (old ≡ end (pos first) [] → SaysRefusal e first w)
-IsSaidOn e first ws was is (ServedTo rs) = ⊥

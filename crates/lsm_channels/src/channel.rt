@@ -1,7 +1,7 @@
 //! Channels.
 
 ghost use Rattle.std.specs.Prelude.{◌≡◌, ◌∷◌, List};
-ghost use Rattle.lsm_channels.specs.Keeping.{IsKeptByRequests, IsKeptQuietly, IsKnown};
+ghost use Rattle.lsm_channels.specs.Keeping.{IsKeptByRequests, IsKnown};
 ghost use Rattle.lsm_channels.specs.Serving.{Answers};
 ghost use Rattle.lsm_wire.specs.Conversing.{IsConversation, IsTurnOrEnd};
 ghost use Rattle.lsm_wire.specs.Happenings.{Came, Happening};
@@ -33,8 +33,7 @@ fn answer<N: Boarded, S: Shelf, K: Invariant, W: Wire, R: Threads + Wait + Sync>
     wire: &mut W,
     content: &[u8],
 ) -> (Session<N, S>, bool)
-    requires quiet { IsKeptQuietly S.honest K.keeps }
-    requires asked { IsKeptByRequests (S.refuses N.place) W.gives K.keeps }
+    requires asked { IsKeptByRequests S.honest (S.refuses N.place) W.gives K.keeps }
     requires given { W.gives content.now }
     requires known { IsKnown K.keeps session.known }
     ensures turn { (was : List Happening) → W.happened wire.old ≡ Came content.now ∷ was
@@ -64,8 +63,7 @@ fn take_turn<N: Boarded, S: Shelf, K: Invariant, W: Wire, R: Threads + Wait + Sy
     session: Session<N, S>,
     wire: &mut W,
 ) -> (Session<N, S>, bool)
-    requires quiet { IsKeptQuietly S.honest K.keeps }
-    requires asked { IsKeptByRequests (S.refuses N.place) W.gives K.keeps }
+    requires asked { IsKeptByRequests S.honest (S.refuses N.place) W.gives K.keeps }
     requires known { IsKnown K.keeps session.known }
     ensures turn { IsTurnOrEnd (Answers S.honest (S.refuses N.place) K.keeps) result.1
         session result.0 (W.happened wire.old) (W.happened wire.new) }
@@ -96,8 +94,7 @@ pub(crate) fn serve<N: Boarded, S: Shelf, K: Invariant, W: Wire, R: Threads + Wa
     background: &Background,
     channel: Channel<N, S, W>,
 ) -> Channel<N, S, W>
-    requires quiet { IsKeptQuietly S.honest K.keeps }
-    requires asked { IsKeptByRequests (S.refuses N.place) W.gives K.keeps }
+    requires asked { IsKeptByRequests S.honest (S.refuses N.place) W.gives K.keeps }
     requires known { IsKnown K.keeps channel.session.known }
     ensures served { IsConversation (Answers S.honest (S.refuses N.place) K.keeps)
         channel.session result.session (W.happened channel.wire) (W.happened result.wire) }

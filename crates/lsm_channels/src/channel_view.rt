@@ -6,7 +6,7 @@ ghost use Rattle.lsm_codec.specs.Entries.{answer};
 ghost use Rattle.lsm_model.specs.Scanning.{IsScan};
 ghost use Rattle.lsm_iterators.specs.Seeking.{at_or_past};
 ghost use Rattle.lsm_iterators.specs.Shown.{ShowsPair};
-ghost use Rattle.lsm_channels.specs.Keeping.{IsKeptQuietly};
+ghost use Rattle.lsm_channels.specs.Keeping.{IsKeptByLooks};
 ghost use Rattle.lsm_store.specs.Readers.{IsPromised, unpinned};
 ghost use Rattle.lsm_table.specs.ReadFault.{IsMemoryOrShelf};
 
@@ -102,7 +102,7 @@ impl<N: Boarded, S: Shelf> ChannelView<N, S> {
         rt: &R,
         store: &Store<N, S, K>,
     ) -> ChannelReader<N, S>
-        requires quiet { IsKeptQuietly S.honest K.keeps }
+        requires looks { IsKeptByLooks K.keeps }
         ensures { result ≡ unpinned self }
     {
         let ChannelView { pin, blocks } = self;

@@ -4,7 +4,7 @@ ghost use Rattle.std.specs.Prelude.{◌≡◌, IfErr, IfOk};
 ghost use Rattle.lsm_history.specs.History.{IsLater};
 ghost use Rattle.lsm_channels.specs.Collecting.{CollectsAt, IsCollectFault, IsCollected};
 ghost use Rattle.lsm_channels.specs.Collecting.{RefusesAt};
-ghost use Rattle.lsm_channels.specs.Keeping.{IsKeptQuietly, IsKnown, IsQuietStep};
+ghost use Rattle.lsm_channels.specs.Keeping.{IsKeptByLooks, IsKnown, IsLook};
 ghost use Rattle.lsm_channels.specs.Served.{IsToldBy};
 
 use crate::knowing::catch_up;
@@ -27,7 +27,7 @@ fn collect_of<N: Boarded, S: Shelf, R: Wait>(
     ensures told { IsToldBy state.old memory.old memory.new }
     ensures ok { IfOk result (λ n. CollectsAt state.old state.new n shelf.old shelf.new) }
     ensures refused { IfErr result (λ e. RefusesAt state.old state.new e shelf.old shelf.new) }
-    ensures quiet { IsQuietStep S.honest state.old state.new }
+    ensures look { IsLook state.old state.new }
 {
     catch_up(state, memory);
     match state.collect(rt, alloc, shelf) {
@@ -45,7 +45,7 @@ pub(crate) fn collect<N: Boarded, S: Shelf, K: Invariant, R: Wait>(
     memory: &mut Memory<N>,
     shelf: &mut NamedShelf<N, S>,
 ) -> Result<u64, StateFault>
-    requires quiet { IsKeptQuietly S.honest K.keeps }
+    requires looks { IsKeptByLooks K.keeps }
     ensures ok { IfOk result (λ n. IsCollected K.keeps n memory.old memory.new shelf.old shelf.new) }
     ensures refused { IfErr result (λ e.
         IsCollectFault K.keeps e memory.old memory.new shelf.old shelf.new) }

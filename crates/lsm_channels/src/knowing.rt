@@ -2,7 +2,7 @@
 
 ghost use Rattle.std.specs.Prelude.{◌≡◌};
 ghost use Rattle.lsm_history.specs.History.{IsLater};
-ghost use Rattle.lsm_channels.specs.Keeping.{IsKeptQuietly, IsKnown};
+ghost use Rattle.lsm_channels.specs.Keeping.{IsKeptByLooks, IsKnown};
 ghost use Rattle.lsm_channels.specs.Served.{IsToldBy};
 
 use lsm_history::Memory;
@@ -48,7 +48,7 @@ pub(crate) fn note<N: Boarded, S: Shelf, K: Invariant, R: Wait>(
     memory: &mut Memory<N>,
     other: Memory<N>,
 )
-    requires quiet { IsKeptQuietly S.honest K.keeps }
+    requires looks { IsKeptByLooks K.keeps }
     ensures later { IsLater memory.new memory.old }
     ensures other { IsLater memory.new other }
     ensures kept { IsKnown K.keeps memory.new }
@@ -69,7 +69,7 @@ pub(crate) fn remember<N: Boarded, S: Shelf, K: Invariant, R: Wait>(
     rt: &R,
     store: &Store<N, S, K>,
 ) -> Memory<N>
-    requires quiet { IsKeptQuietly S.honest K.keeps }
+    requires looks { IsKeptByLooks K.keeps }
     ensures kept { IsKnown K.keeps result }
 {
     memory_of(&mut store.lock(rt).state)

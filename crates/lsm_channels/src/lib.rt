@@ -38,12 +38,14 @@ mod unserved;
 mod wires;
 
 // A database is opened.
+mod door;
 mod ended;
 mod opening_fault;
 mod parts;
 mod plan;
 mod program;
 
+pub use door::Door;
 pub use ended::Ended;
 pub use program::serve_opening;
 pub use session::Session;

@@ -5,7 +5,7 @@ ghost use Rattle.std.specs.Option.{option_map};
 ghost use Rattle.lsm_codec.specs.Entries.{answer};
 ghost use Rattle.lsm_model.specs.Scanning.{IsScan};
 ghost use Rattle.lsm_iterators.specs.Seeking.{at_or_past};
-ghost use Rattle.lsm_channels.specs.Keeping.{IsKeptQuietly};
+ghost use Rattle.lsm_channels.specs.Keeping.{IsKeptByLooks};
 ghost use Rattle.lsm_state.specs.Held.{plain};
 ghost use Rattle.lsm_channels.specs.Pinning.{HasLearnt, IsUnpinned, PinsCurrent};
 ghost use Rattle.lsm_store.specs.Readers.{IsIdle, IsPromised};
@@ -112,7 +112,7 @@ impl<N: Boarded, S: Shelf> LockedVersion<N, S> {
 
     /// Gives the pin back.
     pub(crate) fn end<K: Invariant, R: Wait>(self, rt: &R, store: &Store<N, S, K>) -> Reader<N, S>
-        requires quiet { IsKeptQuietly S.honest K.keeps }
+        requires looks { IsKeptByLooks K.keeps }
         ensures reader { result ≡ self }
         ensures idle { IsIdle result }
     {

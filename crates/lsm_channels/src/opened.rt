@@ -1,7 +1,7 @@
 //! A database that is open.
 
 ghost use Rattle.std.specs.Prelude.{◌≡◌, ◌+◌, ◌*◌, All, IfErr, IfOk, OnOk, replicate, vec_len};
-ghost use Rattle.lsm_channels.specs.Keeping.{IsKeptQuietly};
+ghost use Rattle.lsm_channels.specs.Keeping.{IsKeptByLooks};
 ghost use Rattle.lsm_channels.specs.Serving.{IsFresh, forks_for};
 ghost use Rattle.lsm_shelf.specs.Told.{Becomes, Forked, NotNamed, forking, fresh};
 ghost use Rattle.lsm_state.specs.Held.{Held};
@@ -61,7 +61,7 @@ fn man_one<N: Boarded, S: Shelf, K: Invariant, R: Wait>(
     reader: Reader<N, S>,
     shelf: &mut NamedShelf<N, S>,
 ) -> Result<Session<N, S>, ShelfFault>
-    requires quiet { IsKeptQuietly S.honest K.keeps }
+    requires looks { IsKeptByLooks K.keeps }
     ensures fresh { IfOk result (λ s. IsFresh K.keeps s) }
     ensures told { OnOk result (Becomes (forking 2 shelf.old) shelf.new) }
     ensures forked { Forked shelf.old shelf.new }
@@ -81,7 +81,7 @@ fn man<N: Boarded, S: Shelf, K: Invariant, R: Wait>(
     readers: Vec<Reader<N, S>>,
     shelf: &mut NamedShelf<N, S>,
 ) -> Result<Vec<Session<N, S>>, ShelfFault>
-    requires quiet { IsKeptQuietly S.honest K.keeps }
+    requires looks { IsKeptByLooks K.keeps }
     ensures fresh { IfOk result (λ v. All (IsFresh K.keeps) v.items) }
     ensures told { IfOk result (λ v. Becomes (forking (2 * vec_len v) shelf.old) shelf.new) }
     ensures forked { Forked shelf.old shelf.new }
@@ -112,7 +112,7 @@ fn open_store<N: Boarded, S: Shelf, K: Invariant, R: Wait>(
 ) -> Result<(Store<N, S, K>, Vec<Session<N, S>>), ShelfFault>
     requires seats { SeatsPinners state }
     requires kept { (h : Held) → IsSeated state h → K.keeps h }
-    requires quiet { IsKeptQuietly S.honest K.keeps }
+    requires looks { IsKeptByLooks K.keeps }
     ensures fresh { IfOk result (λ r. All (IsFresh K.keeps) r.1.items) }
     ensures told { IfOk result (λ r.
         Becomes (forking (1 + 2 * vec_len r.1) shelf.old) shelf.new) }
@@ -139,7 +139,7 @@ pub(crate) fn open_state<N: Boarded, S: Shelf, K: Invariant, R: Wait>(
 ) -> Result<Opened<N, S, K>, ShelfFault>
     requires seats { SeatsPinners state }
     requires kept { (h : Held) → IsSeated state h → K.keeps h }
-    requires quiet { IsKeptQuietly S.honest K.keeps }
+    requires looks { IsKeptByLooks K.keeps }
     ensures fresh { IfOk result (λ o. All (IsFresh K.keeps) o.sessions.items) }
     ensures told { IfOk result (λ o. Becomes (forking (forks_for (vec_len o.sessions) workers)
         shelf.old) shelf.new) }

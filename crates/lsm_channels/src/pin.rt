@@ -1,7 +1,7 @@
 //! By whose pin a version is read.
 
 ghost use Rattle.std.specs.Prelude.{◌≡◌, IfErr, IfOk, OnErr};
-ghost use Rattle.lsm_channels.specs.Keeping.{IsKeptQuietly};
+ghost use Rattle.lsm_channels.specs.Keeping.{IsKeptByLooks};
 ghost use Rattle.lsm_state.specs.Held.{plain};
 ghost use Rattle.lsm_channels.specs.Pinning.{HasLearnt, IsPinnedBy, IsUnpinned, KnowsSame, seen_by};
 ghost use Rattle.lsm_store.specs.Readers.{unpinned};
@@ -51,7 +51,7 @@ impl<N: Boarded, S: Shelf> Pin<N, S> {
     /// Gives the pin back.
     #[tactic(auto, using(crate::proofs::PinLaws::ended_idle))]
     pub(crate) fn end<K: Invariant, R: Wait>(self, rt: &R, store: &Store<N, S, K>) -> Reader<N, S>
-        requires quiet { IsKeptQuietly S.honest K.keeps }
+        requires looks { IsKeptByLooks K.keeps }
         ensures { result ≡ unpinned (seen_by self) }
     {
         match self {

@@ -2,7 +2,7 @@
 
 ghost use Rattle.std.specs.Prelude.{◌≡◌, ◌≤◌, ◌<◌, ◌^◌, ◌⊎◌, ◌++◌, IfErr, IfNone, IfOk};
 ghost use Rattle.std.specs.Prelude.{IfSome, OnOk, length, map};
-ghost use Rattle.std.specs.Option.{option_map};
+ghost use Rattle.std.specs.Option.{is_some, option_map};
 ghost use Rattle.lsm_directory.specs.Folders.{IsFolderAt};
 ghost use Rattle.lsm_frames.specs.OpeningView.{opened_of};
 ghost use Rattle.lsm_frames.specs.Openings.{FitsOpened};
@@ -10,11 +10,12 @@ ghost use Rattle.lsm_opening.specs.Preparing.{IsPrepared, plainly};
 ghost use Rattle.lsm_opening.specs.declared.faults.writer_fault.WriterFault.TheVariants.{OutOfMemory};
 ghost use Rattle.lsm_channels.specs.Opening.{AreOpen, IsAllowed, IsBarred, IsContentServed};
 ghost use Rattle.lsm_channels.specs.Opening.{IsFolderServed, IsNoOpening, IsRun, IsUnpreparedAt};
-ghost use Rattle.lsm_channels.specs.Opening.{IsUnserved, Names, outcome_of};
+ghost use Rattle.lsm_channels.specs.Opening.{IsUnserved, LeavesDoor, Names, outcome_of};
 ghost use Rattle.lsm_channels.specs.Refusal.{AreOpened, IsFirst, IsSaidOn, none_said};
 ghost use Rattle.lsm_channels.specs.Serving.{AreHandedBack, end, ends_from, opened_from};
 ghost use Rattle.lsm_channels.specs.declared.opening_fault.OpeningFault.TheVariants.{Folder};
 
+use crate::door::{Door, device};
 use crate::ended::Ended;
 use crate::opening_fault::OpeningFault;
 use crate::plan::Plan;
@@ -22,12 +23,13 @@ use crate::refusing::refuse_by;
 use crate::serving::serve_on;
 use crate::unserved::Unserved;
 use crate::wires::{are_open, open_wires};
-use lsm_directory::{Paths, open_at};
+use lsm_directory::DirectoryFault;
 use lsm_folder::{FolderCalls, Reasons};
 use lsm_frames::Opening;
 use lsm_opening::{Prepared, Start, WriterFault, plainly, prepare};
 use lsm_storage::FileShelf;
 use lsm_wire::{Descriptors, Incoming, Wire, say};
+use std::alloc::Global;
 use std::sync::Wait;
 use std::thread::Threads;
 
@@ -59,54 +61,57 @@ fn judge(prepared: &Prepared, opening: &Opening<'_>) -> Result<(), OpeningFault>
 /// The folder at a path, of which the lock is held and which was looked at: a database is opened or
 /// begun as `lsm ingest` does it, so nothing is begun among files of one that lost its `CURRENT`,
 /// and logs are looked at.
-fn prepare_at<C: FolderCalls, P: Paths<C>, R: Wait>(
+fn prepare_at<C: FolderCalls, O: Door<C>, R: Wait>(
     rt: &R,
-    paths: &P,
+    door: O,
     path: &str,
 ) -> Result<(C, Prepared), WriterFault>
     ensures prepared { IfOk result (λ r. IsFolderAt C.FolderCalls path.now
         (IsPrepared plainly r.1.start r.1.logs.items) r.0) }
     ensures refused { IfErr result (λ e.
-        (e ≡ OutOfMemory) ⊎ IsUnpreparedAt C.FolderCalls path.now e) }
+        (e ≡ OutOfMemory) ⊎ IsUnpreparedAt C.FolderCalls O.refuses path.now e) }
 {
-    let reasons = match Reasons::new(paths.alloc()) {
+    let alloc = door.alloc();
+    let reasons = match Reasons::new(alloc) {
         Ok(reasons) => reasons,
         Err(_) => return Err(WriterFault::OutOfMemory),
     };
-    let mut folder = match open_at(paths, path, &reasons) {
+    let mut folder = match door.open(path, &reasons) {
         Ok(folder) => folder,
-        Err(fault) => return Err(WriterFault::Directory(fault)),
+        Err(fault) => return Err(WriterFault::Directory(DirectoryFault::Shelf(device(fault)))),
     };
-    match prepare(rt, paths.alloc(), &mut folder, plainly()) {
+    match prepare(rt, alloc, &mut folder, plainly()) {
         Ok(prepared) => Ok((folder, prepared)),
         Err(fault) => Err(fault),
     }
 }
 
-/// Opens the folder of an opening, and serves its database over these wires.
-fn serve_path<C: FolderCalls + Send + Sync, P: Paths<C>, W: Wire + Send, R: Threads + Wait + Sync>(
+/// Opens the folder of an opening, and serves its database over these wires, on a fork of it: the
+/// folder, which holds the lock, is given back where that was done.
+fn serve_path<C: FolderCalls + Send + Sync, O: Door<C>, W: Wire + Send, R: Threads + Wait + Sync>(
     rt: &R,
-    paths: &P,
+    door: O,
     opening: &Opening<'_>,
     plan: Plan,
     wires: Vec<W>,
-) -> Result<Vec<Option<W>>, Unserved<W, OpeningFault>>
+) -> Result<(C, Vec<Option<W>>), Unserved<W, OpeningFault>>
 where
     C::Mark: Send + Sync,
     requires channels { plan.channels ≡ opening.now.channels }
     requires workers { plan.workers ≡ opening.now.workers }
     requires some { 1 ≤ plan.channels }
     requires few { plan.channels ≤ 62 }
-    ensures served { IfOk result (λ v. IsFolderServed C.FolderCalls W.gives
+    ensures served { IfOk result (λ r. IsFolderServed C.FolderCalls W.gives
         (opened_of opening.now)
-        (map (λ w. end (W.descriptor w) (W.happened w)) wires.items)
-        (map (option_map (λ w. end (W.descriptor w) (W.happened w))) v.items)) }
-    ensures refused { IfErr result (λ u. IsUnserved C.FolderCalls C.Mark.Mark none_said
+        (map (λ w. end (W.descriptor w) (W.happened w)) wires.items) r.0
+        (map (option_map (λ w. end (W.descriptor w) (W.happened w))) r.1.items)) }
+    ensures refused { IfErr result (λ u. IsUnserved C.FolderCalls C.Mark.Mark none_said O.refuses
         (opened_of opening.now) u.fault) }
     ensures back { IfErr result (λ u.
         AreHandedBack (Folder OutOfMemory) wires.items u.wires.items u.fault) }
 {
-    let found = match prepare_at(rt, paths, opening.path) {
+    let alloc = door.alloc();
+    let found = match prepare_at(rt, door, opening.path) {
         Ok(found) => found,
         Err(fault) => {
             let fault = OpeningFault::Folder(fault);
@@ -118,10 +123,14 @@ where
         Ok(()) => {}
         Err(fault) => return Err(Unserved { fault, wires }),
     }
-    let shelf = FileShelf::over(folder);
-    let (done, _shelf) = serve_on(rt, paths.alloc(), shelf, &prepared, plan, wires);
+    let Ok(fork) = folder.fork() else {
+        let fault = OpeningFault::Folder(WriterFault::OutOfMemory);
+        return Err(Unserved { fault, wires });
+    };
+    let shelf = FileShelf::over(fork);
+    let (done, _shelf) = serve_on(rt, alloc, shelf, &prepared, plan, wires);
     match done {
-        Ok(wires) => Ok(wires),
+        Ok(wires) => Ok((folder, wires)),
         Err(unserved) => {
             let Unserved { fault, wires } = unserved;
             let fault = OpeningFault::Folder(fault);
@@ -130,48 +139,49 @@ where
     }
 }
 
-/// Makes a wire of each channel of an opening, and serves the database of its folder over them.
-fn serve_at<C: FolderCalls + Send + Sync, P: Paths<C>, D: Descriptors, R: Threads + Wait + Sync>(
+/// Makes a wire of each channel of an opening, and serves the database of its folder over them. The
+/// door comes back where no folder was asked for.
+fn serve_at<C: FolderCalls + Send + Sync, O: Door<C>, D: Descriptors, R: Threads + Wait + Sync>(
     rt: &R,
-    paths: &P,
+    door: O,
     descriptors: &mut D,
     opening: &Opening<'_>,
-) -> Result<Vec<Option<D::Wire>>, Unserved<D::Wire, OpeningFault>>
+) -> Result<(C, Vec<Option<D::Wire>>), (Unserved<D::Wire, OpeningFault>, Option<O>)>
 where
     C::Mark: Send + Sync,
     D::Wire: Send,
     requires { FitsOpened (opened_of opening.now) }
-    ensures served { IfOk result (λ v. IsFolderServed C.FolderCalls D.Wire.gives
+    ensures served { IfOk result (λ r. IsFolderServed C.FolderCalls D.Wire.gives
         (opened_of opening.now)
-        (ends_from opening.now.first_channel opening.now.channels)
-        (map (option_map (λ w. end (D.Wire.descriptor w) (D.Wire.happened w))) v.items)) }
+        (ends_from opening.now.first_channel opening.now.channels) r.0
+        (map (option_map (λ w. end (D.Wire.descriptor w) (D.Wire.happened w))) r.1.items)) }
     ensures open { OnOk result
         (AreOpen D.says opening.now.first_channel opening.now.channels) }
     ensures opened { OnOk result (D.opened descriptors.new ≡ opened_from
         opening.now.first_channel opening.now.channels ++ D.opened descriptors.old) }
-    ensures refused { IfErr result (λ u. IsUnserved C.FolderCalls C.Mark.Mark D.says
-        (opened_of opening.now) u.fault) }
-    ensures left { IfErr result (λ u. AreOpened u.fault opening.now.first_channel
+    ensures refused { IfErr result (λ r. IsUnserved C.FolderCalls C.Mark.Mark D.says O.refuses
+        (opened_of opening.now) r.0.fault) }
+    ensures door { IfErr result (λ r. LeavesDoor r.0.fault (is_some r.1)) }
+    ensures left { IfErr result (λ r. AreOpened r.0.fault opening.now.first_channel
         opening.now.channels (map (λ w. end (D.Wire.descriptor w) (D.Wire.happened w))
-        u.wires.items) (D.opened descriptors.old) (D.opened descriptors.new)) }
+        r.0.wires.items) (D.opened descriptors.old) (D.opened descriptors.new)) }
 {
     let plan = Plan::of(opening);
     let first = opening.first_channel;
+    let alloc = door.alloc();
     if !are_open(descriptors, first, plan.channels) {
-        return Err(Unserved {
-            fault: OpeningFault::BadOpening,
-            wires: Vec::new(paths.alloc()),
-        });
+        let fault = OpeningFault::BadOpening;
+        let wires = Vec::new(alloc);
+        return Err((Unserved { fault, wires }, Some(door)));
     }
-    let Ok(wires) = open_wires(paths.alloc(), descriptors, first, plan.channels) else {
-        return Err(Unserved {
-            fault: OpeningFault::Folder(WriterFault::OutOfMemory),
-            wires: Vec::new(paths.alloc()),
-        });
+    let Ok(wires) = open_wires(alloc, descriptors, first, plan.channels) else {
+        let fault = OpeningFault::Folder(WriterFault::OutOfMemory);
+        let wires = Vec::new(alloc);
+        return Err((Unserved { fault, wires }, Some(door)));
     };
-    match serve_path(rt, paths, opening, plan, wires) {
-        Ok(wires) => Ok(wires),
-        Err(unserved) => Err(unserved),
+    match serve_path(rt, door, opening, plan, wires) {
+        Ok(served) => Ok(served),
+        Err(unserved) => Err((unserved, None)),
     }
 }
 
@@ -197,26 +207,25 @@ fn first_of<D: Descriptors>(
 }
 
 /// Answers an opening that is refused, on the first channel: over the first of these wires, or over
-/// a new one where there are none.
-fn refuse<C: FolderCalls, P: Paths<C>, D: Descriptors>(
-    paths: &P,
+/// a new one where there are none. That wire and the others.
+fn refuse<D: Descriptors>(
+    alloc: Global,
     descriptors: &mut D,
     first: u32,
     fault: &OpeningFault,
     wires: Vec<D::Wire>,
-) -> Ended<D::Wire>
+) -> (D::Wire, Vec<D::Wire>)
+    requires number { first < 2 ^ 31 }
     ensures { IsSaidOn fault.now first
         (map (λ w. end (D.Wire.descriptor w) (D.Wire.happened w)) wires.items)
         (D.opened descriptors.old) (D.opened descriptors.new)
-        (outcome_of (λ w. end (D.Wire.descriptor w) (D.Wire.happened w)) result) }
+        (end (D.Wire.descriptor result.0) (D.Wire.happened result.0))
+        (map (λ w. end (D.Wire.descriptor w) (D.Wire.happened w)) result.1.items) }
 {
-    if 0x7fff_ffff < first {
-        return Ended::Unopened;
-    }
     let (mut wire, others) = first_of(descriptors, first, wires);
     let (number, name) = fault.refusal();
-    let _is_said = say(&mut wire, &refuse_by(paths.alloc(), number, name));
-    Ended::Refused(wire, others)
+    let _is_said = say(&mut wire, &refuse_by(alloc, number, name));
+    (wire, others)
 }
 
 /// The number that the first four bytes of a content are, where it has as many.
@@ -231,76 +240,85 @@ fn first_in(content: &[u8]) -> Option<u32>
 }
 
 /// Refuses what is no opening, over the channel that it names, if it names one.
-fn refuse_content<C: FolderCalls, P: Paths<C>, D: Descriptors>(
-    paths: &P,
+fn refuse_content<C: FolderCalls, O: Door<C>, D: Descriptors>(
+    door: O,
     descriptors: &mut D,
     content: &[u8],
-) -> Ended<D::Wire>
+) -> Ended<C, O, D::Wire>
     requires none { IsNoOpening content.now }
-    ensures { IsContentServed C.FolderCalls C.Mark.Mark D.says D.Wire.gives content.now
+    ensures { IsContentServed C.FolderCalls C.Mark.Mark D.says O.refuses D.Wire.gives content.now
         (outcome_of (λ w. end (D.Wire.descriptor w) (D.Wire.happened w)) result)
         (D.opened descriptors.old) (D.opened descriptors.new) }
 {
+    let alloc = door.alloc();
     match first_in(content) {
         Some(first) => {
-            let none = Vec::new(paths.alloc());
-            refuse(paths, descriptors, first, &OpeningFault::BadOpening, none)
+            if 0x7fff_ffff < first {
+                return Ended::Unopened(door);
+            }
+            let fault = OpeningFault::BadOpening;
+            let (wire, others) = refuse(alloc, descriptors, first, &fault, Vec::new(alloc));
+            Ended::Refused(wire, others, Some(door))
         }
-        None => Ended::Unopened,
+        None => Ended::Unopened(door),
     }
 }
 
 /// Serves the database that an opening request names.
 fn serve_content<
     C: FolderCalls + Send + Sync,
-    P: Paths<C>,
+    O: Door<C>,
     D: Descriptors,
     R: Threads + Wait + Sync,
->(rt: &R, paths: &P, descriptors: &mut D, content: &[u8]) -> Ended<D::Wire>
+>(rt: &R, door: O, descriptors: &mut D, content: &[u8]) -> Ended<C, O, D::Wire>
 where
     C::Mark: Send + Sync,
     D::Wire: Send,
-    ensures { IsContentServed C.FolderCalls C.Mark.Mark D.says D.Wire.gives content.now
+    ensures { IsContentServed C.FolderCalls C.Mark.Mark D.says O.refuses D.Wire.gives content.now
         (outcome_of (λ w. end (D.Wire.descriptor w) (D.Wire.happened w)) result)
         (D.opened descriptors.old) (D.opened descriptors.new) }
 {
+    let alloc = door.alloc();
     match Opening::parse(content) {
-        Ok(opening) => match serve_at(rt, paths, descriptors, &opening) {
-            Ok(wires) => Ended::Served(wires),
-            Err(unserved) => {
+        Ok(opening) => match serve_at(rt, door, descriptors, &opening) {
+            Ok((folder, wires)) => Ended::Served(folder, wires),
+            Err((unserved, door)) => {
                 let Unserved { fault, wires } = unserved;
-                refuse(paths, descriptors, opening.first_channel, &fault, wires)
+                let channel = opening.first_channel;
+                let (wire, others) = refuse(alloc, descriptors, channel, &fault, wires);
+                Ended::Refused(wire, others, door)
             }
         },
-        Err(_) => refuse_content(paths, descriptors, content),
+        Err(_) => refuse_content(door, descriptors, content),
     }
 }
 
 /// Reads the opening request from descriptor 0, opens the database, and serves it until each
 /// channel has ended. An opening that is refused is answered on the first channel. Without an
-/// opening nothing is done. Beside how it ended stands the wire of the opening.
+/// opening nothing is done. Beside how it ended stands the wire of the opening. The folder is
+/// reached by the door alone, and once it is served it comes back, with its lock.
 pub fn serve_opening<
     C: FolderCalls + Send + Sync,
-    P: Paths<C>,
+    O: Door<C>,
     D: Descriptors,
     R: Threads + Wait + Sync,
->(rt: &R, paths: &P, descriptors: &mut D) -> (D::Wire, Ended<D::Wire>)
+>(rt: &R, door: O, descriptors: &mut D) -> (D::Wire, Ended<C, O, D::Wire>)
 where
     C::Mark: Send + Sync,
     D::Wire: Send,
-    ensures { IsRun C.FolderCalls C.Mark.Mark D.says D.Wire.gives
+    ensures { IsRun C.FolderCalls C.Mark.Mark D.says O.refuses D.Wire.gives
         (end (D.Wire.descriptor result.0) (D.Wire.happened result.0))
         (outcome_of (λ w. end (D.Wire.descriptor w) (D.Wire.happened w)) result.1)
         (D.opened descriptors.old) (D.opened descriptors.new) }
 {
     let mut wire = descriptors.wire(OPENING);
-    match wire.read(paths.alloc()) {
+    match wire.read(door.alloc()) {
         Incoming::Content(content) => {
-            let ended = serve_content(rt, paths, descriptors, &content);
+            let ended = serve_content(rt, door, descriptors, &content);
             (wire, ended)
         }
-        Incoming::Misfit => (wire, Ended::Unopened),
-        Incoming::End => (wire, Ended::Unopened),
-        Incoming::Unheld => (wire, Ended::Unopened),
+        Incoming::Misfit => (wire, Ended::Unopened(door)),
+        Incoming::End => (wire, Ended::Unopened(door)),
+        Incoming::Unheld => (wire, Ended::Unopened(door)),
     }
 }

@@ -7,7 +7,7 @@ ghost use Rattle.lsm_frames.specs.Answers.{Found};
 ghost use Rattle.lsm_frames.specs.declared.answer_fault.AnswerFault.TheVariants.{TooLong};
 ghost use Rattle.lsm_history.specs.History.{IsLater};
 ghost use Rattle.lsm_channels.specs.Answered.{done_frame};
-ghost use Rattle.lsm_channels.specs.Keeping.{IsKeptQuietly, IsKnown};
+ghost use Rattle.lsm_channels.specs.Keeping.{IsKeptByLooks, IsKnown};
 ghost use Rattle.lsm_channels.specs.Reading.{IsRead, IsReadFault, IsTooLong, IsUnread, values_at};
 ghost use Rattle.lsm_state.specs.declared.state_fault.StateFault.TheVariants.{TooLarge};
 ghost use Rattle.lsm_store.specs.Readers.{IsPromised};
@@ -116,7 +116,7 @@ pub(crate) fn read<N: Boarded, S: Shelf, K: Invariant, R: Wait>(
     when: When,
     keys: Keys<'_>,
 ) -> (ChannelReader<N, S>, Result<Vec<u8>, StateFault>)
-    requires quiet { IsKeptQuietly S.honest K.keeps }
+    requires looks { IsKeptByLooks K.keeps }
     ensures read { IfOk result.1 (λ v. IsRead S.honest K.keeps when keys.entry taken.now
         reader result.0 memory.old memory.new v.items) }
     ensures known { IsLater memory.new memory.old }

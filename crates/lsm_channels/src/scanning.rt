@@ -8,7 +8,7 @@ ghost use Rattle.lsm_frames.specs.Answers.{Shown};
 ghost use Rattle.lsm_frames.specs.Views.{stretch_of};
 ghost use Rattle.lsm_history.specs.History.{IsLater};
 ghost use Rattle.lsm_model.specs.Scanning.{UsersAscend};
-ghost use Rattle.lsm_channels.specs.Keeping.{IsKeptQuietly, IsKnown};
+ghost use Rattle.lsm_channels.specs.Keeping.{IsKeptByLooks, IsKnown};
 ghost use Rattle.lsm_channels.specs.Reading.{IsAnswerFault, IsTooLong, IsUnread};
 ghost use Rattle.lsm_channels.specs.Scanning.{IsFull, IsLongPage, IsPage, IsScanFault, IsScanFrom};
 ghost use Rattle.lsm_channels.specs.Scanning.{IsScanned, IsShown, IsUnshown, below, is_below};
@@ -188,7 +188,7 @@ pub(crate) fn scan<N: Boarded, S: Shelf, K: Invariant, R: Wait>(
     taken: &[(u64, u64)],
     range: Range<'_>,
 ) -> (ChannelReader<N, S>, Result<Vec<u8>, StateFault>)
-    requires quiet { IsKeptQuietly S.honest K.keeps }
+    requires looks { IsKeptByLooks K.keeps }
     ensures scanned { IfOk result.1 (λ v. IsScanned S.honest K.keeps (stretch_of range.entry)
         taken.now reader result.0 memory.old memory.new v.items) }
     ensures known { IsLater memory.new memory.old }

@@ -49,7 +49,7 @@ fn start<'s, 'e, N: Boarded, S: Shelf, K: Invariant, W: Wire + Send + 'e, R: Thr
     channel: Channel<N, S, W>,
 ) -> Thread<N, S, K, W>
     requires quiet { IsKeptQuietly S.honest K.keeps }
-    requires asked { IsKeptByRequests (S.refuses N.place) W.gives K.keeps }
+    requires asked { IsKeptByRequests S.honest (S.refuses N.place) W.gives K.keeps }
     requires fresh { IsFresh K.keeps channel.session }
     ensures given { result.given.value ≡ channel.wire }
 {
@@ -59,7 +59,7 @@ fn start<'s, 'e, N: Boarded, S: Shelf, K: Invariant, W: Wire + Send + 'e, R: Thr
         promise,
         move || -> W
             requires quiet { IsKeptQuietly S.honest K.keeps }
-            requires asked { IsKeptByRequests (S.refuses N.place) W.gives K.keeps }
+            requires asked { IsKeptByRequests S.honest (S.refuses N.place) W.gives K.keeps }
             requires fresh { IsFresh K.keeps channel.session }
             ensures same { W.descriptor result ≡ W.descriptor channel.wire }
             ensures served { IsServed S.honest (S.refuses N.place) K.keeps
@@ -94,7 +94,7 @@ fn start_all<
     threads: Vec<Thread<N, S, K, W>>,
 ) -> Vec<Thread<N, S, K, W>>
     requires quiet { IsKeptQuietly S.honest K.keeps }
-    requires asked { IsKeptByRequests (S.refuses N.place) W.gives K.keeps }
+    requires asked { IsKeptByRequests S.honest (S.refuses N.place) W.gives K.keeps }
     requires fresh { All (λ c. IsFresh K.keeps c.session) channels.items }
     requires none { (threads.items ≡ []) × (vec_len threads ≡ 0) }
     requires room { vec_len channels ≤ vec_capacity threads }
@@ -167,7 +167,7 @@ fn serve_first<N: Boarded, S: Shelf, K: Invariant, W: Wire, R: Threads + Wait + 
     are_served: bool,
 ) -> W
     requires quiet { IsKeptQuietly S.honest K.keeps }
-    requires asked { IsKeptByRequests (S.refuses N.place) W.gives K.keeps }
+    requires asked { IsKeptByRequests S.honest (S.refuses N.place) W.gives K.keeps }
     requires fresh { IsFresh K.keeps first.session }
     ensures same { W.descriptor result ≡ W.descriptor first.wire }
     ensures served { IsServedFirst S.honest (S.refuses N.place) K.keeps are_served
@@ -210,7 +210,7 @@ fn serve_within<
     wires: Vec<Option<W>>,
 ) -> Vec<Option<W>>
     requires quiet { IsKeptQuietly S.honest K.keeps }
-    requires asked { IsKeptByRequests (S.refuses N.place) W.gives K.keeps }
+    requires asked { IsKeptByRequests S.honest (S.refuses N.place) W.gives K.keeps }
     requires fresh { IsFresh K.keeps first.session
         × All (λ c. IsFresh K.keeps c.session) others.items }
     requires none { (threads.items ≡ []) × (vec_len threads ≡ 0)
@@ -244,7 +244,7 @@ fn serve_all<'e, N: Boarded, S: Shelf, K: Invariant, W: Wire + Send + 'e, R: Thr
     wires: Vec<Option<W>>,
 ) -> Vec<Option<W>>
     requires quiet { IsKeptQuietly S.honest K.keeps }
-    requires asked { IsKeptByRequests (S.refuses N.place) W.gives K.keeps }
+    requires asked { IsKeptByRequests S.honest (S.refuses N.place) W.gives K.keeps }
     requires fresh { IsFresh K.keeps first.session
         × All (λ c. IsFresh K.keeps c.session) others.items }
     requires none { (threads.items ≡ []) × (vec_len threads ≡ 0)
@@ -261,7 +261,7 @@ fn serve_all<'e, N: Boarded, S: Shelf, K: Invariant, W: Wire + Send + 'e, R: Thr
         rt,
         move |scope| -> Vec<Option<W>>
             requires quiet { IsKeptQuietly S.honest K.keeps }
-            requires asked { IsKeptByRequests (S.refuses N.place) W.gives K.keeps }
+            requires asked { IsKeptByRequests S.honest (S.refuses N.place) W.gives K.keeps }
             requires fresh { IsFresh K.keeps first.session
                 × All (λ c. IsFresh K.keeps c.session) others.items }
             requires none { (threads.items ≡ []) × (vec_len threads ≡ 0)
@@ -322,7 +322,7 @@ fn serve_beside<N: Boarded, S: Shelf, K: Invariant, W: Wire + Send, R: Threads +
     back: Vec<Option<W>>,
 ) -> Result<Vec<Option<W>>, WriterFault>
     requires quiet { IsKeptQuietly S.honest K.keeps }
-    requires asked { IsKeptByRequests (S.refuses N.place) W.gives K.keeps }
+    requires asked { IsKeptByRequests S.honest (S.refuses N.place) W.gives K.keeps }
     requires fresh { IsFresh K.keeps first.session
         × All (λ c. IsFresh K.keeps c.session) others.items }
     requires none { (threads.items ≡ []) × (vec_len threads ≡ 0)
@@ -343,7 +343,7 @@ fn serve_beside<N: Boarded, S: Shelf, K: Invariant, W: Wire + Send, R: Threads +
         &NoGate,
         move |background: &Background| -> Vec<Option<W>>
             requires quiet { IsKeptQuietly S.honest K.keeps }
-            requires asked { IsKeptByRequests (S.refuses N.place) W.gives K.keeps }
+            requires asked { IsKeptByRequests S.honest (S.refuses N.place) W.gives K.keeps }
             requires fresh { IsFresh K.keeps first.session
                 × All (λ c. IsFresh K.keeps c.session) others.items }
             requires none { (threads.items ≡ []) × (vec_len threads ≡ 0)
@@ -375,7 +375,7 @@ fn serve_opened<N: Boarded, S: Shelf, K: Invariant, W: Wire + Send, R: Threads +
     wires: Vec<W>,
 ) -> Result<Vec<Option<W>>, Unserved<W, WriterFault>>
     requires quiet { IsKeptQuietly S.honest K.keeps }
-    requires asked { IsKeptByRequests (S.refuses N.place) W.gives K.keeps }
+    requires asked { IsKeptByRequests S.honest (S.refuses N.place) W.gives K.keeps }
     requires fresh { All (IsFresh K.keeps) opened.sessions.items }
     ensures served { IfOk result (λ v. AreServed S.honest (S.refuses N.place) K.keeps
         (map (λ w. end (W.descriptor w) (W.happened w)) wires.items)
@@ -427,7 +427,7 @@ fn serve_state<N: Boarded, S: Shelf, K: Invariant, W: Wire + Send, R: Threads + 
     requires seats { SeatsPinners state }
     requires kept { (h : Held) → IsSeated state h → K.keeps h }
     requires quiet { IsKeptQuietly S.honest K.keeps }
-    requires asked { IsKeptByRequests (S.refuses N.place) W.gives K.keeps }
+    requires asked { IsKeptByRequests S.honest (S.refuses N.place) W.gives K.keeps }
     ensures served { IfOk result (λ v. AreServed S.honest (S.refuses N.place) K.keeps
         (map (λ w. end (W.descriptor w) (W.happened w)) wires.items)
         (map (option_map (λ w. end (W.descriptor w) (W.happened w))) v.items)) }

@@ -8,8 +8,8 @@ ghost use Rattle.lsm_frames.specs.Views.{asked_of, between_of, stretch_of};
 ghost use Rattle.lsm_history.specs.History.{IsLater};
 ghost use Rattle.lsm_shelf.specs.Told.{fresh};
 ghost use Rattle.lsm_channels.specs.Answering.{AnswersStatistics, IsAnswered};
-ghost use Rattle.lsm_channels.specs.Keeping.{IsKeptByAsked, IsKeptByRelease, IsKeptByTakes};
-ghost use Rattle.lsm_channels.specs.Keeping.{IsKeptByWrites, IsKeptQuietly, IsKnown};
+ghost use Rattle.lsm_channels.specs.Keeping.{IsKeptByAsked, IsKeptByLooks, IsKeptByRelease};
+ghost use Rattle.lsm_channels.specs.Keeping.{IsKeptByTakes, IsKeptByWrites, IsKeptQuietly, IsKnown};
 
 use crate::channel_reader::ChannelReader;
 use crate::collecting::collect;
@@ -41,7 +41,7 @@ fn answer_statistics<N: Boarded, S: Shelf, K: Invariant, R: Wait>(
     store: &Store<N, S, K>,
     memory: &mut Memory<N>,
 ) -> Result<Vec<u8>, AllocError>
-    requires quiet { IsKeptQuietly S.honest K.keeps }
+    requires looks { IsKeptByLooks K.keeps }
     ensures answered { IfOk result (λ v. AnswersStatistics K.keeps memory.old memory.new v.items) }
     ensures unanswered { OnErr result ((frame : List ℕ)
         × AnswersStatistics K.keeps memory.old memory.new frame) }
@@ -111,7 +111,7 @@ impl<N: Boarded, S: Shelf> Session<N, S> {
     /// Knows what is remembered here from then on, with all that it knew. So what is performed then
     /// is answered by a state that has it, whoever brought it in.
     pub fn note<K: Invariant, R: Wait>(&mut self, rt: &R, store: &Store<N, S, K>, since: Memory<N>)
-        requires quiet { IsKeptQuietly S.honest K.keeps }
+        requires looks { IsKeptByLooks K.keeps }
         ensures since { IsLater self.new.known since }
         ensures known { IsLater self.new.known self.old.known }
         ensures kept { IsKnown K.keeps self.new.known }
@@ -129,7 +129,7 @@ impl<N: Boarded, S: Shelf> Session<N, S> {
         background: &Background,
         writes: Writes<'_>,
     ) -> Result<Vec<u8>, AllocError>
-        requires quiet { IsKeptQuietly S.honest K.keeps }
+        requires looks { IsKeptByLooks K.keeps }
         requires writes { IsKeptByWrites (S.refuses N.place) writes K.keeps }
         ensures answered { IfOk result (λ v. IsAnswered S.honest (S.refuses N.place) K.keeps
             (AskedWrites writes.entry) self.old self.new v.items) }
@@ -218,7 +218,7 @@ impl<N: Boarded, S: Shelf> Session<N, S> {
         alloc: Global,
         store: &Store<N, S, K>,
     ) -> Result<Vec<u8>, AllocError>
-        requires quiet { IsKeptQuietly S.honest K.keeps }
+        requires looks { IsKeptByLooks K.keeps }
         ensures answered { IfOk result (λ v. IsAnswered S.honest (S.refuses N.place) K.keeps
             Collects self.old self.new v.items) }
         ensures unanswered { OnErr result ((frame : List ℕ)
@@ -280,7 +280,7 @@ impl<N: Boarded, S: Shelf> Session<N, S> {
         alloc: Global,
         store: &Store<N, S, K>,
     ) -> Result<Vec<u8>, AllocError>
-        requires quiet { IsKeptQuietly S.honest K.keeps }
+        requires looks { IsKeptByLooks K.keeps }
         ensures answered { IfOk result (λ v. IsAnswered S.honest (S.refuses N.place) K.keeps
             Statistics self.old self.new v.items) }
         ensures unanswered { OnErr result ((frame : List ℕ)
@@ -300,7 +300,7 @@ impl<N: Boarded, S: Shelf> Session<N, S> {
         when: When,
         keys: Keys<'_>,
     ) -> (Session<N, S>, Result<Vec<u8>, AllocError>)
-        requires quiet { IsKeptQuietly S.honest K.keeps }
+        requires looks { IsKeptByLooks K.keeps }
         ensures answered { IfOk result.1 (λ v. IsAnswered S.honest (S.refuses N.place) K.keeps
             (Reads when keys.entry) self result.0 v.items) }
         ensures unanswered { OnErr result.1 ((frame : List ℕ)
@@ -357,7 +357,7 @@ impl<N: Boarded, S: Shelf> Session<N, S> {
         store: &Store<N, S, K>,
         range: Range<'_>,
     ) -> (Session<N, S>, Result<Vec<u8>, AllocError>)
-        requires quiet { IsKeptQuietly S.honest K.keeps }
+        requires looks { IsKeptByLooks K.keeps }
         ensures answered { IfOk result.1 (λ v. IsAnswered S.honest (S.refuses N.place) K.keeps
             (Scans (stretch_of range.entry)) self result.0 v.items) }
         ensures unanswered { OnErr result.1 ((frame : List ℕ)
@@ -418,8 +418,7 @@ impl<N: Boarded, S: Shelf> Session<N, S> {
         background: &Background,
         request: Request<'_>,
     ) -> (Session<N, S>, Result<Vec<u8>, AllocError>)
-        requires quiet { IsKeptQuietly S.honest K.keeps }
-        requires asked { IsKeptByAsked (S.refuses N.place) (asked_of request) K.keeps }
+        requires asked { IsKeptByAsked S.honest (S.refuses N.place) (asked_of request) K.keeps }
         ensures answered { IfOk result.1 (λ v. IsAnswered S.honest (S.refuses N.place) K.keeps
             (asked_of request.entry) self result.0 v.items) }
         ensures unanswered { OnErr result.1 ((frame : List ℕ)

@@ -3,7 +3,7 @@
 ghost use Rattle.std.specs.Prelude.{◌≡◌, IfOk, length, sum_by};
 ghost use Rattle.lsm_history.specs.History.{IsLater};
 ghost use Rattle.lsm_channels.specs.Counting.{IsListed, capped, files_at, size_at, sizes_of};
-ghost use Rattle.lsm_channels.specs.Keeping.{IsKeptQuietly, IsKnown};
+ghost use Rattle.lsm_channels.specs.Keeping.{IsKeptByLooks, IsKnown};
 ghost use Rattle.lsm_channels.specs.Served.{IsToldBy};
 ghost use Rattle.lsm_state.specs.Listing.{listed_from};
 
@@ -97,7 +97,7 @@ pub(crate) fn list<N: Boarded, S: Shelf, K: Invariant, R: Wait>(
     store: &Store<N, S, K>,
     memory: &mut Memory<N>,
 ) -> Result<(u64, Vec<(u8, FileMeta)>), AllocError>
-    requires quiet { IsKeptQuietly S.honest K.keeps }
+    requires looks { IsKeptByLooks K.keeps }
     ensures listed { IfOk result (λ r. IsListed K.keeps r.0 r.1.items memory.old memory.new) }
     ensures known { IsLater memory.new memory.old }
     ensures kept { IsKnown K.keeps memory.new }

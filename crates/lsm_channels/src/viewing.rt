@@ -11,7 +11,7 @@ ghost use Rattle.lsm_channels.specs.Reading.{IsUnseen};
 ghost use Rattle.lsm_channels.specs.Seen.{IsAsGiven, IsGiven, IsNotLive, Learns, Sees, is_other};
 ghost use Rattle.lsm_channels.specs.Seen.{snapshot_in};
 ghost use Rattle.std.specs.List.{list_any};
-ghost use Rattle.lsm_channels.specs.Keeping.{IsKeptQuietly, IsKnown};
+ghost use Rattle.lsm_channels.specs.Keeping.{IsKeptByLooks, IsKnown};
 ghost use Rattle.lsm_channels.specs.Served.{IsToldBy};
 ghost use Rattle.lsm_store.specs.Readers.{refreshed};
 
@@ -134,7 +134,7 @@ pub(crate) fn view_at<N: Boarded, S: Shelf, K: Invariant, R: Wait>(
     taken: &[(u64, u64)],
     when: When,
 ) -> Result<(ChannelView<N, S>, u64), (ChannelReader<N, S>, StateFault)>
-    requires quiet { IsKeptQuietly S.honest K.keeps }
+    requires looks { IsKeptByLooks K.keeps }
     ensures sees { IfOk result (λ r. Sees K.keeps when taken.now reader r.0 memory.old memory.new
         r.1) }
     ensures known { IsLater memory.new memory.old }

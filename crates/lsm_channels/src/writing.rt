@@ -4,7 +4,7 @@ ghost use Rattle.std.specs.Prelude.{◌≡◌, ◌++◌, ◌∷◌, [], IfErr, I
 ghost use Rattle.lsm_frames.specs.Views.{written_of};
 ghost use Rattle.lsm_history.specs.History.{IsLater};
 ghost use Rattle.lsm_lines.specs.LastWrites.{KeepsLast};
-ghost use Rattle.lsm_channels.specs.Keeping.{IsKeptByWrites, IsKeptQuietly, IsKnown};
+ghost use Rattle.lsm_channels.specs.Keeping.{IsKeptByLooks, IsKeptByWrites, IsKnown};
 ghost use Rattle.lsm_store.specs.Background.{IsKeptByIngest};
 ghost use Rattle.lsm_channels.specs.Writing.{IsIn, IsOut, IsPutFault, IsUngathered};
 ghost use Rattle.lsm_channels.specs.Writing.{IsWriteFault, IsWritten};
@@ -114,7 +114,7 @@ pub(crate) fn write<N: Boarded, S: Shelf, K: Invariant, R: Wait>(
     shelf: &mut NamedShelf<N, S>,
     writes: Writes<'_>,
 ) -> Result<Ingested, StateFault>
-    requires quiet { IsKeptQuietly S.honest K.keeps }
+    requires looks { IsKeptByLooks K.keeps }
     requires writes { IsKeptByWrites (S.refuses N.place) writes K.keeps }
     ensures ok { IfOk result (λ r. IsWritten K.keeps writes.entry r memory.new shelf.old shelf.new) }
     ensures known { IsLater memory.new memory.old }

@@ -5,11 +5,12 @@ mod descriptor_wire;
 mod log;
 mod opens;
 mod system_descriptors;
+mod system_door;
 
 use crate::system_descriptors::SystemDescriptors;
+use crate::system_door::SystemDoor;
 use lsm_channels::serve_opening;
 use lsm_directory::SystemPaths;
-use lsm_folder::Mute;
 
 fn main(rt: HostRuntime) {
     let Ok(paths) = rt.clone() else {
@@ -18,7 +19,7 @@ fn main(rt: HostRuntime) {
     let Ok(files) = rt.clone() else {
         return;
     };
-    let paths = SystemPaths::<Mute>::new(paths);
+    let door = SystemDoor::new(SystemPaths::new(paths));
     let mut descriptors = SystemDescriptors::new(files);
-    let _run = serve_opening(&rt, &paths, &mut descriptors);
+    let _run = serve_opening(&rt, door, &mut descriptors);
 }

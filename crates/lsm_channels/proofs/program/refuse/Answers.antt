@@ -1,4 +1,3 @@
-use Rattle.std.proofs.Common.{◌≡◌, ap}
 use Rattle.lsm_channels.specs.Serving.{end}
 use Rattle.lsm_channels.proofs.RunLaws.{refusal_said}
 use Rattle.lsm_channels.proofs.program.refuse.Goals as goal

@@ -1,11 +1,13 @@
-use Rattle.std.proofs.Common.{inl, refl}
 use Rattle.lsm_frames.specs.OpeningView.{opened_of}
 use Rattle.lsm_channels.specs.Serving.{End, end}
-use Rattle.lsm_channels.proofs.RunLaws.{opened_back, unserved_open}
+use Rattle.lsm_channels.proofs.RunLaws.{asked_door, opened_back, unserved_open}
 use Rattle.lsm_channels.proofs.program.serve_at.Goals as goal
 
 pub returns-in-Err-clause-refused : goal.returns-in-Err-clause-refused
-returns-in-Err-clause-refused g c = unserved_open g.C.FolderCalls g.C.Mark.Mark g.D.Descriptors.says (opened_of c.args.opening.now) c.in-Err.unserved.fault c.in-Err.ensures.refused
+returns-in-Err-clause-refused g c = unserved_open g.C.FolderCalls g.C.Mark.Mark g.D.Descriptors.says g.O.Door.refuses (opened_of c.args.opening.now) c.in-Err.unserved.fault c.in-Err.ensures.refused
+
+pub returns-in-Err-clause-door : goal.returns-in-Err-clause-door
+returns-in-Err-clause-door g c = asked_door g.C.FolderCalls g.C.Mark.Mark g.O.Door.refuses (opened_of c.args.opening.now) c.in-Err.unserved.fault _ c.in-Err.ensures.refused
 
 pub returns-in-Err-clause-left : goal.returns-in-Err-clause-left
 returns-in-Err-clause-left g c =

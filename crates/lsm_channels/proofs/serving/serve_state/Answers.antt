@@ -1,5 +1,6 @@
 use Rattle.std.proofs.Common.{inl, inr, refl, subst}
 use Rattle.lsm_channels.specs.Serving.{forks_for}
+use Rattle.lsm_channels.proofs.KeepingLaws.{quiet_looks}
 use Rattle.lsm_shelf.specs.Told.{Becomes, forking}
 use Rattle.lsm_channels.proofs.serving.serve_state.Goals as goal
 
@@ -14,3 +15,6 @@ returns-in-Err-clause-fault g c = inr (c.in-Err.fault, c.of_shelf.ensures, c.in-
 
 pub returns-in-Err-clause-back : goal.returns-in-Err-clause-back
 returns-in-Err-clause-back g c = inl refl
+
+pub open_state-requires-clause-looks : goal.open_state-requires-clause-looks
+open_state-requires-clause-looks g c κs within = quiet_looks g.S.Shelf.honest g.K.Invariant.keeps c.requires.quiet

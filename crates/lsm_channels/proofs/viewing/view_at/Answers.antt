@@ -1,11 +1,9 @@
-use Rattle.std.proofs.Common.{ap}
-use Rattle.lsm_state.specs.Held.{Held}
-use Rattle.lsm_channels.proofs.KeepingLaws.{kept_on, known_by, quiet_look}
+use Rattle.lsm_channels.proofs.KeepingLaws.{looked_on, known_by}
 use Rattle.lsm_channels.proofs.viewing.view_at.Goals as goal
 
 pub invariant_of-deref_mut : goal.invariant_of-deref_mut
 invariant_of-deref_mut g c = record {
-  kept = kept_on g.S.Shelf.honest g.K.Invariant.keeps c.deref_mut.result.now.state c.view_of.new.state c.requires.quiet (quiet_look g.S.Shelf.honest c.deref_mut.result.now.state c.view_of.new.state c.view_of.ensures.plain (ap (λ (h : Held). h.history) c.view_of.ensures.rest)) c.deref_mut.result.now.kept;
+  kept = looked_on g.K.Invariant.keeps c.deref_mut.result.now.state c.view_of.new.state c.requires.looks (record { rest = c.view_of.ensures.rest; machine = c.view_of.ensures.plain }) c.deref_mut.result.now.kept;
 }
 
 pub returns-clause-kept : goal.returns-clause-kept
