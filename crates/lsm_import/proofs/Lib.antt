@@ -1,3 +1,4 @@
 pub mod AnswerLaws
 pub mod CopyLaws
 pub mod LogLaws
+pub mod StandingLaws

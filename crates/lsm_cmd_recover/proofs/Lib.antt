@@ -1,0 +1,4 @@
+pub mod ReadLaws
+pub mod LogLaws
+pub mod BringLaws
+pub mod RunLaws
