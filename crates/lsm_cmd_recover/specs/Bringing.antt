@@ -1,10 +1,10 @@
 -- The writes of logs come into the database of their folder, and why they don't (LevelDB's
 -- `DBImpl::RecoverLogFile`; that they come in as one table is this project's rule).
-use Rattle.std.specs.Prelude.{◌≡◌, ◌⊎◌, ℕ, List, [], ◌∷◌, ◌++◌, length}
+use Rattle.std.specs.Prelude.{◌≡◌, ◌⊎◌, ℕ, List, [], ◌∷◌, ◌++◌, All, length}
 use Rattle.lsm_codec.specs.Entries.{Entry, answer}
 use Rattle.lsm_codec.specs.Keys.{UserKey}
 use Rattle.lsm_shelf.specs.Asked.{Asked, ListTables, Load}
-use Rattle.lsm_shelf.specs.Told.{Told}
+use Rattle.lsm_shelf.specs.Told.{Becomes, Told, listing}
 use Rattle.lsm_shelf.specs.declared.shelf_fault.ShelfFault.{ShelfFault}
 use Rattle.lsm_manifest.specs.Shape.{Form, IsRefused, IsReplayed}
 use Rattle.lsm_manifest.specs.declared.replay_fault.ReplayFault.{ReplayFault}
@@ -14,16 +14,17 @@ use Rattle.lsm_verify.specs.declared.check_fault.CheckFault.{CheckFault}
 use Rattle.lsm_version.specs.Versions.{IsSound, Levels, files}
 use Rattle.lsm_batch.specs.Batches.{entries_from}
 use Rattle.lsm_wal.specs.declared.write_batch.WriteBatch.{WriteBatch}
-use Rattle.lsm_directory.specs.Logs.{NoneUnread}
+use Rattle.lsm_directory.specs.Logs.{IsFirstUnread, NoneUnread}
 use Rattle.lsm_directory.specs.declared.folder.folder_file.FolderFile.{FolderFile}
 use Rattle.lsm_opening.specs.WriterFault.{of_shelf}
-use Rattle.lsm_import.specs.Copied.{HasLogs, IsBeginRefusal, IsLogsRefusal}
+use Rattle.lsm_opening.specs.declared.faults.writer_fault.WriterFault.TheVariants.{UnflushedLog}
+use Rattle.lsm_import.specs.Answers.{source_answer}
+use Rattle.lsm_import.specs.Copied.{HasLogs, IsBegun, IsBeginRefusal, IsLogsRefusal, usual}
 use Rattle.lsm_import.specs.Standing.{IsNotStanding, IsStanding}
 use Rattle.lsm_import.specs.declared.copied.Copied.{Copied}
 use Rattle.lsm_import.specs.declared.import_fault.ImportFault.{ImportFault}
 use Rattle.lsm_import.specs.declared.import_fault.ImportFault.TheVariants.{Replay}
-use Rattle.lsm_cmd_import.specs.Copying.{IsBegun, source_answer, usual}
-use Rattle.lsm_cmd_import.specs.Logs.{AreLogs}
+use Rattle.lsm_log_files.specs.Logs.{AreLogs}
 use Rattle.lsm_cmd_recover.specs.declared.bring_fault.BringFault.{BringFault}
 use Rattle.lsm_cmd_recover.specs.declared.bring_fault.BringFault.TheVariants.{OutOfMemory, Folder}
 use Rattle.lsm_cmd_recover.specs.declared.bring_fault.BringFault.TheVariants.{Bring, Tables}
@@ -32,23 +33,30 @@ use Rattle.lsm_cmd_recover.specs.declared.bring_fault.BringFault.TheVariants.{Br
 abbrev pub entries_of : Levels → List Entry
 entries_of version = all_entries (files version)
 
--- the numbers of logs, and behind them those of tables that are there
-abbrev pub AreTaken : List ℕ → List ℕ → Type 0
-AreTaken logs numbers = (tables : List ℕ) × (numbers ≡ logs ++ tables)
+-- The shelf listed its tables. The numbers are those of the logs, and behind them the tables'.
+abbrev pub AreTaken : (logs numbers : List ℕ) → Told → Told → Type 0
+AreTaken logs numbers was is = (tables : List ℕ) × (numbers ≡ logs ++ tables)
+    × Becomes (listing tables was) is
 
--- The tables were read: they are a version, sound over an honest shelf.
-pub record IsJudged (Honest : Type 0) (standing : Copied) : Type 0 where
+-- The shelf gave the image of each table of the version, for that table's number. `Into` says which
+-- images it gave for which numbers.
+abbrev pub AreGiven : (ℕ → List ℕ → Type 0) → Levels → Type 0
+AreGiven Into version = All (All (λ t. Into t.number t.image)) version.tables
+
+-- The tables were read from the shelf: they are a version, sound over an honest shelf.
+pub record IsJudged (Into : ℕ → List ℕ → Type 0) (Honest : Type 0) (standing : Copied) : Type 0 where
   pub shape : Form
   pub replayed : IsReplayed (standing.edit ∷ []) shape
   pub version : Levels
   pub of_shape : IsOfShape shape version
+  pub given : AreGiven Into version
   pub sound : Honest → IsSound version
 
 -- The tables were judged, and one of the batches' last writes came behind them, if they write
 -- anything.
 pub record IsFilled (Into : ℕ → List ℕ → Type 0) (Honest : Type 0) (batches : List WriteBatch)
     (standing whole : Copied) : Type 0 where
-  pub judged : IsJudged Honest standing
+  pub judged : IsJudged Into Honest standing
   pub logs : HasLogs Into batches standing whole
 
 -- So it was, with so many entries, and then the manifest was begun: its one edit names just these
@@ -60,19 +68,21 @@ pub record IsBroughtIn (Into : ℕ → List ℕ → Type 0) (Honest : Type 0) (b
   pub counted : count ≡ length filled.logs.batch
   pub begun : IsBegun whole was is
 
--- So it was with the database of the shape, whose tables stay as they were: the log numbers of the
--- manifest are above the logs among these files, and above each table that was there, so none of the
--- logs is one to read from then on. At its last sequence it answers of each key what LevelDB reads of
--- the tables with the logs.
+-- So it was with the database of the shape, whose tables stay as they were. The log number of the
+-- manifest is above the logs among these files, and above each table that the shelf listed; it has no
+-- previous log. So none of the files is a log to read from then on. At its last sequence the database
+-- answers of each key what LevelDB reads of the tables with the logs.
 pub record BringsIn (Into : ℕ → List ℕ → Type 0) (Honest : Type 0) (files : List FolderFile)
     (shape : Form) (batches : List WriteBatch) (count : ℕ) (was is : Told) : Type 0 where
   pub logs : List ℕ
   pub those : AreLogs shape.log shape.prev_log files logs
   pub tables : List ℕ
+  pub mid : Told
+  pub listed : Becomes (listing tables was) mid
   pub standing : Copied
   pub stands : IsStanding shape (logs ++ tables) standing
-  pub brought : IsBroughtIn Into Honest batches standing count was is
-  pub flushed : NoneUnread stands.next stands.next files
+  pub flushed : NoneUnread stands.next 0 files
+  pub brought : IsBroughtIn Into Honest batches standing count mid is
   pub answers : Honest → (key : UserKey)
       → answer (entries_from brought.filled.logs.first brought.filled.logs.batch
       ++ entries_of brought.filled.judged.version) key brought.whole.last
@@ -115,13 +125,27 @@ IsUnbrought Into Denied Honest batches standing fault =
     IsUnfilled Into Denied Honest batches standing fault
     ⊎ ((whole : Copied) × HasLogs Into batches standing whole × IsUnbegun Denied whole fault)
 
--- What keeps the writes out: the tables are not listed; no number is left above them and the logs;
--- or what follows. Memory may run out.
+-- A log would still be read by a manifest of this log number, and the first of them has this number:
+-- no previous log is told by the number 0, so it is that of a `000000.log`, which LevelDB never makes.
+abbrev pub StaysUnread : List FolderFile → ℕ → BringFault → Type 0
+StaysUnread files log fault =
+    (n : ℕ) × (fault ≡ Folder (UnflushedLog n)) × IsFirstUnread log 0 files n
+
+-- No number is left above the logs and the tables; or one is, and a log would still be read, or what
+-- follows.
+abbrev pub IsUnstanding : (ℕ → List ℕ → Type 0) → (Asked → ShelfFault → Type 0) → Type 0
+    → List FolderFile → Form → List ℕ → List WriteBatch → BringFault → Type 0
+IsUnstanding Into Denied Honest files shape numbers batches fault =
+    ((e : ImportFault) × (fault ≡ Bring e) × IsNotStanding shape numbers e)
+    ⊎ ((standing : Copied) × IsStanding shape numbers standing
+    × (StaysUnread files standing.next fault ⊎ IsUnbrought Into Denied Honest batches standing fault))
+
+-- What keeps the writes out: the tables are not listed; or they are, and what follows. Memory may
+-- run out.
 abbrev pub BringsNone : (ℕ → List ℕ → Type 0) → (Asked → ShelfFault → Type 0) → Type 0
-    → List FolderFile → Form → List WriteBatch → BringFault → Type 0
-BringsNone Into Denied Honest files shape batches fault =
+    → List FolderFile → Form → List WriteBatch → Told → BringFault → Type 0
+BringsNone Into Denied Honest files shape batches was fault =
     IsUnlisted Denied fault
-    ⊎ ((logs : List ℕ) × (tables : List ℕ) × AreLogs shape.log shape.prev_log files logs
-    × (((e : ImportFault) × (fault ≡ Bring e) × IsNotStanding shape (logs ++ tables) e)
-    ⊎ ((standing : Copied) × IsStanding shape (logs ++ tables) standing
-    × IsUnbrought Into Denied Honest batches standing fault)))
+    ⊎ ((logs : List ℕ) × (tables : List ℕ) × (mid : Told)
+    × AreLogs shape.log shape.prev_log files logs × Becomes (listing tables was) mid
+    × IsUnstanding Into Denied Honest files shape (logs ++ tables) batches fault)

@@ -23,8 +23,8 @@ use Rattle.lsm_opening.specs.declared.faults.writer_fault.WriterFault.{WriterFau
 use Rattle.lsm_opening.specs.declared.faults.writer_fault.WriterFault.TheVariants.{Directory}
 use Rattle.lsm_wal.specs.declared.write_batch.WriteBatch.{WriteBatch}
 use Rattle.lsm_import.specs.Copies.{OnlyPuts}
-use Rattle.lsm_cmd_import.specs.Source.{IsNoSource, IsSource}
-use Rattle.lsm_cmd_import.specs.declared.copy_fault.CopyFault.{CopyFault}
+use Rattle.lsm_log_files.specs.Source.{IsNoSource, IsSource}
+use Rattle.lsm_log_files.specs.declared.source_fault.SourceFault.{SourceFault}
 use Rattle.lsm_cmd_recover.specs.Bringing.{BringsIn, BringsNone}
 use Rattle.lsm_cmd_recover.specs.declared.bring_fault.BringFault.{BringFault}
 use Rattle.lsm_cmd_recover.specs.declared.bring_fault.BringFault.TheVariants.{OutOfMemory, Folder}
@@ -72,11 +72,11 @@ abbrev pub IsKeptOut : (ℕ → List ℕ → Type 0) → (Asked → ShelfFault �
     → List FolderFile → BringFault → Moment → Moment → Type 0
 IsKeptOut Into Denied Honest files fault before later =
     (fault ≡ OutOfMemory)
-    ⊎ (((e : CopyFault) × (fault ≡ Read e)
+    ⊎ (((e : SourceFault) × (fault ≡ Read e)
     × IsNoSource Denied files e before.calls later.calls before.told later.told)
     ⊎ ((shape : Form) × (batches : List WriteBatch) × (count : ℕ) × (rest : ℕ) × (mid : Told)
     × IsSource files shape batches count rest before.calls later.calls before.told mid
-    × BringsNone Into Denied Honest files shape batches fault))
+    × BringsNone Into Denied Honest files shape batches mid fault))
 
 -- Why the writes did not come in. The shelf got a table at most, and no manifest of it was begun: the
 -- database is as it was, and the logs are still to be read.

@@ -7,9 +7,9 @@ ghost use Rattle.lsm_cmd_recover.specs.declared.bring_fault.BringFault.TheVarian
 ghost use Rattle.lsm_cmd_recover.specs.declared.bring_fault.BringFault.TheVariants.{Tables};
 
 use lsm_batch::Write as KeyWrite;
-use lsm_cmd_import::CopyFault;
 use lsm_directory::Exit;
 use lsm_import::ImportFault;
+use lsm_log_files::SourceFault;
 use lsm_opening::WriterFault;
 use lsm_verify::CheckFault;
 use std::alloc::{AllocError, AllocFailed};
@@ -24,7 +24,7 @@ pub enum BringFault {
     /// The folder could not be opened, locked or looked at, or its tables not listed.
     Folder(WriterFault),
     /// The manifest or a log could not be read.
-    Read(CopyFault),
+    Read(SourceFault),
     /// The table of the logs' writes was not put, or no manifest begun.
     Bring(ImportFault),
     /// The tables are no version.
@@ -45,14 +45,6 @@ impl fmt::Display for BringFault {
             BringFault::Tables(fault) => write!(f, "refused {} {fault}", fault.number()),
             BringFault::Write => f.write_str("write fault"),
         }
-    }
-}
-
-/// Writes what a fault of the manifest or of a log means.
-fn explain_read<E: Write>(err: &mut E, fault: &CopyFault) -> io::Result<()> {
-    match fault {
-        CopyFault::Source(fault) => fault.explain(err, &[]),
-        _ => fault.explain(err, &[]),
     }
 }
 
@@ -81,7 +73,7 @@ impl Exit for BringFault {
     fn explain<E: Write>(&self, err: &mut E, _writes: &[KeyWrite]) -> io::Result<()> {
         match self {
             BringFault::Folder(fault) => fault.explain(err, &[]),
-            BringFault::Read(fault) => explain_read(err, fault),
+            BringFault::Read(fault) => fault.explain(err, &[]),
             BringFault::OutOfMemory
             | BringFault::Bring(_)
             | BringFault::Tables(_)

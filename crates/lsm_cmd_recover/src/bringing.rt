@@ -1,20 +1,21 @@
 //! The writes of logs come into the database of their folder.
 
-ghost use Rattle.std.specs.Prelude.{◌≡◌, ◌++◌, List, ℕ, IfErr, IfOk, OnErr, OnOk};
+ghost use Rattle.std.specs.Prelude.{◌≡◌, ℕ, IfErr, IfOk, OnErr, OnOk};
 ghost use Rattle.lsm_shelf.specs.Stored.{Stored};
 ghost use Rattle.lsm_shelf.specs.Told.{Becomes};
 ghost use Rattle.lsm_manifest.specs.Shape.{IsShape};
 ghost use Rattle.lsm_manifest.specs.WholeEdit.{FitsShape};
-ghost use Rattle.lsm_import.specs.Copied.{IsFitting};
+ghost use Rattle.lsm_directory.specs.Logs.{NoneUnread};
+ghost use Rattle.lsm_import.specs.Copied.{IsBegun, IsFitting};
 ghost use Rattle.lsm_import.specs.Copies.{OnlyPuts};
-ghost use Rattle.lsm_cmd_import.specs.Copying.{IsBegun};
-ghost use Rattle.lsm_cmd_import.specs.Logs.{AreLogs};
+ghost use Rattle.lsm_log_files.specs.Logs.{AreLogs};
 ghost use Rattle.lsm_cmd_recover.specs.Bringing.{AreTaken, BringsIn, BringsNone, IsBroughtIn};
 ghost use Rattle.lsm_cmd_recover.specs.Bringing.{IsFilled, IsJudged, IsUnbegun, IsUnbrought};
-ghost use Rattle.lsm_cmd_recover.specs.Bringing.{IsUnfilled, IsUnjudged, IsUnlisted};
+ghost use Rattle.lsm_cmd_recover.specs.Bringing.{IsUnfilled, IsUnjudged, IsUnlisted, StaysUnread};
 
 use crate::bring_fault::BringFault;
-use lsm_directory::FolderFile;
+use crate::given::tables_are_given;
+use lsm_directory::{FolderFile, first_unread};
 use lsm_import::{Copied, ImportFault, copies_answer};
 use lsm_manifest::Shape;
 use lsm_opening::WriterFault;
@@ -24,14 +25,14 @@ use lsm_wal::WriteLogs;
 use std::alloc::Global;
 use std::sync::Wait;
 
-/// The numbers of logs, and behind them those of the tables that are there.
+/// The numbers of logs, and behind them those of the tables that the shelf lists.
 fn taken<N: Naming, S: Shelf, R: Wait>(
     rt: &R,
     alloc: Global,
     shelf: &mut NamedShelf<N, S>,
     logs: Vec<u64>,
 ) -> Result<Vec<u64>, BringFault>
-    ensures taken { IfOk result (λ v. AreTaken logs.items v.items) }
+    ensures taken { IfOk result (λ v. AreTaken logs.items v.items shelf.old shelf.new) }
     ensures puts { OnlyPuts shelf.old shelf.new }
     ensures refused { IfErr result (IsUnlisted (S.refuses N.place)) }
 {
@@ -53,7 +54,9 @@ fn judge<N: Naming, S: Shelf, R: Wait>(
     standing: &Copied,
 ) -> Result<(), BringFault>
     requires named { records ≡ N.registry }
-    ensures judged { OnOk result (IsJudged S.honest standing.now) }
+    ensures judged { OnOk result (IsJudged
+        (Stored S.Receipt (S.is_of N.place) S.Receipt.number S.Receipt.image) S.honest
+        standing.now) }
     ensures refused { IfErr result (IsUnjudged
         (Stored S.Receipt (S.is_of N.place) S.Receipt.number S.Receipt.image) (S.refuses N.place)
         S.honest standing.now) }
@@ -64,7 +67,8 @@ fn judge<N: Naming, S: Shelf, R: Wait>(
         Err(fault) => return Err(BringFault::Bring(ImportFault::Replay(fault))),
     };
     let registry = Registry::shared(alloc, records)?;
-    let _version = check(shelf, rt, alloc, &shape, registry)?;
+    let version = check(shelf, rt, alloc, &shape, registry)?;
+    tables_are_given(&version);
     Ok(())
 }
 
@@ -140,6 +144,17 @@ fn finish<N: Naming, S: Shelf, R: Wait>(
     }
 }
 
+/// Refuses a log among these files that a manifest of the standing database would still read.
+fn refuse_unread(files: &[FolderFile], standing: &Copied) -> Result<(), BringFault>
+    ensures flushed { OnOk result (NoneUnread standing.now.next 0 files.now) }
+    ensures refused { IfErr result (StaysUnread files.now standing.now.next) }
+{
+    match first_unread(files, standing.next, 0) {
+        Some(log) => Err(BringFault::Folder(WriterFault::UnflushedLog(log))),
+        None => Ok(()),
+    }
+}
+
 /// Brings the writes of the logs of these numbers into the database of a shelf, and answers as how
 /// many entries they came in.
 pub(crate) fn bring_in<N: Naming, S: Shelf, R: Wait>(
@@ -162,7 +177,7 @@ pub(crate) fn bring_in<N: Naming, S: Shelf, R: Wait>(
     ensures none { OnErr result (OnlyPuts shelf.old shelf.new) }
     ensures refused { IfErr result (BringsNone
         (Stored S.Receipt (S.is_of N.place) S.Receipt.number S.Receipt.image) (S.refuses N.place)
-        S.honest files.now shape.now logs) }
+        S.honest files.now shape.now logs shelf.old) }
 {
     copies_answer();
     let numbers = taken(rt, alloc, shelf, numbers)?;
@@ -170,6 +185,7 @@ pub(crate) fn bring_in<N: Naming, S: Shelf, R: Wait>(
         Ok(standing) => standing,
         Err(fault) => return Err(BringFault::Bring(fault)),
     };
+    refuse_unread(files, &standing)?;
     match finish(rt, alloc, shelf, records, standing, logs) {
         Ok(entries) => Ok(entries),
         Err(fault) => Err(fault),

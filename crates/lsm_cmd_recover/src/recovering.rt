@@ -6,10 +6,10 @@ ghost use Rattle.lsm_cmd_recover.specs.Recovered.{IsRecovered, IsUnrecovered, mo
 
 use crate::bring_fault::BringFault;
 use crate::bringing::bring_in;
-use crate::reading::{DatabaseRead, read_database};
 use crate::reply::Brought;
 use lsm_directory::FolderFile;
 use lsm_folder::FolderCalls;
+use lsm_log_files::{SourceRead, read_source};
 use lsm_table::{NamedShelf, Naming, Records, Shelf};
 use std::alloc::Global;
 use std::marker::Brand;
@@ -36,12 +36,12 @@ fn recover_named<C: FolderCalls, N: Naming, S: Shelf, R: Wait>(
         (moment_of (C.calls folder.new) shelf.new)) }
     ensures place { C.place folder.new ≡ C.place folder.old }
 {
-    let DatabaseRead {
+    let SourceRead {
         shape,
         numbers,
         logs,
         rest,
-    } = match read_database(rt, alloc, folder, files, shelf) {
+    } = match read_source(rt, alloc, folder, files, shelf) {
         Ok(read) => read,
         Err(fault) => return Err(BringFault::Read(fault)),
     };

@@ -1,6 +1,6 @@
 -- A database that stays where it is, before a manifest is begun that reads none of its logs
--- (LevelDB's `VersionSet::WriteSnapshot`; that the log numbers pass all logs is what its
--- `DBImpl::Recover` leaves, once their writes are in a table).
+-- (LevelDB's `VersionSet::WriteSnapshot`; a log number above all logs, and no previous one, is what
+-- its `DB::Open` leaves, once their writes are in a table).
 use Rattle.std.specs.Prelude.{◌≡◌, ◌⊎◌, ℕ, ◌-◌, ◌^◌, ◌<◌, List, Some, max}
 use Rattle.lsm_codec.specs.Lists.{Has}
 use Rattle.lsm_manifest.specs.Shape.{Form}
@@ -15,11 +15,11 @@ use Rattle.lsm_import.specs.declared.import_fault.ImportFault.TheVariants.{Numbe
 abbrev pub AreBelow : List ℕ → ℕ → Type 0
 AreBelow numbers next = (n : ℕ) → Has numbers n → n < next
 
--- the one edit that spells the shape, with this number as the next file number, as the log number
--- and as that of the previous log
+-- the one edit that spells the shape, with this number as the next file number and as the log number,
+-- and with no previous log
 abbrev pub standing_of : Form → ℕ → Copied
 standing_of shape next = record {
-  edit = record (whole_edit shape) { log = Some next; prev_log = Some next; next = Some next };
+  edit = record (whole_edit shape) { log = Some next; prev_log = Some 0; next = Some next };
   next = next;
   last = shape.last;
   writes = 0;

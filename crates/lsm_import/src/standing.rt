@@ -33,8 +33,8 @@ fn number_beyond(from: u64, numbers: &[u64]) -> Result<u64, ImportFault>
 
 impl Copied {
     /// The database of a shape as it stands: its tables under their numbers and at their levels. The
-    /// next file number is above those of the tables and all of these numbers, and so are the log
-    /// numbers: a manifest of it reads no log that is there.
+    /// next file number is above those of the tables and all of these numbers, and so is the log
+    /// number; there is no previous log. So a manifest of it reads none of these logs.
     ///
     /// # Errors
     /// `NumbersSpent` where one of the tables, or of these, has the number 2^64 - 1; `OutOfMemory`.
@@ -53,7 +53,7 @@ impl Copied {
             edit: Edit {
                 comparator: edit.comparator,
                 log: Some(next),
-                prev_log: Some(next),
+                prev_log: Some(0),
                 next: Some(next),
                 last: Some(shape.last),
                 pointers: edit.pointers,
