@@ -11,8 +11,8 @@
 mod bring_fault;
 
 // The tables are judged, the writes come in, and what is said of them.
-mod given;
 mod bringing;
+mod given;
 mod recovering;
 mod reply;
 
