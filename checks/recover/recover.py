@@ -1,5 +1,6 @@
 """Recovers folders of LevelDB, whole and damaged: recover.py LSM LEVELDB WORK SEED FLIPS KILLS [KIND..]"""
 
+import os
 import random
 import re
 import shutil
@@ -12,10 +13,12 @@ LSM, LEVELDB = sys.argv[1:3]
 WORK = Path(sys.argv[3])
 SEED, FLIPS, KILLS = map(int, sys.argv[4:7])
 LINE = re.compile(rb"logs (\d+) entries (\d+) rest (\d+)\n")
+REUSED = ["one_in_a_log", "batches", "bloom", "reopened_often", "two_logs", "tables_and_two_logs"]
 
 
-def run(*words, status=0):
-    done = subprocess.run([str(word) for word in words], capture_output=True, timeout=600)
+def run(*words, status=0, reuse=False):
+    environment = os.environ | ({"REUSE_LOGS": "1"} if reuse else {})
+    done = subprocess.run([str(word) for word in words], capture_output=True, timeout=600, env=environment)
     if status is not None and done.returncode != status:
         sys.exit(f"{words}: status {done.returncode}: {done.stderr.decode()}")
     return done
@@ -36,9 +39,9 @@ def files_of(folder):
     return {path.name: path.read_bytes() for path in folder.iterdir() if path.name not in ("LOCK", "LOG", "LOG.old")}
 
 
-def pairs_by_leveldb(folder):
+def pairs_by_leveldb(folder, reuse=False):
     """What LevelDB reads of a copy of the folder, or none where it refuses it."""
-    done = run(LEVELDB, "scan", copied(folder, "scanned"), status=None)
+    done = run(LEVELDB, "scan", copied(folder, "scanned"), status=None, reuse=reuse)
     return done.stdout if done.returncode == 0 else None
 
 
@@ -46,8 +49,11 @@ def pairs_of(folder):
     """What both read of a folder that `lsm check` takes, and in which no log is to be read."""
     run(LSM, "check", folder, "--strict")
     ours = run(LSM, "scan", folder, "--strict").stdout
-    if ours != pairs_by_leveldb(folder):
-        sys.exit(f"{folder}: LevelDB reads other pairs there than lsm scan")
+    for reuse in (False, True):
+        if ours != pairs_by_leveldb(folder, reuse):
+            sys.exit(f"{folder}: LevelDB reads other pairs there than lsm scan")
+        if b"Recovering log" in (WORK / "scanned" / "LOG").read_bytes():
+            sys.exit(f"{folder}: LevelDB recovers a log there")
     return ours
 
 
@@ -83,9 +89,10 @@ def beside_orphans(source, wanted, kind):
         sys.exit(f"{kind}: beside orphans it has other pairs, or they are gone")
 
 
-def whole(kind):
-    source = fresh(f"whole_{kind}")
-    run(LEVELDB, "make", source, kind)
+def whole(kind, reuse):
+    source = fresh(f"whole_{kind}{'_reused' if reuse else ''}")
+    run(LEVELDB, "make", source, kind, reuse=reuse)
+    kind += " by reuse_logs" if reuse else ""
     wanted = pairs_by_leveldb(source)
     folder = copied(source, "recovered")
     before = files_of(folder)
@@ -182,7 +189,7 @@ def killed(sources):
 
 def main():
     kinds = sys.argv[7:] or run(LEVELDB, "kinds").stdout.decode().split()
-    sources = [whole(kind) for kind in kinds]
+    sources = [whole(kind, reuse) for kind in kinds for reuse in (False, True) if not reuse or kind in REUSED]
     sources = [source for source in sources if any(path.stat().st_size > 0 for path in source[0].glob("*.log"))]
     refused, same, rest = damaged(sources)
     stopped = killed(sources)
