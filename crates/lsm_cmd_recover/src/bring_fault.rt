@@ -7,7 +7,7 @@ ghost use Rattle.lsm_cmd_recover.specs.declared.bring_fault.BringFault.TheVarian
 ghost use Rattle.lsm_cmd_recover.specs.declared.bring_fault.BringFault.TheVariants.{Tables};
 
 use lsm_batch::Write as KeyWrite;
-use lsm_directory::Exit;
+use lsm_directory::{DirectoryFault, Exit};
 use lsm_import::ImportFault;
 use lsm_log_files::SourceFault;
 use lsm_opening::WriterFault;
@@ -74,6 +74,9 @@ impl Exit for BringFault {
         match self {
             BringFault::Folder(fault) => fault.explain(err, &[]),
             BringFault::Read(fault) => fault.explain(err, &[]),
+            BringFault::Tables(CheckFault::Read(_, fault)) => {
+                DirectoryFault::Read(*fault).explain(err, &[])
+            }
             BringFault::OutOfMemory
             | BringFault::Bring(_)
             | BringFault::Tables(_)
