@@ -52,8 +52,9 @@ def pairs_of(folder):
     for reuse in (False, True):
         if ours != pairs_by_leveldb(folder, reuse):
             sys.exit(f"{folder}: LevelDB reads other pairs there than lsm scan")
-        if b"Recovering log" in (WORK / "scanned" / "LOG").read_bytes():
-            sys.exit(f"{folder}: LevelDB recovers a log there")
+        for number in re.findall(r"Recovering log #(\d+)", (WORK / "scanned" / "LOG").read_text()):
+            if (folder / f"{int(number):06}.log").stat().st_size > 0:
+                sys.exit(f"{folder}: LevelDB recovers log {number} there")
     return ours
 
 

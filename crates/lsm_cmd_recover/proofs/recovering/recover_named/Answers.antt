@@ -9,7 +9,7 @@ returns-in_err-entries-clause-refused g c =
     let p = err_from_is_err_and c.from_residual.result c.from_residual.ensures.1 in
     let r = c.in-Ok.read in
     rw (p.1, p.2) (record {
-      why = inr (inr (r.shape, r.logs, length r.numbers.items, r.rest, c.read_source.new.shelf, c.in-Ok.ensures.read, c.in_err-entries.ensures.refused));
-      puts = puts_then c.args.shelf.now c.read_source.new.shelf c.bring_in.new.shelf (reading_puts c.args.shelf.now c.read_source.new.shelf c.in-Ok.ensures.left) c.in_err-entries.ensures.none;
+      why = inr (inr (r.shape, r.logs, length r.numbers.items, r.rest, c.read_source.new.source, c.in-Ok.ensures.read, c.in_err-entries.ensures.refused));
+      puts = puts_then c.args.shelf.now c.read_source.new.source c.bring_in.new.shelf (reading_puts c.args.shelf.now c.read_source.new.source c.in-Ok.ensures.left) c.in_err-entries.ensures.none;
       reads = c.in-Ok.ensures.reads;
     })
