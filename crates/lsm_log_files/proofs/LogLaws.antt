@@ -1,7 +1,7 @@
 -- Which files are logs, and logs that are read one after another.
-use Rattle.std.proofs.Common.{◌≡◌, ◌⊎◌, ℕ, suc, ◌+◌, ◌<◌, ◌≤◌, List, [], ◌∷◌, ◌++◌, length, get_or, take, drop, map, Option, None, Some, refl, sym, ap, ◌∙◌, subst, inl, inr, append_assoc, arith}
-use Rattle.std.specs.Prelude.{◌↔◌, All, MatchOption, codes, reverse, string_bytes}
-use Rattle.std.specs.List.{flat_map, sum_by}
+use Rattle.std.proofs.Common.{◌≡◌, ℕ, suc, ◌+◌, ◌<◌, ◌≤◌, List, [], ◌∷◌, ◌++◌, length, get_or, take, drop, map, Option, None, Some, refl, sym, ap, ◌∙◌, subst, inl, inr, arith}
+use Rattle.std.specs.Prelude.{◌↔◌, MatchOption, codes, reverse, string_bytes}
+use Rattle.std.specs.List.{flat_map}
 use Rattle.std.specs.List.Sorted.{IsStrictlyIncreasing}
 use Rattle.std.specs.Str.Parse.{digits_value}
 use Rattle.std.proofs.lemmas.Grind.{flat_map-append}
@@ -15,7 +15,7 @@ use Rattle.lsm_manifest.proofs.CallerLemmas.{has_snoc, snoc_has}
 use Rattle.lsm_directory.specs.Logs.{IsFirstUnread, IsLogName, NoneUnread}
 use Rattle.lsm_directory.specs.declared.folder.folder_file.FolderFile.{FolderFile}
 use Rattle.lsm_wal.specs.declared.write_batch.WriteBatch.{WriteBatch}
-use Rattle.lsm_log_files.specs.Logs.{AddsNumber, AreLogs, AreNumbers, AreRead, AreUnread, IsLogAmong, IsLogOf, IsLogStop, IsSpelled, LogRead, ReadsNext, call_of}
+use Rattle.lsm_log_files.specs.Logs.{AddsNumber, AreLogs, AreNumbers, AreRead, AreUnread, IsLogOf, IsLogStop, IsSpelled, LogRead, ReadsNext, call_of}
 use Rattle.lsm_log_files.specs.declared.source_fault.SourceFault.{SourceFault}
 
 -- ---- which files are logs

@@ -1,5 +1,4 @@
-use Rattle.std.proofs.Common.{Err, Ok, ap, ◌∙◌, ◌∷◌}
-use Rattle.lsm_folder.specs.Calls.{Call, loaded}
+use Rattle.std.proofs.Common.{Err, Ok}
 use Rattle.lsm_log_files.proofs.ReadLaws.{reads_one}
 use Rattle.lsm_log_files.proofs.reading.load_log.Goals as goal
 

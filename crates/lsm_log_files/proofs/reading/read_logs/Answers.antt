@@ -1,4 +1,4 @@
-use Rattle.std.proofs.Common.{get_or, ◌∙◌}
+use Rattle.std.proofs.Common.{◌∙◌}
 use Rattle.std.proofs.lemmas.Result.{err_from_is_err_and}
 use Rattle.lsm_log_files.proofs.LogLaws.{read_more, stops_at}
 use Rattle.lsm_log_files.proofs.ReadLaws.{reads_then}
