@@ -1,5 +1,5 @@
 -- One run, from its steps.
-use Rattle.std.proofs.Common.{◌≡◌, ℕ, List, [], ◌∷◌, subst, sym, inl, inr, refl}
+use Rattle.std.proofs.Common.{◌≡◌, ℕ, List, [], ◌∷◌, subst, sym, inr, refl}
 use Rattle.lsm_folder.specs.Calls.{Call, opened}
 use Rattle.lsm_folder.specs.declared.folder_calls.FolderCalls.{Ghosts}
 use Rattle.lsm_shelf.specs.Place.{IsAtPath, Place}
