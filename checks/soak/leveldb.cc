@@ -44,6 +44,11 @@ static std::uint64_t key_at(const std::string& kind, std::uint64_t i) {
   if (kind == "ascending") return i;
   if (kind == "descending") return room - 1 - i;
   if (kind == "random") return mixed(i) % room;
+  if (kind == "ends" || kind == "behind") {  // 200,000 loaded pairs in the middle half
+    if (i < 200000) return 2500000000000000u + mixed(i) % 5000000000000000u;
+    if (kind == "ends" && i % 24 == 0) return 2499999999999999u - i;
+    return 7500000000000000u + i;
+  }
   if (kind == "overwriting") return mixed(i) % 10000;
   if (kind == "streams") return i % 100 * 100000000000u + i / 100;
   abort();

@@ -1,12 +1,13 @@
 """What a database costs that is written for long: soak.py LSM LEVELDB FOLDER SECONDS.
 
 Writers of each kind bring their keys in by `lsm shell --workers 1`, round after round, each kind into
-a folder of its own, with single puts and with batches; and a slow one single puts at random over 25 MB
-that were there before, each after the worker has come to rest. After each eighth of a round the folder
-is looked at, and once more after the round, when the worker has come to rest; the shell is asked how
-many tables and bytes the levels have. LevelDB has the same writes, stays open too, and its folder is
-looked at after the same ones. At the end each database is closed and opened twice. A line is printed
-for each round, and at the first figure that is out of its bounds the status is 1.
+a folder of its own, with single puts and with batches; and slow ones single puts over 25 MB that were
+there before, each after the worker has come to rest: at random, at both ends of them, and behind them.
+After each eighth of a round the folder is looked at, and once more after the round, when the worker has
+come to rest; the shell is asked how many tables and bytes the levels have. LevelDB has the same writes,
+stays open too, and its folder is looked at after the same ones. At the end each database is closed and
+opened twice. A line is printed for each round, and at the first figure that is out of its bounds the
+status is 1.
 """
 
 import os
@@ -20,19 +21,23 @@ ROOM = 10**16
 TARGET = 2097152
 SIZE = 100
 KINDS = ("ascending", "descending", "random", "overwriting", "streams")
+SLOW_KINDS = ("random", "ends", "behind")
 BATCHES = (1, 10, 1000)
 # How many puts a round has; a slow one's, how many puts it comes behind, and how long it pauses.
 ROUND = {1: 2000, 10: 10000, 1000: 50000}
 SLOW, LOADED, PAUSE = 500, 200000, 0.03
 # Bytes written for a byte that came in, at most. LevelDB itself, at a million puts, writes 2.2 (single
-# ones), 2.0 and 2.0 where they are in order, 4.6, 4.3 and 3.5 at random. The aim is four times as many;
-# single puts may cost more, since each is a table first, and is gathered at level 0.
+# ones), 2.0 and 2.0 where they are in order, 4.6 to 6.6, 4.3 and 3.5 at random. The aim is four times as
+# many; single puts may cost more, since each is a table first, and is gathered at level 0. Behind loaded
+# keys the first files that go down have one compaction.
 MOST = {
     "ascending": {1: 10, 10: 8, 1000: 8},
-    "descending": {1: 10, 10: 8, 1000: 8},
+    "descending": {1: 16, 10: 8, 1000: 8},
     "random": {1: 24, 10: 17, 1000: 14},
     "overwriting": {1: 24, 10: 17, 1000: 14},
     "streams": {1: 24, 10: 17, 1000: 14},
+    "ends": {1: 24},
+    "behind": {1: 48},
 }
 
 # Bytes on the disk for one of LevelDB's, while no program calls anything that removes: at rest behind
@@ -59,7 +64,19 @@ def key_at(kind, i):
         return mixed(i) % ROOM
     if kind == "overwriting":
         return mixed(i) % 10000
+    if kind in ("ends", "behind"):
+        return key_around(kind, i)
     return i % 100 * 10**11 + i // 100
+
+
+def key_around(kind, i):
+    """The loaded keys lie at random in the middle half; the others at both its ends, one in 24 at the
+    lower one, or at its upper end alone."""
+    if i < LOADED:
+        return ROOM // 4 + mixed(i) % (ROOM // 2)
+    if kind == "ends" and i % 24 == 0:
+        return ROOM // 4 - 1 - i
+    return 3 * (ROOM // 4) + i
 
 
 def pair_at(kind, i):
@@ -302,7 +319,7 @@ def main():
     lsm, leveldb, folder, seconds = sys.argv[1:]
     end = time.monotonic() + float(seconds)
     writers = [Writer(lsm, leveldb, folder, kind, batch) for kind in KINDS for batch in BATCHES]
-    writers.append(Writer(lsm, leveldb, folder, "random", 1, "-slow").slow())
+    writers += [Writer(lsm, leveldb, folder, kind, 1, "-slow").slow() for kind in SLOW_KINDS]
     bad = []
     rounds = 0
     worst_of = [0.0] * 6

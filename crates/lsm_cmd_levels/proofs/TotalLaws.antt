@@ -2,11 +2,11 @@
 use Rattle.std.proofs.Common.{◌≡◌, ◌⊎◌, ℕ, ◌+◌, ◌<◌, ◌≤◌, Bool, List, [], ◌∷◌, ◌++◌, Option, Some, None, length, get_or, take, min, cond, refl, sym, ap, ◌∙◌, subst, inl, inr, arith}
 use Rattle.std.specs.Prelude.{string_bytes}
 use Rattle.std.specs.List.{count_by, sum_by}
-use Rattle.std.proofs.Math.Nat.{min-le_left, min-le_right, eq-or-lt_of_le}
+use Rattle.std.proofs.Math.Nat.{min-le_left, min-le_right}
 use Rattle.std.proofs.lemmas.List.{take_more, take_all}
 use Rattle.std.proofs.lemmas.List.Sums.{sum_by-append}
 use Rattle.lsm_codec.specs.Lists.{Has}
-use Rattle.lsm_codec.proofs.CallerLemmas.{contains_says, has_cases, has_left, has_right}
+use Rattle.lsm_codec.proofs.CallerLemmas.{has_cases, has_left, has_right}
 use Rattle.lsm_manifest.specs.declared.file_meta.FileMeta.{FileMeta}
 use Rattle.lsm_directory.specs.declared.folder.file_kind.FileKind.{FileKind}
 use Rattle.lsm_directory.specs.declared.folder.folder_file.FolderFile.{FolderFile}

@@ -2,7 +2,7 @@
 -- all levels, by their user keys; each end takes as much room as its file has bytes. So in a level
 -- whose files do not meet they are side by side, a file is never narrower than by its own bytes,
 -- and two files have an end in common room just where their ranges meet.
-use Rattle.std.specs.Prelude.{ℕ, ◌+◌, ◌*◌, ◌/◌, max, List, cond, not}
+use Rattle.std.specs.Prelude.{ℕ, ◌+◌, ◌*◌, ◌/◌, max, cond, not}
 use Rattle.std.specs.List.{sum_by}
 use Rattle.lsm_codec.specs.Keys.{UserKey, user_le, user_part}
 use Rattle.lsm_manifest.specs.declared.file_meta.FileMeta.{FileMeta}

@@ -3,7 +3,7 @@
 -- another level in one row. A bar goes along the axis of keys from the file's least to its greatest
 -- user key, and its title tells the file. Lengths are in hundredths of a point.
 use Rattle.std.specs.Prelude.{ℕ, zero, suc, ◌+◌, ◌-◌, ◌*◌, ◌/◌, ◌%◌, ◌==◌, max, Bool, List, [], ◌∷◌}
-use Rattle.std.specs.Prelude.{◌++◌, length, codes, decimal, Option, cond}
+use Rattle.std.specs.Prelude.{◌++◌, length, codes, Option, cond}
 use Rattle.std.specs.List.{flat_map}
 use Rattle.lsm_codec.specs.Keys.{user_part}
 use Rattle.lsm_manifest.specs.declared.file_meta.FileMeta.{FileMeta}

@@ -1,7 +1,7 @@
 -- Which compaction is due next, by a shape alone: this project's order of candidates, where no job
 -- is live. `lsm_picker` decides it over tables that were judged.
 use Rattle.std.specs.Prelude.{◌≡◌, ◌⊎◌, ℕ, suc, ◌<◌, ◌≤◌, Bool, true, false, ◌&&◌, ◌||◌, ◌==◌, List}
-use Rattle.std.specs.Prelude.{[], ◌∷◌, ◌++◌, Option, Some, None, get_or, cond}
+use Rattle.std.specs.Prelude.{◌∷◌, ◌++◌, Option, Some, None, get_or}
 use Rattle.std.specs.Ordering.{is_gt, nat_cmp, ordering_then}
 use Rattle.std.specs.Cmp.Lexicographic.{slice_cmp}
 use Rattle.std.specs.declared.cmp.Ordering.{Ordering}

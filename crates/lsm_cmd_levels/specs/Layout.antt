@@ -1,7 +1,7 @@
 -- What a run of `levels` comes to, for the words of its command line: this project's rule. It is
 -- about a folder that was opened at the path of these words, and about a shelf on its place; that
 -- such a shelf is the run's own is to be read.
-use Rattle.std.specs.Prelude.{◌≡◌, ◌⊎◌, ℕ, Bool, IsTrue, List, Option, ⊤}
+use Rattle.std.specs.Prelude.{◌≡◌, ◌⊎◌, ℕ, Bool, IsTrue, List, Option}
 use Rattle.std.specs.Io.KnownBytes.{Appends, Keeps}
 use Rattle.lsm_folder.specs.declared.folder_calls.FolderCalls.{Ghosts}
 use Rattle.lsm_manifest.specs.declared.shape.Shape.{Shape}
@@ -9,9 +9,11 @@ use Rattle.lsm_shelf.specs.Asked.{Asked}
 use Rattle.lsm_shelf.specs.Refusals.{MayRefuse}
 use Rattle.lsm_shelf.specs.Told.{Told, Becomes, finding}
 use Rattle.lsm_shelf.specs.declared.shelf_fault.ShelfFault.{ShelfFault}
+use Rattle.lsm_shelf.specs.declared.shelf_fault.ShelfFault.TheVariants as shelf_faults
 use Rattle.lsm_storage.specs.declared.file.file_shelf.FileShelf.{FileShelf}
 use Rattle.lsm_journal.specs.HeldManifest.{HeldManifest}
 use Rattle.lsm_journal.specs.Recovering.{IsRecovered, IsRecoverRefusal}
+use Rattle.lsm_journal.specs.declared.recover_fault.RecoverFault.TheVariants as recover_faults
 use Rattle.lsm_text.specs.Printing.{Begins}
 use Rattle.lsm_text.specs.declared.form.Form.{Form}
 use Rattle.lsm_directory.specs.Folders.{IsShelfAt, told_by}
@@ -117,6 +119,11 @@ IsLayoutFault Refused form output strict files fault was is old new =
     ⊎ ((s : Shape) × (rest : ℕ) × Names was is s rest
     × ((IsTrue strict × IsLeftOut rest s.log s.prev_log files fault × Keeps old new)
     ⊎ IsUnshown form output s rest files fault old new))
+
+-- The manifest that the directory names was not there: it is lost, or another program began a new
+-- one after `CURRENT` was read, and removed that one.
+abbrev pub IsGone : DirectoryFault → Type 0
+IsGone fault = fault ≡ why.Manifest (recover_faults.Shelf shelf_faults.Missing)
 
 -- Between these moments the shelf was asked for its manifest at most.
 abbrev pub ReadsManifest : Told → Told → Type 0

@@ -1,18 +1,21 @@
 //! One run of the command.
 
-ghost use Rattle.std.specs.Prelude.{◌≡◌, ◌≢◌, IfErr, IfOk, OnOk};
+ghost use Rattle.std.specs.Prelude.{◌≡◌, ◌≢◌, ◌↔◌, Err, IfErr, IfOk, IsTrue, OnOk};
+ghost use Rattle.std.specs.Io.KnownBytes.{Keeps};
 ghost use Rattle.lsm_directory.specs.Folders.{IsShelfAt};
 ghost use Rattle.lsm_directory.specs.Holding.{IsFolderFault};
 ghost use Rattle.lsm_directory.specs.declared.faults.directory_fault.DirectoryFault.{DirectoryFault};
-ghost use Rattle.lsm_cmd_levels.specs.Layout.{FailsToLayOut, LaysOutAt};
+ghost use Rattle.lsm_cmd_levels.specs.Layout.{FailsToLayOut, IsGone, LaysOutAt};
 ghost use Rattle.lsm_cmd_levels.specs.Listing.{TellsFiles};
 
 use crate::listing::folder_files;
 use crate::showing::lay_out;
 use lsm_directory::{DirectoryFault, FolderFile, Known, Paths, open_at, refuse, status_of};
 use lsm_folder::{FolderCalls, Reasons};
+use lsm_journal::RecoverFault;
 use lsm_requests::LevelsLine;
 use lsm_storage::FileShelf;
+use lsm_table::ShelfFault;
 use std::io::Write;
 use std::sync::Wait;
 
@@ -37,8 +40,9 @@ fn open_shelf<C: FolderCalls, P: Paths<C>, R: Wait>(
     Ok((FileShelf::over(folder), files))
 }
 
-/// Shows the levels of the folder at a path.
-fn levels_at<C: FolderCalls + Send + Sync, P: Paths<C>, R: Wait, O: Write, E: Write>(
+/// Looks once at the folder at a path, and shows its levels.
+#[tactic(auto, using(crate::proofs::ShowLaws::all_kept))]
+fn look_at<C: FolderCalls + Send + Sync, P: Paths<C>, R: Wait, O: Write, E: Write>(
     rt: &R,
     paths: &P,
     line: &LevelsLine<'_>,
@@ -52,6 +56,8 @@ where
         (O.contents out.new) (E.contents err.old) (E.contents err.new)) }
     ensures refused { IfErr result (λ e. FailsToLayOut C.FolderCalls line.now e
         (O.contents out.old) (O.contents out.new)) }
+    ensures gone { IfErr result (λ e. IsGone e → Keeps (O.contents out.old) (O.contents out.new)
+        × Keeps (E.contents err.old) (E.contents err.new)) }
 {
     let (shelf, files) = open_shelf(rt, paths, line.path, reasons)?;
     let alloc = paths.alloc();
@@ -69,13 +75,48 @@ where
     done
 }
 
+/// Whether the manifest that `CURRENT` names was not there.
+fn is_gone(done: &Result<(), DirectoryFault>) -> bool
+    ensures { IsTrue result ↔ ((e : DirectoryFault) × (done.now ≡ Err e) × IsGone e) }
+{
+    match done {
+        Err(DirectoryFault::Manifest(RecoverFault::Shelf(ShelfFault::Missing))) => true,
+        _ => false,
+    }
+}
+
+/// Shows the levels of the folder at a path. Another program may begin a new manifest after
+/// `CURRENT` was read, and remove that one: where it is gone, the folder is looked at once more.
+fn levels_at<C: FolderCalls + Send + Sync, P: Paths<C>, R: Wait, O: Write, E: Write>(
+    rt: &R,
+    paths: &P,
+    line: &LevelsLine<'_>,
+    reasons: &Reasons,
+    out: &mut O,
+    err: &mut E,
+) -> Result<(), DirectoryFault>
+where
+    C::Mark: Send + Sync,
+    ensures done { OnOk result (LaysOutAt C.FolderCalls line.now (O.contents out.old)
+        (O.contents out.new) (E.contents err.old) (E.contents err.new)) }
+    ensures refused { IfErr result (λ e. FailsToLayOut C.FolderCalls line.now e
+        (O.contents out.old) (O.contents out.new)) }
+{
+    let done = look_at(rt, paths, line, reasons, out, err);
+    if !is_gone(&done) {
+        return done;
+    }
+    reasons.forget();
+    look_at(rt, paths, line, reasons, out, err)
+}
+
 /// Shows the levels of the folder at a path by its manifest, and the sums of that and of the
-/// folder's names and sizes, and answers the exit status: 0
-/// where that is done, and 1 where it is refused. Each log that is not read is noted on `err`, and
-/// bytes at the manifest's end that are no whole record; with `--strict` it is refused by either. A
-/// fault is one line on `err`; what it
-/// means, and where it is `9 Device` or `10 Missing` what the system answered, stand behind it.
-/// Nothing is written in the folder, and no lock is asked for.
+/// folder's names and sizes, and answers the exit status: 0 where that is done, and 1 where it is
+/// refused. Each log that is not read is noted on `err`, and bytes at the manifest's end that are no
+/// whole record; with `--strict` it is refused by either. Where the manifest that `CURRENT` names is
+/// gone, all of this is done once more. A fault is one line on `err`; what it means, and where it is
+/// `9 Device` or `10 Missing` what the system answered, stand behind it. Nothing is written in the
+/// folder, and no lock is asked for.
 ///
 /// The refusals of `Journal::recover`; `Shelf` of `Device` where it is no folder that can be
 /// opened, its files can't be listed, or the size of a log is refused.

@@ -4,8 +4,8 @@ ghost use Rattle.std.specs.Prelude.{◌≡◌, ◌⊎◌, IfErr, IfOk, IsTrue, O
 ghost use Rattle.std.specs.Io.KnownBytes.{Keeps};
 ghost use Rattle.lsm_directory.specs.Logs.{NoneUnread};
 ghost use Rattle.lsm_directory.specs.Rest.{IsLeftOut, LeavesNothingOut};
-ghost use Rattle.lsm_cmd_levels.specs.Layout.{IsLaidOut, IsLayoutFault, IsNotNamed, IsShown, IsUnshown};
-ghost use Rattle.lsm_cmd_levels.specs.Layout.{Names, ReadsManifest, Shows, text_of};
+ghost use Rattle.lsm_cmd_levels.specs.Layout.{IsGone, IsLaidOut, IsLayoutFault, IsNotNamed};
+ghost use Rattle.lsm_cmd_levels.specs.Layout.{IsShown, IsUnshown, Names, ReadsManifest, Shows, text_of};
 
 use crate::drawing::{Sheet, picture_text};
 use crate::due::{Due, due_next};
@@ -207,7 +207,7 @@ fn show_noted<O: Write, E: Write>(
 /// Reads the manifest that the directory of a shelf names, and writes what is shown of it on
 /// `out`, with the sums of these files; notes on `err` what is not read, or where it is strict is
 /// refused by that. The shelf is given back.
-#[tactic(auto, using(crate::proofs::ShowLaws::laid_out, crate::proofs::ShowLaws::not_shown, crate::proofs::ShowLaws::not_named, crate::proofs::ShowLaws::named_reads, crate::proofs::ShowLaws::fault_reads))]
+#[tactic(auto, using(crate::proofs::ShowLaws::laid_out, crate::proofs::ShowLaws::not_shown, crate::proofs::ShowLaws::not_named, crate::proofs::ShowLaws::named_reads, crate::proofs::ShowLaws::fault_reads, crate::proofs::ShowLaws::not_gone, crate::proofs::ShowLaws::all_kept))]
 pub fn lay_out<S: Shelf, R: Wait, O: Write, E: Write>(
     rt: &R,
     alloc: Global,
@@ -226,6 +226,8 @@ pub fn lay_out<S: Shelf, R: Wait, O: Write, E: Write>(
         strict files.now e (S.told shelf) (S.told result.1) (O.contents out.old)
         (O.contents out.new)) }
     ensures reads { ReadsManifest (S.told shelf) (S.told result.1) }
+    ensures gone { IfErr result.0 (λ e. IsGone e → Keeps (O.contents out.old) (O.contents out.new)
+        × Keeps (E.contents err.old) (E.contents err.new)) }
 {
     let (read, shelf) = read_as::<Brand, S, R>(rt, alloc, shelf);
     match read {

@@ -69,11 +69,13 @@ HasNoneToGather v rs target_size = HasEight target_size rs (level_in v.tables 0)
 abbrev pub is_large : ℕ → List Reserved → Table → Bool
 is_large target_size rs t = not (is_small target_size t) && not (is_taken rs t)
 
--- Level 0 has four files that are not small, or eleven files, the inputs of live jobs not counted.
+-- Level 0 has four files that are not small; or eleven files, of which no eight may be gathered. The
+-- inputs of live jobs are not counted.
 abbrev pub IsReady : Levels → List Reserved → ℕ → Type 0
 IsReady v rs target_size =
     (4 ≤ length (filter (is_large target_size rs) (level_in v.tables 0)))
-    ⊎ (11 ≤ length (free_tables rs (level_in v.tables 0)))
+    ⊎ ((11 ≤ length (free_tables rs (level_in v.tables 0)))
+    × (HasEight target_size rs (level_in v.tables 0) → ⊥))
 
 -- ---- how the code looks for the oldest
 

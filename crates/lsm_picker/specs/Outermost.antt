@@ -27,12 +27,12 @@ abbrev pub MayGoFirst : List Table → Table → Type 0
 MayGoFirst ts t = (u : Table) → Has ts u → MayGoBefore t u
 
 -- the last file of a sorted level where keys rise, the first one where they fall
-pub foremost : (rising : Bool) → List Table → Option Table
+abbrev pub foremost : (rising : Bool) → List Table → Option Table
 foremost true ts = slice_get ts (length ts - 1)
 foremost false ts = slice_get ts 0
 
 -- t lies beyond u, in the direction in which keys go
-pub is_beyond : (rising : Bool) → Table → Table → Bool
+abbrev pub is_beyond : (rising : Bool) → Table → Table → Bool
 is_beyond true t u = is_before u t
 is_beyond false t u = is_before t u
 

@@ -250,7 +250,9 @@ pub fn to_gather<N: Naming, S: Shelf>(
 }
 
 /// Whether level 0 itself may be compacted: it has four files at least that are not small, as
-/// `to_gather` has it, or eleven files at least, the inputs of live jobs not counted.
+/// `to_gather` has it, or eleven files at least and nothing to gather, the inputs of live jobs not
+/// counted. (Batches that come in while a worker asks for nothing to gather, and then for this, may
+/// fill level 0 with small files in between.)
 pub fn level_zero_is_ready<N: Naming, S: Shelf>(
     registry: &Registry<N, S>,
     version: &Version<N, S>,
@@ -261,6 +263,7 @@ pub fn level_zero_is_ready<N: Naming, S: Shelf>(
     ensures { IsTrue result ↔ IsReady version.now live.now target_size }
 {
     let tables = version.level(0);
-    free_count(registry, tables, live) >= 11
-        || large_count(registry, tables, live, target_size) >= 4
+    large_count(registry, tables, live, target_size) >= 4
+        || (free_count(registry, tables, live) >= 11
+            && !has_eight(registry, tables, live, target_size))
 }
