@@ -18,6 +18,7 @@ abbrev pub line_text : WriteLineFault → ℕ → Option (List ℕ)
 line_text (lines.BadLine place) line = Some (codes "bad line " ++ decimal line)
 line_text lines.LongLine line = Some (codes "bad line " ++ decimal line)
 line_text lines.LargeWrite line = Some (codes "bad line " ++ decimal line)
+line_text lines.NoNewline line = Some (codes "bad line " ++ decimal line)
 line_text lines.Read line = writer.fault_text writer_faults.Read
 line_text lines.OutOfMemory line = writer.fault_text writer_faults.OutOfMemory
 

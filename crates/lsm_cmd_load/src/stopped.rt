@@ -56,9 +56,10 @@ impl fmt::Display for BadLine {
     fn fmt<W: fmt::Write>(&self, f: &mut fmt::Formatter<W>) -> fmt::Result {
         let BadLine(fault, line) = self;
         match fault {
-            WriteLineFault::BadLine(_) | WriteLineFault::LongLine | WriteLineFault::LargeWrite => {
-                write!(f, "bad line {line}")
-            }
+            WriteLineFault::BadLine(_)
+            | WriteLineFault::LongLine
+            | WriteLineFault::LargeWrite
+            | WriteLineFault::NoNewline => write!(f, "bad line {line}"),
             WriteLineFault::Read => write!(f, "{}", WriterFault::Read),
             WriteLineFault::OutOfMemory => write!(f, "{}", WriterFault::OutOfMemory),
         }
@@ -126,7 +127,9 @@ fn fault_of_line(fault: WriteLineFault, line: u128) -> WriterFault {
     let line = usize::try_from(line).unwrap_or(usize::MAX);
     match fault {
         WriteLineFault::BadLine(place) => WriterFault::BadLine(line, place),
-        WriteLineFault::LongLine | WriteLineFault::LargeWrite => WriterFault::BadLine(line, None),
+        WriteLineFault::LongLine | WriteLineFault::LargeWrite | WriteLineFault::NoNewline => {
+            WriterFault::BadLine(line, None)
+        }
         WriteLineFault::Read => WriterFault::Read,
         WriteLineFault::OutOfMemory => WriterFault::OutOfMemory,
     }
@@ -151,6 +154,10 @@ fn explain_line<E: Write>(err: &mut E, fault: WriteLineFault, line: u128) -> io:
         WriteLineFault::LargeWrite => writeln!(
             err,
             "line {line}: its key has more than 4096 bytes, or its value more than 1048576"
+        ),
+        WriteLineFault::NoNewline => writeln!(
+            err,
+            "line {line} has no newline, so that it may be cut; --last-line takes it"
         ),
         WriteLineFault::Read => writeln!(err, "the input could not be read any further"),
         fault => fault_of_line(fault, line).explain(err, &[]),
