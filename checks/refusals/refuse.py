@@ -44,6 +44,7 @@ class Making:
         self.out = subprocess.PIPE
         self.held = []
         self.names = {}
+        self.stays = False
 
     def do(self, name, *words):
         """A step, and what the words TABLE and MANIFEST stand for behind it."""
@@ -184,6 +185,10 @@ class Making:
         """No file may grow by more than 10 bytes beyond what the manifest has."""
         self.file_limit(os.path.getsize(self.path(self.names["MANIFEST"])) + 10)
 
+    def table_stays(self):
+        """The new table stays: after a failed write nobody knows whether the manifest names it."""
+        self.stays = True
+
     def file_limit_and_signal(self, most):
         self.limits.append((resource.RLIMIT_FSIZE, int(most), False))
 
@@ -268,7 +273,7 @@ class Row:
             status, out, err = run(self.words, said, making.out, making.limits)
         for file in making.held:
             file.close()
-        self.status = status
+        self.status, self.stays = status, making.stays
         if self.is_reply():
             if self.words[0] == "shell" and not err.startswith("failed line\n"):
                 yield f"the shell ends with {err!r}"
@@ -282,6 +287,8 @@ class Row:
         if self.is_reply():
             refused = [at for at, line in enumerate(lines) if re.match(r"refused|bad line", line)]
             lines = lines[refused[-1] :] if refused else []
+            if lines and lines[0].startswith("refused"):
+                lines = lines[0].split(": ", 1) + lines[1:]
         if status != 1:
             yield f"the status is {self.status}"
         if out:
@@ -294,8 +301,13 @@ class Row:
                 yield f"there is a second line: {second}"
         elif not re.search(self.second, second):
             yield f"the lines behind it are {second!r}, and not {self.second}"
-        if self.kept(listing()) != self.kept(before):
+        if self.kept(self.without(listing(), before)) != self.kept(before):
             yield f"the folder was {before}, and is {listing()}"
+
+    def without(self, found, before):
+        """The files, without the new table that may stay."""
+        new = [name for name in found if name not in before and name.endswith(".ldb")]
+        return {name: size for name, size in found.items() if not (self.stays and new == [name])}
 
     def kept(self, found):
         """The files that a refusal leaves as they were: all, but that a run which writes may have
