@@ -1,6 +1,7 @@
 //! How far a command is, in one line of a terminal.
 
-ghost use Rattle.std.specs.Prelude.{◌≡◌};
+ghost use Rattle.std.specs.Prelude.{◌≡◌, IsFalse, None};
+ghost use Rattle.std.specs.Io.KnownBytes.{Keeps};
 
 use std::alloc::{AllocError, Global};
 use std::io::{self, IsTerminal, Write};
@@ -211,33 +212,79 @@ impl<E: Write + Drop> Write for OneLine<E> {
 }
 
 /// An output that may be the terminal whose line says how far a command is: before each write the
-/// line is cleared there, if it is. Contracts see what the output holds: just what is written.
+/// line is cleared there, if it is. It keeps why the last call failed, if it did. Contracts see what
+/// the output holds: just what is written.
 #[derive(Drop)]
 pub struct BesideLine<O: Write + Drop, E: Write + Drop> {
     out: O,
     terminal: Option<E>,
+    fault: Option<io::Error>,
 }
 
 impl<O: Write + Drop, E: Write + Drop> BesideLine<O, E> {
     /// An output, and the terminal if it is one.
     pub fn new(out: O, terminal: Option<E>) -> BesideLine<O, E>
-        ensures { result.out ≡ out }
+        ensures out { result.out ≡ out }
+        ensures fault { result.fault ≡ None }
     {
-        BesideLine { out, terminal }
+        BesideLine {
+            out,
+            terminal,
+            fault: None,
+        }
+    }
+
+    /// Why the last call failed; none where it was done.
+    pub fn fault(&self) -> Option<io::Error>
+        ensures { result ≡ self.now.fault }
+    {
+        self.fault
+    }
+}
+
+/// Writes why the output of a command could not be written, where the command was refused and that
+/// is known: `standard output: REASON`.
+pub fn tell_unwritten<E: Write>(
+    is_refused: bool,
+    fault: Option<io::Error>,
+    err: &mut E,
+) -> io::Result<()>
+    ensures done { IsFalse is_refused → Keeps (E.contents err.old) (E.contents err.new) }
+    ensures none { fault ≡ None → Keeps (E.contents err.old) (E.contents err.new) }
+{
+    match fault {
+        Some(error) if is_refused => writeln!(err, "standard output: {error}"),
+        _ => Ok(()),
     }
 }
 
 impl<O: Write + Drop, E: Write + Drop> Write for BesideLine<O, E> {
+    ghost use Rattle.std.specs.Result.{result_err};
+    ghost use Rattle.std.specs.Io.{WritesAtMost};
+    ghost use Rattle.std.specs.Io.KnownBytes.{WriteAppends};
+
     ghost contents = { λ b. O.contents b.out };
 
-    fn write(&mut self, buf: &[u8]) -> io::Result<usize> {
+    fn write(&mut self, buf: &[u8]) -> io::Result<usize>
+        ensures bound { WritesAtMost result buf.now }
+        ensures bytes { WriteAppends (O.contents self.old.out) (O.contents self.new.out)
+            result buf.now }
+        ensures fault { self.new.fault ≡ result_err result }
+    {
         if let Some(terminal) = &mut self.terminal {
             let _ = terminal.write_all(CLEAR);
         }
-        self.out.write(buf)
+        let done = self.out.write(buf);
+        self.fault = done.err();
+        done
     }
 
-    fn flush(&mut self) -> io::Result<()> {
-        self.out.flush()
+    fn flush(&mut self) -> io::Result<()>
+        ensures bytes { Keeps (O.contents self.old.out) (O.contents self.new.out) }
+        ensures fault { self.new.fault ≡ result_err result }
+    {
+        let done = self.out.flush();
+        self.fault = done.err();
+        done
     }
 }

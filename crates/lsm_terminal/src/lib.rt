@@ -11,6 +11,6 @@ mod far;
 mod prompt;
 mod streams;
 
-pub use far::{BesideLine, OneLine, asking, shows_how_far};
+pub use far::{BesideLine, OneLine, asking, shows_how_far, tell_unwritten};
 pub use prompt::{Prompted, at_terminal};
 pub use streams::hold_streams;

@@ -8,7 +8,7 @@ use lsm_commands::{refuse_words, run};
 use lsm_directory::SystemPaths;
 use lsm_folder::Mute;
 use lsm_terminal::{
-    BesideLine, OneLine, Prompted, asking, at_terminal, hold_streams, shows_how_far,
+    BesideLine, OneLine, Prompted, asking, at_terminal, hold_streams, shows_how_far, tell_unwritten,
 };
 use std::env::{self, Env};
 use std::io::{self, BufWriter, IsTerminal};
@@ -27,7 +27,8 @@ fn is_shell(words: &[String]) -> bool {
 
 /// Does what the words of the command line ask, and answers the exit status. A shell between
 /// terminals writes a prompt on standard error before each read of standard input; a command that
-/// may take long shows at a terminal how far it is.
+/// may take long shows at a terminal how far it is. Where standard output could not be written, a
+/// line says why.
 fn start<R: Threads + Wait + Clock + Sync>(rt: &R, host: HostRuntime) -> io::Result<u8> {
     let words: Vec<String> = env::args(&host)?.collect(host.alloc())?;
     let words = words.as_slice().get(1..).unwrap_or(&[]);
@@ -49,6 +50,7 @@ fn start<R: Threads + Wait + Clock + Sync>(rt: &R, host: HostRuntime) -> io::Res
     let words = asking(host.alloc(), words, shows)?;
     let paths = SystemPaths::<Mute>::new(host);
     let status = run(rt, &paths, words.as_slice(), input, &mut out, &mut err);
+    let _ = tell_unwritten(status == 1, out.get_ref().fault(), &mut err);
     let _ = err.end(status == 0);
     Ok(status)
 }
