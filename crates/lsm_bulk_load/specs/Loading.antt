@@ -109,9 +109,8 @@ abbrev pub KeepsNextOut : (Asked → ShelfFault → Type 0) → (Held → Type 0
     → (found now : Marked) → Progress → StateFault → Type 0
 KeepsNextOut Refused keeps old found now p fault =
     (left : Option (List ℕ)) × (held : List Write) × Loads old left held found now p
-    × IsNotTaken Refused keeps (record { form = old.form; last = old.last; held = held; left = left })
-    now now
-    (Ingest fault)
+    × IsNotTaken Refused keeps
+    (record { form = old.form; last = old.last; held = held; left = left }) now now (Ingest fault)
 
 -- Which lines are in a store, up to this mark, and why not all are.
 abbrev pub IsStopped : (Asked → ShelfFault → Type 0) → (Held → Type 0) → Pending

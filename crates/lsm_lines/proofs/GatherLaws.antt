@@ -1,15 +1,14 @@
 -- Lines that are taken, and their writes.
-use Rattle.std.proofs.Common.{◌≡◌, ℕ, ◌<◌, ◌≤◌, Bool, List, [], ◌∷◌, ◌++◌, length, Option, Some, None, refl, sym, ap, ◌∙◌, subst, append_assoc, append-nil, inl, inr}
-use Rattle.std.specs.Io.KnownBytes.{IsAtEnd}
+use Rattle.std.proofs.Common.{◌≡◌, ℕ, Bool, List, [], ◌∷◌, ◌++◌, Option, Some, None, refl, sym, ap, ◌∙◌, subst, append_assoc, append-nil, inl, inr}
 use Rattle.lsm_text.specs.EntryList.{lines_of}
 use Rattle.lsm_text.specs.BatchText.{AreWriteLines, IsWriteLine}
 use Rattle.lsm_text.specs.declared.form.Form.{Form}
-use Rattle.lsm_batch.specs.Batches.{IsLarge, IsTooLarge}
+use Rattle.lsm_batch.specs.Batches.{IsTooLarge}
 use Rattle.lsm_batch.specs.declared.write.Write.{Write}
 use Rattle.lsm_lines.specs.Reading.{BeginsWith, IsNextHeld, IsWhole, Lined, TakesLine, TakesWhole}
 use Rattle.lsm_lines.specs.declared.line_reader.HeldLine.TheVariants as held
-use Rattle.lsm_lines.specs.Gathering.{AreEnded, Gathers, Pending, Reads, Stops, StopsBy, TakesLines}
-use Rattle.lsm_lines.specs.Filling.{Fills, IsFilled, IsNoWrite}
+use Rattle.lsm_lines.specs.Gathering.{AreEnded, Pending, Reads, Stops, StopsBy, TakesLines}
+use Rattle.lsm_lines.specs.Filling.{Fills, IsNoWrite}
 use Rattle.lsm_lines.specs.declared.write_line_fault.WriteLineFault.{WriteLineFault}
 use Rattle.lsm_lines.specs.declared.write_line_fault.WriteLineFault.TheVariants.{BadLine, LongLine, LargeWrite, NoNewline, Read, OutOfMemory}
 

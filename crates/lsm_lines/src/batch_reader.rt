@@ -18,8 +18,8 @@ use std::io::Read;
 use std::marker::Model;
 
 /// An input whose lines spell writes in one form, `KEY=VALUE` or `KEY!`, and which is read as
-/// batches. Its last line has a newline too, or may lack it. Contracts see the write that was read and is in no batch yet, if there is one, and what
-/// is left of the input.
+/// batches. Its last line has a newline too, or may lack it. Contracts see the write that was read
+/// and is in no batch yet, if there is one, and what is left of the input.
 #[derive(Drop)]
 pub struct BatchReader<I: Read + Drop> {
     lines: LineReader<I>,
@@ -110,9 +110,9 @@ impl<I: Read + Drop> BatchReader<I> {
     }
 
     /// The batch of the next lines: as many as a batch may have, or all up to a line that is no
-    /// write of a batch, or to the end. Of a line that is too long no more is read than shows it, and
-    /// nothing may be read behind it. It may have no entry. `AllocError` where there is no memory
-    /// for the batch; then its lines are lost.
+    /// write of a batch, or to the end. Of a line that is too long no more is read than shows it,
+    /// and nothing may be read behind it. It may have no entry. `AllocError` where there is no
+    /// memory for the batch; then its lines are lost.
     pub fn next(&mut self, alloc: Global) -> Result<Gathered, AllocError>
         ensures { IfOk result (IsGathered self.old self.new) }
     {

@@ -1,4 +1,4 @@
-use Rattle.std.proofs.Common.{◌≡◌, ◌-◌, ◌<◌, ◌++◌, ◌∷◌, [], length, rules, arith, ap, sym, subst, ◌∙◌}
+use Rattle.std.proofs.Common.{◌-◌, ◌<◌, length, arith, ap, sym, subst, ◌∙◌}
 use Rattle.lsm_batch.specs.declared.write.Write.{Write}
 use Rattle.lsm_batch.specs.Limits.{most_entries}
 use Rattle.lsm_lines.specs.Filling.{Fills}
