@@ -2,7 +2,8 @@
 
 ghost use Rattle.std.specs.Prelude.{◌≡◌, ◌≢◌, ◌++◌, All, IfSome, List, OnOk, ℕ, true};
 ghost use Rattle.lsm_script.specs.declared.reply.Reply.TheVariants.{Refused};
-ghost use Rattle.lsm_cmd_shell.specs.Reasoned.{IsOfSystem, IsTextOf, cause_of, reasoned_text};
+ghost use Rattle.lsm_cmd_shell.specs.Reasoned.{IsOfSystem, IsTextOf, cause_of, cause_of_merge};
+ghost use Rattle.lsm_cmd_shell.specs.Reasoned.{reasoned_text};
 
 use lsm_folder::Reasons;
 use lsm_merge::MergeFault;
@@ -10,15 +11,26 @@ use lsm_script::{CommandFault, Reply, push_reply};
 use lsm_text::{Form, parts};
 use std::alloc::{AllocError, Global};
 
-/// The number of a refusal; of a merge that of what failed.
+/// The number of what made a merge fail.
+fn cause_of_merge(fault: MergeFault) -> u8
+    ensures { result ≡ cause_of_merge fault }
+{
+    match fault {
+        MergeFault::ReadFailed(_, cause) => cause.number(),
+        MergeFault::PutFailed(_, cause) => cause.number(),
+        MergeFault::OutOfMemory => 1,
+        MergeFault::UnknownTicket(_) => 45,
+        MergeFault::NumbersSpent => 46,
+    }
+}
+
+/// The number of a refusal; of a merge that of what made it fail.
 fn cause_of(fault: CommandFault) -> u8
     ensures { result ≡ cause_of fault }
 {
     match fault {
         CommandFault::State(fault) => fault.number(),
-        CommandFault::Merge(MergeFault::ReadFailed(_, fault)) => fault.number(),
-        CommandFault::Merge(MergeFault::PutFailed(_, fault)) => fault.number(),
-        CommandFault::Merge(fault) => fault.number(),
+        CommandFault::Merge(fault) => cause_of_merge(fault),
     }
 }
 
@@ -26,8 +38,10 @@ fn cause_of(fault: CommandFault) -> u8
 fn is_of_system(fault: CommandFault) -> bool
     ensures { result ≡ true → IsOfSystem fault }
 {
-    let cause = cause_of(fault);
-    cause == 9 || cause == 10
+    match cause_of(fault) {
+        9 | 10 => true,
+        _ => false,
+    }
 }
 
 /// What stands before the first newline, if there is one.
