@@ -28,6 +28,6 @@ refused_open old mid new form fault m n =
     m ∙ ap (λ (l : List ℕ). old ++ l) (refused_line form fault) ∙ sym (append_assoc old (refused_text fault) (10 ∷ [])) in
     n ∙ ap (λ (l : List ℕ). take (length l - 1) l) line ∙ without_last (old ++ refused_text fault) 10
 
-pub reasoned : (old open_ : List ℕ) (fault : CommandFault) (reason : List ℕ) → open_ ≡ old ++ refused_text fault
-    → ((open_ ++ codes ": ") ++ reason) ++ (10 ∷ []) ≡ old ++ reasoned_text fault reason
-reasoned old open_ fault reason e = rw e (simp append_assoc)
+pub reasoned : (old front : List ℕ) (fault : CommandFault) (reason : List ℕ) → front ≡ old ++ refused_text fault
+    → ((front ++ codes ": ") ++ reason) ++ (10 ∷ []) ≡ old ++ reasoned_text fault reason
+reasoned old front fault reason e = rw e (simp append_assoc)
