@@ -26,8 +26,8 @@ pub record IsQuietStep (Honest : Type 0) (was is : Held) : Type 0 where
   pub run : Run Honest (plain was) events (plain is)
   pub history : is.history ≡ was.history
 
--- What is done by a request that only looks, or removes tables that nothing needs: of the state just
--- who pins which version is another, which the plain machine does not see.
+-- What is done by a request that only looks, or removes tables that nothing needs: of the state
+-- just who pins which version is another, which the plain machine does not see.
 pub record IsLook (was is : Held) : Type 0 where
   pub rest : is ≡ record was { slots = is.slots }
   pub machine : plain is ≡ plain was
@@ -57,8 +57,8 @@ IsKeptByTakes keeps =
 abbrev pub IsKeptByRelease : ℕ → (Held → Type 0) → Type 0
 IsKeptByRelease number keeps = (was is : Held) → ReleasesAt was is number → keeps was → keeps is
 
--- What is done for a request keeps it: looks, its batch, what it says of a snapshot, or what workers
--- do. So by no other request than to compact anything is done that workers do.
+-- What is done for a request keeps it: looks, its batch, what it says of a snapshot, or what
+-- workers do. So by no other request than to compact anything is done that workers do.
 abbrev pub IsKeptByAsked : Type 0 → (shelf.Asked → ShelfFault → Type 0) → Asked → (Held → Type 0)
     → Type 0
 IsKeptByAsked Honest Refused (Writes ws) keeps =

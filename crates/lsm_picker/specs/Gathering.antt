@@ -69,8 +69,8 @@ HasNoneToGather v rs target_size = HasEight target_size rs (level_in v.tables 0)
 abbrev pub is_large : ℕ → List Reserved → Table → Bool
 is_large target_size rs t = not (is_small target_size t) && not (is_taken rs t)
 
--- Level 0 has four files that are not small; or eleven files, of which no eight may be gathered. The
--- inputs of live jobs are not counted.
+-- Level 0 has four files that are not small; or eleven files, of which no eight may be gathered.
+-- The inputs of live jobs are not counted.
 abbrev pub IsReady : Levels → List Reserved → ℕ → Type 0
 IsReady v rs target_size =
     (4 ≤ length (filter (is_large target_size rs) (level_in v.tables 0)))
