@@ -1,5 +1,6 @@
 -- What a run says, by what reading the manifest and showing its shape say.
-use Rattle.std.proofs.Common.{◌≡◌, ◌⊎◌, ℕ, Bool, List, ◌∷◌, ◌++◌, Option, None, Some, IfErr, OnErr, OnOk, arith, inl, inr, refl, sym, subst}
+use Rattle.std.proofs.Common.{◌≡◌, ◌⊎◌, ℕ, Bool, List, ◌∷◌, ◌++◌, Option, None, Some, IfErr}
+use Rattle.std.proofs.Common.{OnErr, OnOk, arith, inl, inr, refl, sym, subst}
 use Rattle.std.specs.Prelude.{Result, Ok, Err, IsTrue}
 use Rattle.std.specs.Io.KnownBytes.{Appends, Keeps}
 use Rattle.std.proofs.KnownBytes.{Keeps-refl, Keeps-trans}
@@ -28,7 +29,9 @@ use Rattle.lsm_cmd_levels.specs.declared.due.Due.{Due}
 use Rattle.lsm_cmd_levels.specs.declared.totals.Totals.{Totals}
 use Rattle.lsm_cmd_levels.specs.Listing.{TellsFiles}
 use Rattle.lsm_cmd_levels.specs.Totals.{AreTotals}
-use Rattle.lsm_cmd_levels.specs.Layout.{FailsToLayOut, IsGone, IsLaidOut, IsLayoutFault, IsNotNamed, IsShown, IsUnshown, LaysOutAt, Names, ReadsManifest, Shows, text_of}
+use Rattle.lsm_cmd_levels.specs.Layout.{FailsToLayOut, IsGone, IsLaidOut, IsLayoutFault}
+use Rattle.lsm_cmd_levels.specs.Layout.{IsNotNamed, IsShown, IsUnshown, LaysOutAt, Names}
+use Rattle.lsm_cmd_levels.specs.Layout.{ReadsManifest, Shows, text_of}
 use Rattle.lsm_requests.specs.declared.levels_line.LevelsLine.{LevelsLine}
 use Rattle.lsm_requests.specs.declared.levels_output.LevelsOutput.{LevelsOutput}
 
@@ -54,7 +57,9 @@ module _ (form : Form) (output : LevelsOutput) where
   laid_out (Err e) strict others was is s rest old new said_old said_new named whole shown quiet = tt
 
   pub not_shown : {T : Type 0} (r : Result T DirectoryFault) (Refused : Asked → ShelfFault → Type 0) (strict : Bool) (others : List FolderFile) (was is : Told) (s : Shape) (rest : ℕ) (old new : Option (List ℕ))
-      → Names was is s rest → IfErr r (λ e. (IsTrue strict × IsLeftOut rest s.log s.prev_log others e × Keeps old new) ⊎ IsUnshown form output s rest others e old new)
+      → Names was is s rest → IfErr r
+      (λ e. (IsTrue strict × IsLeftOut rest s.log s.prev_log others e × Keeps old new)
+      ⊎ IsUnshown form output s rest others e old new)
       → IfErr r (λ e. IsLayoutFault Refused form output strict others e was is old new)
   not_shown (Ok x) Refused strict others was is s rest old new named fault = tt
   not_shown (Err e) Refused strict others was is s rest old new named fault = inr (s, rest, named, fault)
@@ -73,12 +78,19 @@ module _ (form : Form) (output : LevelsOutput) where
   none_of (inr x) = absurd x
 
   -- where a fault says that the manifest is gone, nothing was shown
-  pub not_gone : {T : Type 0} (r : Result T DirectoryFault) (strict : Bool) (others : List FolderFile) (s : Shape) (rest : ℕ) (old new said_old said_new : Option (List ℕ))
-      → IfErr r (λ e. (IsTrue strict × IsLeftOut rest s.log s.prev_log others e × Keeps old new) ⊎ IsUnshown form output s rest others e old new)
+  pub not_gone : {T : Type 0} (r : Result T DirectoryFault) (strict : Bool)
+      (others : List FolderFile) (s : Shape) (rest : ℕ)
+      (old new said_old said_new : Option (List ℕ))
+      → IfErr r
+      (λ e. (IsTrue strict × IsLeftOut rest s.log s.prev_log others e × Keeps old new)
+      ⊎ IsUnshown form output s rest others e old new)
       → IfErr r (λ e. IsGone e → Keeps old new × Keeps said_old said_new)
   not_gone (Ok x) strict others s rest old new said_old said_new fault = tt
   not_gone (Err e) strict others s rest old new said_old said_new fault =
-      λ gone. none_of (subst (λ (x : DirectoryFault). (IsTrue strict × IsLeftOut rest s.log s.prev_log others x × Keeps old new) ⊎ IsUnshown form output s rest others x old new) gone fault)
+      λ gone. none_of
+      (subst (λ (x : DirectoryFault).
+      (IsTrue strict × IsLeftOut rest s.log s.prev_log others x × Keeps old new)
+      ⊎ IsUnshown form output s rest others x old new) gone fault)
 
 -- nothing is written
 pub all_kept : (old said : Option (List ℕ)) → Keeps old old × Keeps said said
@@ -113,21 +125,28 @@ noted log prev files n first none =
 
 -- ---- two looks
 
-pub appends_kept : (old mid new : Option (List ℕ)) (text : List ℕ) → Keeps old mid → Appends mid new text → Appends old new text
+pub appends_kept : (old mid new : Option (List ℕ)) (text : List ℕ) → Keeps old mid
+    → Appends mid new text → Appends old new text
 appends_kept None mid new text kept grown = tt
 appends_kept (Some xs) None new text kept grown = absurd kept
 appends_kept (Some xs) (Some ys) None text kept grown = absurd grown
-appends_kept (Some xs) (Some ys) (Some zs) text kept grown = subst (λ (l : List ℕ). zs ≡ l ++ text) kept grown
+appends_kept (Some xs) (Some ys) (Some zs) text kept grown = subst
+    (λ (l : List ℕ). zs ≡ l ++ text) kept grown
 
-pub begins_kept : (old mid new : Option (List ℕ)) (text : List ℕ) → Keeps old mid → Begins mid new text → Begins old new text
+pub begins_kept : (old mid new : Option (List ℕ)) (text : List ℕ) → Keeps old mid
+    → Begins mid new text → Begins old new text
 begins_kept None mid new text kept (lost, (written, grown, is)) = (lost, (written, tt, is))
 begins_kept (Some xs) None new text kept begun = absurd kept
-begins_kept (Some xs) (Some ys) new text kept begun = subst (λ (l : List ℕ). Begins (Some l) new text) kept begun
+begins_kept (Some xs) (Some ys) new text kept begun = subst
+    (λ (l : List ℕ). Begins (Some l) new text) kept begun
 
-unshown_behind : (form : Form) (output : LevelsOutput) (s : Shape) (rest : ℕ) (files : List FolderFile) (e : DirectoryFault) (old mid new : Option (List ℕ)) → Keeps old mid
+unshown_behind : (form : Form) (output : LevelsOutput) (s : Shape) (rest : ℕ)
+    (files : List FolderFile) (e : DirectoryFault) (old mid new : Option (List ℕ)) → Keeps old mid
     → IsUnshown form output s rest files e mid new → IsUnshown form output s rest files e old new
-unshown_behind form output s rest files why.OutOfMemory old mid new kept h = Keeps-trans old mid new kept h
-unshown_behind form output s rest files why.Write old mid new kept h = (h.0, h.1, begins_kept old mid new h.0 kept h.2)
+unshown_behind form output s rest files why.OutOfMemory old mid new kept h =
+    Keeps-trans old mid new kept h
+unshown_behind form output s rest files why.Write old mid new kept h =
+    (h.0, h.1, begins_kept old mid new h.0 kept h.2)
 unshown_behind form output s rest files (why.Manifest e) old mid new kept h = absurd h
 unshown_behind form output s rest files (why.Shelf e) old mid new kept h = absurd h
 unshown_behind form output s rest files (why.Tables e) old mid new kept h = absurd h
@@ -138,11 +157,19 @@ unshown_behind form output s rest files (why.UnflushedLog number) old mid new ke
 unshown_behind form output s rest files (why.TornManifest torn) old mid new kept h = absurd h
 unshown_behind form output s rest files why.Absent old mid new kept h = absurd h
 
-says_behind : (form : Form) (output : LevelsOutput) (Refused : Asked → ShelfFault → Type 0) (strict : Bool) (files : List FolderFile) (e : DirectoryFault) (was is : Told) (old mid new : Option (List ℕ))
-    → Keeps old mid → IsLayoutFault Refused form output strict files e was is mid new → IsLayoutFault Refused form output strict files e was is old new
-says_behind form output Refused strict files e was is old mid new kept (inl h) = inl (h.0, Keeps-trans old mid new kept h.1)
-says_behind form output Refused strict files e was is old mid new kept (inr (s, rest, named, inl h)) = inr (s, rest, named, inl (h.0, h.1, Keeps-trans old mid new kept h.2))
-says_behind form output Refused strict files e was is old mid new kept (inr (s, rest, named, inr h)) = inr (s, rest, named, inr (unshown_behind form output s rest files e old mid new kept h))
+says_behind : (form : Form) (output : LevelsOutput) (Refused : Asked → ShelfFault → Type 0)
+    (strict : Bool) (files : List FolderFile) (e : DirectoryFault) (was is : Told)
+    (old mid new : Option (List ℕ))
+    → Keeps old mid → IsLayoutFault Refused form output strict files e was is mid new
+    → IsLayoutFault Refused form output strict files e was is old new
+says_behind form output Refused strict files e was is old mid new kept (inl h) = inl
+    (h.0, Keeps-trans old mid new kept h.1)
+says_behind form output Refused strict files e was is old mid new kept
+    (inr (s, rest, named, inl h)) = inr
+    (s, rest, named, inl (h.0, h.1, Keeps-trans old mid new kept h.2))
+says_behind form output Refused strict files e was is old mid new kept
+    (inr (s, rest, named, inr h)) = inr
+    (s, rest, named, inr (unshown_behind form output s rest files e old mid new kept h))
 
 -- ---- a folder
 
@@ -162,8 +189,10 @@ module _ {C M : Type 0} (folders : Ghosts C M) where
   fails (Err e) line others begun ended old new on says reads = inr record { files = others; begun = begun; on = on; ended = ended; says = says; reads = reads }
 
   -- what was done behind a look that wrote nothing
-  pub done_behind : {T : Type 0} (r : Result T DirectoryFault) (line : LevelsLine) (old mid new said told last : Option (List ℕ)) → Keeps old mid × Keeps said told
-      → OnOk r (LaysOutAt folders line mid new told last) → OnOk r (LaysOutAt folders line old new said last)
+  pub done_behind : {T : Type 0} (r : Result T DirectoryFault) (line : LevelsLine)
+      (old mid new said told last : Option (List ℕ)) → Keeps old mid × Keeps said told
+      → OnOk r (LaysOutAt folders line mid new told last) → OnOk r
+      (LaysOutAt folders line old new said last)
   done_behind (Ok x) line old mid new said told last kept done = record {
     files = done.files;
     begun = done.begun;
@@ -174,28 +203,38 @@ module _ {C M : Type 0} (folders : Ghosts C M) where
       rest = done.done.rest;
       named = done.done.named;
       whole = done.done.whole;
-      shown = (done.done.shown.0, done.done.shown.1, appends_kept old mid new _ kept.0 done.done.shown.2);
+      shown = (
+        done.done.shown.0,
+        done.done.shown.1,
+        appends_kept old mid new _ kept.0 done.done.shown.2,
+      );
       quiet = λ whole none. Keeps-trans said told last kept.1 (done.done.quiet whole none);
     };
   }
   done_behind (Err e) line old mid new said told last kept done = tt
 
-  refused_at : (e : DirectoryFault) (line : LevelsLine) (old mid new : Option (List ℕ)) → Keeps old mid → FailsToLayOut folders line e mid new → FailsToLayOut folders line e old new
+  refused_at : (e : DirectoryFault) (line : LevelsLine) (old mid new : Option (List ℕ))
+      → Keeps old mid → FailsToLayOut folders line e mid new
+      → FailsToLayOut folders line e old new
   refused_at e line old mid new kept (inl f) = inl (f.0, Keeps-trans old mid new kept f.1)
   refused_at e line old mid new kept (inr f) = inr record {
     files = f.files;
     begun = f.begun;
     on = f.on;
     ended = f.ended;
-    says = says_behind line.form line.output MayRefuse line.strict f.files e (told_by folders f.begun) (told_by folders f.ended) old mid new kept f.says;
+    says = says_behind line.form line.output MayRefuse line.strict f.files e
+        (told_by folders f.begun) (told_by folders f.ended) old mid new kept f.says;
     reads = f.reads;
   }
 
   -- and what was refused behind it
-  pub refused_behind : {T : Type 0} (r : Result T DirectoryFault) (line : LevelsLine) (old mid new said told : Option (List ℕ)) → Keeps old mid × Keeps said told
-      → IfErr r (λ e. FailsToLayOut folders line e mid new) → IfErr r (λ e. FailsToLayOut folders line e old new)
+  pub refused_behind : {T : Type 0} (r : Result T DirectoryFault) (line : LevelsLine)
+      (old mid new said told : Option (List ℕ)) → Keeps old mid × Keeps said told
+      → IfErr r (λ e. FailsToLayOut folders line e mid new) → IfErr r
+      (λ e. FailsToLayOut folders line e old new)
   refused_behind (Ok x) line old mid new said told kept refused = tt
-  refused_behind (Err e) line old mid new said told kept refused = refused_at e line old mid new kept.0 refused
+  refused_behind (Err e) line old mid new said told kept refused =
+      refused_at e line old mid new kept.0 refused
 
   pub laid_on : {T F : Type 0} (r : Result T F) (status : ℕ) (line : LevelsLine) (old new said told last : Option (List ℕ)) → OnErr r (status ≡ 1)
       → OnOk r (LaysOutAt folders line old new said told) → (status ≡ 0 → Keeps told last) → status ≡ 0 → LaysOutAt folders line old new said last

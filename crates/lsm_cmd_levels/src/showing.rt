@@ -5,7 +5,8 @@ ghost use Rattle.std.specs.Io.KnownBytes.{Keeps};
 ghost use Rattle.lsm_directory.specs.Logs.{NoneUnread};
 ghost use Rattle.lsm_directory.specs.Rest.{IsLeftOut, LeavesNothingOut};
 ghost use Rattle.lsm_cmd_levels.specs.Layout.{IsGone, IsLaidOut, IsLayoutFault, IsNotNamed};
-ghost use Rattle.lsm_cmd_levels.specs.Layout.{IsShown, IsUnshown, Names, ReadsManifest, Shows, text_of};
+ghost use Rattle.lsm_cmd_levels.specs.Layout.{IsShown, IsUnshown, Names, ReadsManifest, Shows};
+ghost use Rattle.lsm_cmd_levels.specs.Layout.{text_of};
 
 use crate::drawing::{Sheet, picture_text};
 use crate::due::{Due, due_next};
@@ -207,7 +208,7 @@ fn show_noted<O: Write, E: Write>(
 /// Reads the manifest that the directory of a shelf names, and writes what is shown of it on
 /// `out`, with the sums of these files; notes on `err` what is not read, or where it is strict is
 /// refused by that. The shelf is given back.
-#[tactic(auto, using(crate::proofs::ShowLaws::laid_out, crate::proofs::ShowLaws::not_shown, crate::proofs::ShowLaws::not_named, crate::proofs::ShowLaws::named_reads, crate::proofs::ShowLaws::fault_reads, crate::proofs::ShowLaws::not_gone, crate::proofs::ShowLaws::all_kept))]
+#[tactic(auto, using(crate::proofs::ShowLaws::laid_out, crate::proofs::ShowLaws::not_shown, crate::proofs::ShowLaws::not_named, crate::proofs::ShowLaws::named_reads, crate::proofs::ShowLaws::fault_reads))]
 pub fn lay_out<S: Shelf, R: Wait, O: Write, E: Write>(
     rt: &R,
     alloc: Global,
