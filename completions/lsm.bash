@@ -3,7 +3,7 @@ _lsm() {
   local current=${COMP_WORDS[COMP_CWORD]} command= options= places= place=0 index word kind
   COMPREPLY=()
   if ((COMP_CWORD == 1)); then
-    COMPREPLY=($(compgen -W 'mktable dump manifest script check list levels get scan ingest put delete load import compact clean shell bench help --help --version' -- "$current"))
+    COMPREPLY=($(compgen -W 'mktable dump manifest script check list levels get scan ingest put delete load import recover compact clean shell bench help --help --version' -- "$current"))
     return
   fi
   command=${COMP_WORDS[1]}
@@ -22,6 +22,7 @@ _lsm() {
     delete) options='--text --begin --beside-log --help' places='DIR KEY' ;;
     load) options='--text --begin --beside-log --workers --from-line --progress --help' places='DIR FILE' ;;
     import) options='--help' places='SRC DST' ;;
+    recover) options='--help' places='DIR' ;;
     compact) options='--all --from --to --text --workers --accept-rest --progress --help' places='DIR' ;;
     clean) options='--accept-rest --help' places='DIR' ;;
     shell) options='--text --begin --beside-log --workers --bail --help' places='DIR' ;;
@@ -53,7 +54,7 @@ _lsm() {
   case $kind in
     DIR | SRC | DST) compopt -o filenames 2> /dev/null; mapfile -t COMPREPLY < <(compgen -d -- "$current") ;;
     FILE) compopt -o filenames 2> /dev/null; mapfile -t COMPREPLY < <(compgen -f -- "$current") ;;
-    COMMAND) COMPREPLY=($(compgen -W 'mktable dump manifest script check list levels get scan ingest put delete load import compact clean shell bench help' -- "$current")) ;;
+    COMMAND) COMPREPLY=($(compgen -W 'mktable dump manifest script check list levels get scan ingest put delete load import recover compact clean shell bench help' -- "$current")) ;;
     *) COMPREPLY=($(compgen -W "$options" -- "$current")) ;;
   esac
 }

@@ -36,6 +36,8 @@ CRATES = {
     "lsm_cmd_levels": ("program", "levels, by the manifest alone"),
     "lsm_cmd_bench": ("program", "bench"),
     "lsm_cmd_import": ("program", "import"),
+    "lsm_cmd_recover": ("program", "recover"),
+    "lsm_log_files": ("program", "a manifest and its logs"),
     "lsm_opening": ("program", "begins or opens a database"),
     "lsm_directory": ("program", "a folder, its lock, faults"),
     "lsm_grammar": ("program", "command line, help"),

@@ -228,6 +228,11 @@ def logged(folder):
     printed("python3 -c \"import plyvel; plyvel.DB('logged', compression=None).close()\"", folder)
     judge(printed("./lsm put logged 61 62", folder).startswith("file "), "an opening without compression does not cure a log")
     judge(printed("./lsm scan logged --count", folder) == "101", "an opening without compression does not flush the log")
+    part = (TOP / "docs" / "COMMANDS.md").read_text().split("## lsm recover", 1)[1]
+    fill(folder, "unflushed", 100)
+    said = printed(re.search(r"^```text\n(.*?)^```", part, re.S | re.M)[1].replace("DIR", "unflushed"), folder)
+    judge(said == "logs 1 entries 100 rest 0", f"the line of `lsm recover` says {said}")
+    judge(printed("./lsm scan unflushed --count --strict", folder) == "100", f"the line of `lsm recover` does not cure: {said}")
 
 
 def repaired(folder):

@@ -1,4 +1,2 @@
-pub mod ReadLaws
-pub mod LogLaws
 pub mod MadeLaws
 pub mod RunLaws

@@ -11,13 +11,9 @@ use Rattle.lsm_directory.specs.declared.folder.folder_file.FolderFile.{FolderFil
 use Rattle.lsm_opening.specs.Preparing.{IsUnprepared, plainly}
 use Rattle.lsm_opening.specs.declared.faults.writer_fault.WriterFault.{WriterFault}
 use Rattle.lsm_wal.specs.declared.write_batch.WriteBatch.{WriteBatch}
-use Rattle.lsm_import.specs.Copies.{OnlyPuts}
-use Rattle.lsm_cmd_import.specs.Imported.{IsNoTarget, ReadsManifest}
+use Rattle.lsm_log_files.specs.Source.{HasShape, IsSource, ReadsManifest}
+use Rattle.lsm_cmd_import.specs.Imported.{IsNoTarget}
 use Rattle.lsm_cmd_import.specs.declared.copy_fault.CopyFault.TheVariants.{Target}
-use Rattle.lsm_cmd_import.specs.Source.{HasShape, IsSource}
-
-pub puts_none : (a : Told) → OnlyPuts a a
-puts_none a = record { place = refl; gone = refl; starts = refl; written = refl }
 
 -- ---- the source's shelf, which goes on to read tables
 

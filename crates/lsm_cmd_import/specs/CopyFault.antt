@@ -6,7 +6,7 @@ use Rattle.lsm_verify.specs.declared.check_fault.CheckFault.{CheckFault}
 use Rattle.lsm_verify.specs.declared.check_fault.CheckFault.TheVariants as check
 use Rattle.lsm_cmd_import.specs.declared.copy_fault.CopyFault.{CopyFault}
 use Rattle.lsm_cmd_import.specs.declared.copy_fault.CopyFault.TheVariants.{OutOfMemory, Source}
-use Rattle.lsm_cmd_import.specs.declared.copy_fault.CopyFault.TheVariants.{UnreadLog, BadLog}
+use Rattle.lsm_cmd_import.specs.declared.copy_fault.CopyFault.TheVariants.{Read}
 use Rattle.lsm_cmd_import.specs.declared.copy_fault.CopyFault.TheVariants.{Target, IsThere, Copy}
 use Rattle.lsm_cmd_import.specs.declared.copy_fault.CopyFault.TheVariants.{Tables, Write}
 
@@ -34,8 +34,7 @@ judged_file (check.AgeOrder key) = None
 abbrev pub file_of : CopyFault → Option ℕ
 file_of OutOfMemory = None
 file_of (Source fault) = None
-file_of (UnreadLog number fault) = None
-file_of (BadLog number fault) = None
+file_of (Read fault) = None
 file_of (Target fault) = None
 file_of IsThere = None
 file_of (Copy fault) = packed_file fault

@@ -1,13 +1,11 @@
 -- A copy of a database, and why there is none (this project's rule).
-use Rattle.std.specs.Prelude.{◌≡◌, ◌⊎◌, ℕ, ◌+◌, List, [], ◌∷◌, ◌++◌, length, Option}
+use Rattle.std.specs.Prelude.{◌≡◌, ◌⊎◌, ℕ, ◌+◌, List, [], ◌∷◌, ◌++◌, length}
 use Rattle.std.specs.List.{sum_by}
-use Rattle.lsm_codec.specs.Entries.{Entry, answer}
+use Rattle.lsm_codec.specs.Entries.{answer}
 use Rattle.lsm_codec.specs.Keys.{UserKey}
 use Rattle.lsm_shelf.specs.Asked.{Asked, Load}
-use Rattle.lsm_shelf.specs.Told.{Becomes, Told, sending}
+use Rattle.lsm_shelf.specs.Told.{Told}
 use Rattle.lsm_shelf.specs.declared.shelf_fault.ShelfFault.{ShelfFault}
-use Rattle.lsm_table.specs.declared.table_options.TableOptions.{TableOptions}
-use Rattle.lsm_manifest.specs.Manifest.{IsManifest}
 use Rattle.lsm_manifest.specs.Shape.{Form, IsRefused, IsReplayed}
 use Rattle.lsm_manifest.specs.WholeEdit.{files_from}
 use Rattle.lsm_manifest.specs.declared.replay_fault.ReplayFault.{ReplayFault}
@@ -16,29 +14,16 @@ use Rattle.lsm_verify.specs.Counts.{count_of}
 use Rattle.lsm_verify.specs.declared.check_fault.CheckFault.{CheckFault}
 use Rattle.lsm_version.specs.Versions.{IsSound, Levels}
 use Rattle.lsm_batch.specs.Batches.{entries_from}
-use Rattle.lsm_batch.specs.LastWrites.{last_write}
-use Rattle.lsm_wal.specs.WriteLog.{writes_of}
 use Rattle.lsm_wal.specs.declared.write_batch.WriteBatch.{WriteBatch}
-use Rattle.lsm_import.specs.Answers.{NoneAbove, value_over}
-use Rattle.lsm_import.specs.Copied.{HasLogs, IsBeginRefusal, IsCopiedOf, IsLogsRefusal}
-use Rattle.lsm_import.specs.Copied.{IsNotCopied, begun_edit, manifest_of}
-use Rattle.lsm_import.specs.Copies.{OnlyPuts}
+use Rattle.lsm_import.specs.Answers.{NoneAbove, source_answer}
+use Rattle.lsm_import.specs.Copied.{HasLogs, IsBegun, IsBeginRefusal, IsCopiedOf, IsLogsRefusal}
+use Rattle.lsm_import.specs.Copied.{IsNotCopied, usual}
 use Rattle.lsm_import.specs.declared.copied.Copied.{Copied}
 use Rattle.lsm_import.specs.declared.import_fault.ImportFault.{ImportFault}
 use Rattle.lsm_import.specs.declared.import_fault.ImportFault.TheVariants.{Replay}
 use Rattle.lsm_cmd_import.specs.declared.copy_fault.CopyFault.{CopyFault}
 use Rattle.lsm_cmd_import.specs.declared.copy_fault.CopyFault.TheVariants.{OutOfMemory, Tables}
 use Rattle.lsm_cmd_import.specs.declared.copy_fault.CopyFault.TheVariants.{Copy}
-
--- LevelDB's usual options of tables
-abbrev pub usual : TableOptions
-usual = record { block_size = 4096; restart_interval = 16 }
-
--- What LevelDB reads of a key where tables have these entries, none above this sequence, and logs
--- these batches: their last write of the key, or what the tables have where they write none.
-abbrev pub source_answer : List Entry → ℕ → List WriteBatch → UserKey → Option (List ℕ)
-source_answer entries last batches key =
-    value_over (last_write key (writes_of batches)) (answer entries key last)
 
 -- The copied tables were read again: they are a version, sound over an honest shelf, which has so
 -- many entries.
@@ -58,13 +43,6 @@ pub record IsFilled (Into : ℕ → List ℕ → Type 0) (Honest : Type 0) (batc
   pub judged : IsJudged Honest tables before
   pub logs : HasLogs Into batches tables whole
   pub counted : entries ≡ before + length logs.batch
-
--- Tables were put, and then the manifest of the copy was begun: its one edit names just them.
-pub record IsBegun (whole : Copied) (was is : Told) : Type 0 where
-  pub mid : Told
-  pub puts : OnlyPuts was mid
-  pub begun : Becomes (sending whole.next (manifest_of whole) mid) is
-  pub manifest : IsManifest (manifest_of whole) (begun_edit whole ∷ []) 0
 
 -- so it was with the copied tables: these tables are so many
 pub record IsFinished (Into : ℕ → List ℕ → Type 0) (Honest : Type 0) (batches : List WriteBatch)

@@ -8,7 +8,7 @@ use Rattle.lsm_folder.specs.declared.folder_calls.FolderCalls.{Ghosts}
 use Rattle.lsm_folder.specs.declared.mark.Mark as mark
 use Rattle.lsm_shelf.specs.Asked.{Asked}
 use Rattle.lsm_shelf.specs.Refusals.{MayRefuse}
-use Rattle.lsm_shelf.specs.Told.{Becomes, Told, finding, fresh}
+use Rattle.lsm_shelf.specs.Told.{Told, fresh}
 use Rattle.lsm_shelf.specs.declared.shelf_fault.ShelfFault.{ShelfFault}
 use Rattle.lsm_storage.specs.declared.file.file_shelf.FileShelf.{FileShelf}
 use Rattle.lsm_manifest.specs.Shape.{Form}
@@ -28,11 +28,13 @@ use Rattle.lsm_opening.specs.declared.faults.writer_fault.WriterFault.TheVariant
 use Rattle.lsm_opening.specs.declared.faults.writer_fault.WriterFault.TheVariants.{UnflushedLog}
 use Rattle.lsm_wal.specs.declared.write_batch.WriteBatch.{WriteBatch}
 use Rattle.lsm_import.specs.Copies.{OnlyPuts}
+use Rattle.lsm_log_files.specs.Source.{IsNoSource, IsSource, ReadsManifest}
+use Rattle.lsm_log_files.specs.declared.source_fault.SourceFault.{SourceFault}
 use Rattle.lsm_cmd_import.specs.Copying.{IsMade, IsUnmade}
-use Rattle.lsm_cmd_import.specs.Source.{IsNoSource, IsSource}
 use Rattle.lsm_cmd_import.specs.declared.copy_fault.CopyFault.{CopyFault}
 use Rattle.lsm_cmd_import.specs.declared.copy_fault.CopyFault.TheVariants.{OutOfMemory, Source}
 use Rattle.lsm_cmd_import.specs.declared.copy_fault.CopyFault.TheVariants.{Target, IsThere}
+use Rattle.lsm_cmd_import.specs.declared.copy_fault.CopyFault.TheVariants.{Read}
 use Rattle.lsm_cmd_import.specs.declared.copy_fault.CopyFault.TheVariants.{Write as WriteFault}
 use Rattle.lsm_cmd_import.specs.declared.reply.CopyMade.{CopyMade}
 
@@ -41,11 +43,6 @@ abbrev pub made_text : CopyMade → List ℕ
 made_text m = codes "tables "
     ++ (decimal m.tables ++ (codes " logs " ++ (decimal m.logs ++ (codes " entries "
     ++ (decimal m.entries ++ (codes " rest " ++ (decimal m.rest ++ (10 ∷ []))))))))
-
--- a shelf read its manifest at most, and nothing else was told
-abbrev pub ReadsManifest : Told → Told → Type 0
-ReadsManifest was is =
-    Becomes was is ⊎ ((number : ℕ) × (bytes : List ℕ) × Becomes (finding number bytes was) is)
 
 -- ---- on shelves
 
@@ -75,14 +72,16 @@ pub record IsImported (From Into : ℕ → List ℕ → Type 0) (Honest : Type 0
       later.target
   pub left : LeavesSource before later
 
--- The source was not read; or it was, and its copy was not made.
+-- Memory ran out; or the source was not read; or it was, and its copy was not made.
 abbrev pub IsUncopied : (From Into : ℕ → List ℕ → Type 0) → (Unheld Denied : Asked → ShelfFault
     → Type 0) → Type 0 → List FolderFile → CopyFault → Moment → Moment → Type 0
 IsUncopied From Into Unheld Denied Honest files fault before later =
-    IsNoSource Unheld files fault before.calls later.calls before.source later.source
+    (fault ≡ OutOfMemory)
+    ⊎ (((e : SourceFault) × (fault ≡ Read e)
+    × IsNoSource Unheld files e before.calls later.calls before.source later.source)
     ⊎ ((shape : Form) × (batches : List WriteBatch) × (count : ℕ) × (rest : ℕ)
     × IsSource files shape batches count rest before.calls later.calls before.source later.source
-    × IsUnmade From Into Unheld Denied Honest shape batches fault)
+    × IsUnmade From Into Unheld Denied Honest shape batches fault))
 
 -- Why there is no copy. The target got tables at most, and no manifest of it was begun.
 pub record IsUnimported (From Into : ℕ → List ℕ → Type 0) (Unheld Denied : Asked → ShelfFault

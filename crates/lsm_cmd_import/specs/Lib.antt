@@ -1,6 +1,4 @@
 -- What public clauses cite, and so what a caller reads
 pub mod CopyFault
-pub mod Logs
-pub mod Source
 pub mod Copying
 pub mod Imported

@@ -3,15 +3,14 @@
 ghost use Rattle.std.specs.Prelude.{◌≡◌, None};
 ghost use Rattle.lsm_cmd_import.specs.CopyFault.{file_of};
 ghost use Rattle.lsm_cmd_import.specs.declared.copy_fault.CopyFault.TheVariants.{Copy, OutOfMemory};
-ghost use Rattle.lsm_cmd_import.specs.declared.copy_fault.CopyFault.TheVariants.{Tables};
+ghost use Rattle.lsm_cmd_import.specs.declared.copy_fault.CopyFault.TheVariants.{Read, Tables};
 
 use lsm_batch::Write as KeyWrite;
 use lsm_directory::{DirectoryFault, Exit};
 use lsm_import::ImportFault;
+use lsm_log_files::SourceFault;
 use lsm_opening::WriterFault;
-use lsm_table::ShelfFault;
 use lsm_verify::CheckFault;
-use lsm_wal::WriteLogFault;
 use std::alloc::{AllocError, AllocFailed};
 use std::fmt;
 use std::io::{self, Write};
@@ -21,12 +20,10 @@ use std::io::{self, Write};
 pub enum CopyFault {
     /// A growth of memory was refused, outside of the copy.
     OutOfMemory,
-    /// The source could not be opened, locked or looked at, or its manifest not read.
+    /// The source could not be opened, locked or looked at.
     Source(DirectoryFault),
-    /// The source did not give its log of this number.
-    UnreadLog(u64, ShelfFault),
-    /// The log of this number is none, or begins below the end of the one before.
-    BadLog(u64, WriteLogFault),
+    /// The source's manifest or a log of it could not be read.
+    Read(SourceFault),
     /// The target could not be opened, locked or looked at, or is none in which a database can be
     /// begun.
     Target(WriterFault),
@@ -47,8 +44,7 @@ impl fmt::Display for CopyFault {
         match self {
             CopyFault::OutOfMemory => f.write_str("refused 1 OutOfMemory"),
             CopyFault::Source(fault) => write!(f, "{fault}"),
-            CopyFault::UnreadLog(_, fault) => write!(f, "refused {} {fault}", fault.number()),
-            CopyFault::BadLog(_, fault) => write!(f, "refused {} {fault}", fault.number()),
+            CopyFault::Read(fault) => write!(f, "{fault}"),
             CopyFault::Target(fault) => write!(f, "{fault}"),
             CopyFault::IsThere => f.write_str("refused 53 IsThere"),
             CopyFault::Copy(fault) => write!(f, "refused {} {fault}", fault.number()),
@@ -58,9 +54,13 @@ impl fmt::Display for CopyFault {
     }
 }
 
-/// Writes the name of a log as a line of its own: `in 000003.log`.
-fn write_log<E: Write>(err: &mut E, number: u64) -> io::Result<()> {
-    writeln!(err, "in {number:06}.log")
+/// Writes why the source's manifest or a log of it was not read.
+fn explain_read<E: Write>(err: &mut E, fault: &SourceFault) -> io::Result<()> {
+    fault.explain(err, &[])?;
+    match fault {
+        SourceFault::Manifest(_) => writeln!(err, "in SRC"),
+        _ => Ok(()),
+    }
 }
 
 /// Writes why a database is not begun in the target.
@@ -99,14 +99,11 @@ impl Exit for CopyFault {
     fn refusal(&self) -> Option<u64> {
         match self {
             CopyFault::Source(fault) => fault.refusal(),
-            CopyFault::UnreadLog(_, fault) => Some(u64::from(fault.number())),
+            CopyFault::Read(fault) => fault.refusal(),
             CopyFault::Target(fault) => fault.refusal(),
             CopyFault::Copy(fault) => Some(u64::from(fault.number())),
             CopyFault::Tables(fault) => Some(u64::from(fault.number())),
-            CopyFault::OutOfMemory
-            | CopyFault::BadLog(_, _)
-            | CopyFault::IsThere
-            | CopyFault::Write => None,
+            CopyFault::OutOfMemory | CopyFault::IsThere | CopyFault::Write => None,
         }
     }
 
@@ -116,9 +113,7 @@ impl Exit for CopyFault {
                 fault.explain(err, &[])?;
                 writeln!(err, "in SRC")
             }
-            CopyFault::UnreadLog(number, _) | CopyFault::BadLog(number, _) => {
-                write_log(err, *number)
-            }
+            CopyFault::Read(fault) => explain_read(err, fault),
             CopyFault::Target(fault) => explain_target(err, fault),
             CopyFault::IsThere => writeln!(err, "DST has a database: a copy is made where none is"),
             CopyFault::OutOfMemory | CopyFault::Copy(_) | CopyFault::Tables(_) | CopyFault::Write =>
@@ -140,6 +135,14 @@ impl<T: Drop> From<AllocFailed<T>> for CopyFault {
 
     fn from(_error: AllocFailed<T>) -> CopyFault {
         CopyFault::OutOfMemory
+    }
+}
+
+impl From<SourceFault> for CopyFault {
+    ghost from_gives = { λ e f. f ≡ Read e };
+
+    fn from(error: SourceFault) -> CopyFault {
+        CopyFault::Read(error)
     }
 }
 

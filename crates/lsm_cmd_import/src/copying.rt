@@ -6,9 +6,9 @@ ghost use Rattle.lsm_shelf.specs.Stored.{Stored};
 ghost use Rattle.lsm_shelf.specs.Told.{Becomes};
 ghost use Rattle.lsm_manifest.specs.Shape.{IsShape};
 ghost use Rattle.lsm_manifest.specs.WholeEdit.{FitsShape};
-ghost use Rattle.lsm_import.specs.Copied.{IsFitting};
+ghost use Rattle.lsm_import.specs.Copied.{IsBegun, IsFitting};
 ghost use Rattle.lsm_import.specs.Copies.{OnlyPuts};
-ghost use Rattle.lsm_cmd_import.specs.Copying.{IsBegun, IsFilled, IsFinished, IsJudged, IsMade};
+ghost use Rattle.lsm_cmd_import.specs.Copying.{IsFilled, IsFinished, IsJudged, IsMade};
 ghost use Rattle.lsm_cmd_import.specs.Copying.{IsUnbegun, IsUnjudged, IsUnmade, IsUnmadeOf};
 ghost use Rattle.lsm_cmd_import.specs.declared.copy_fault.CopyFault.TheVariants.{OutOfMemory};
 

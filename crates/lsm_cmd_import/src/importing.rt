@@ -6,10 +6,10 @@ ghost use Rattle.lsm_cmd_import.specs.Imported.{IsImported, IsUnimported, moment
 
 use crate::copy_fault::CopyFault;
 use crate::copying::{Counts, copy};
-use crate::reading::{SourceRead, read_source};
 use crate::reply::CopyMade;
 use lsm_directory::FolderFile;
 use lsm_folder::FolderCalls;
+use lsm_log_files::{SourceRead, read_source};
 use lsm_table::{NamedShelf, Naming, Records, Shelf};
 use std::alloc::Global;
 use std::marker::Brand;
@@ -41,14 +41,14 @@ fn import_named<C: FolderCalls, N: Naming, S: Shelf, M: Naming, T: Shelf, R: Wai
 {
     let SourceRead {
         shape,
-        count,
+        numbers,
         logs,
         rest,
     } = read_source(rt, alloc, folder, files, source)?;
     let Counts { tables, entries } = copy(rt, alloc, source, target, records, &shape, logs)?;
     Ok(CopyMade {
         tables,
-        logs: count,
+        logs: numbers.len() as u64,
         entries,
         rest,
     })

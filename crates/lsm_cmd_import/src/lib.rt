@@ -1,18 +1,14 @@
 //! The command `import` of the program `lsm`: a copy of the database in a folder, which other
 //! commands may not read, in another folder.
 //!
-//! Stands on `lsm_import` for the copy, on `lsm_wal` for logs, on `lsm_verify` for its judgment, and
-//! on `lsm_directory` and `lsm_opening` for the two folders. Its contract: `run_import` makes a
+//! Stands on `lsm_import` for the copy, on `lsm_log_files` for the source's manifest and logs, on
+//! `lsm_verify` for the judgment, and on `lsm_directory` and `lsm_opening` for the two folders. Its contract: `run_import` makes a
 //! database that answers as the one that it read, with its logs; or says why not, and then the folder
 //! of the copy has none.
 #![tactic(auto)]
 
 // Why there is no copy.
 mod copy_fault;
-
-// What is read of the source beside its tables.
-mod log_files;
-mod reading;
 
 // The copy, and what is said of it.
 mod copying;

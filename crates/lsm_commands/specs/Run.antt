@@ -14,7 +14,7 @@ use Rattle.lsm_requests.specs.declared.input.Input.TheVariants.{Standard}
 use Rattle.lsm_grammar.specs.declared.request.Request.{Request}
 use Rattle.lsm_grammar.specs.declared.request.Request.TheVariants.{Convert, Look, Levels}
 use Rattle.lsm_grammar.specs.declared.request.Request.TheVariants.{Write as WriteFolder, Load, Compact}
-use Rattle.lsm_grammar.specs.declared.request.Request.TheVariants.{Import}
+use Rattle.lsm_grammar.specs.declared.request.Request.TheVariants.{Import, Recover}
 use Rattle.lsm_grammar.specs.declared.request.Request.TheVariants.{Script, Shell, Bench}
 use Rattle.lsm_grammar.specs.declared.writing_command.WritingCommand.{WritingCommand}
 use Rattle.lsm_grammar.specs.declared.writing_command.WritingCommand.TheVariants.{Ingest, WriteKey}
@@ -26,6 +26,8 @@ use Rattle.lsm_directory.specs.declared.faults.directory_fault.DirectoryFault.{D
 use Rattle.lsm_opening.specs.declared.faults.writer_fault.WriterFault.{WriterFault}
 use Rattle.lsm_cmd_import.specs.Imported.{FailsToImport, ImportsAt}
 use Rattle.lsm_cmd_import.specs.declared.copy_fault.CopyFault.{CopyFault}
+use Rattle.lsm_cmd_recover.specs.Recovered.{FailsToRecover, RecoversAt}
+use Rattle.lsm_cmd_recover.specs.declared.bring_fault.BringFault.{BringFault}
 use Rattle.lsm_cmd_levels.specs.Layout.{FailsToLayOut, LaysOutAt}
 use Rattle.lsm_cmd_load.specs.LoadedAt.{FailsToLoad, LoadsAt}
 use Rattle.lsm_cmd_read.specs.Looked.{FailsToLook, LooksAtGiven}
@@ -64,6 +66,8 @@ module _ {C M : Type 0} (folders : Ghosts C M) (marks : mark.Ghosts M) where
       × (IsFalse line.options.progress → Keeps said_old said_new)
   IsDone text (Import line) old new said_old said_new =
       ImportsAt folders marks line old new × Keeps said_old said_new
+  IsDone text (Recover path) old new said_old said_new =
+      RecoversAt folders marks path.now old new × Keeps said_old said_new
   IsDone text (Compact line) old new said_old said_new =
       IsCompactedAt folders line old new × (IsFalse line.options.progress → Keeps said_old said_new)
   IsDone text (Script input) old new said_old said_new =
@@ -108,6 +112,8 @@ module _ {C M : Type 0} (folders : Ghosts C M) (marks : mark.Ghosts M) where
       FailsToLoad folders marks line.path.now line.options (text line.input) old new
   IsUndone text (Import line) old new =
       (fault : CopyFault) × FailsToImport folders marks line fault old new
+  IsUndone text (Recover path) old new =
+      (fault : BringFault) × FailsToRecover folders marks path.now fault old new
   IsUndone text (Compact line) old new = IsUncompacted folders marks line old new
   IsUndone text (Script input) old new = IsUnplayed (text input) old new
   IsUndone text (Shell line) old new =

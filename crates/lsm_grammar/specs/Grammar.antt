@@ -173,6 +173,9 @@ load = command (codes "load") (folder ∷ file ∷ text ∷ begin ∷ beside_log
 unfoldable pub import_folder : App
 import_folder = command (codes "import") (word (codes "SRC") ∷ word (codes "DST") ∷ [])
 
+unfoldable pub recover : App
+recover = command (codes "recover") (folder ∷ [])
+
 unfoldable pub compact : App
 compact = command (codes "compact") (folder ∷ flag (codes "all") ∷ valued (codes "from")
     ∷ valued (codes "to") ∷ text ∷ workers ∷ accept_rest ∷ progress ∷ [])
@@ -220,9 +223,9 @@ with_looks =
 -- with those that write keys into a folder
 unfoldable pub with_writes : App
 with_writes =
-    with_subcommand (with_subcommand (with_subcommand
+    with_subcommand (with_subcommand (with_subcommand (with_subcommand
     (with_subcommand (with_subcommand with_looks ingest.top) put.top) delete.top) load.top)
-    import_folder.top
+    import_folder.top) recover.top
 
 -- all commands
 unfoldable pub lsm : App

@@ -460,6 +460,14 @@ fn import_in<'a>(found: &ArgMatches<'a>) -> Option<Request<'a>>
     Some(Request::Import(ImportLine { source, target }))
 }
 
+/// Logs that come into their folder's database.
+fn recover_in<'a>(found: &ArgMatches<'a>) -> Option<Request<'a>>
+    ensures { Reads CommandName.Recover (rows_in found.now) result }
+{
+    let path = word_in(found, "DIR")?;
+    Some(Request::Recover(path))
+}
+
 /// The bounds of a range that is compacted. `None` where a word spells no key.
 fn range_of(
     alloc: Global,
@@ -579,6 +587,7 @@ fn request_in<'a>(
         CommandName::Delete => delete_in(alloc, found),
         CommandName::Load => Ok(load_in(found)),
         CommandName::Import => Ok(import_in(found)),
+        CommandName::Recover => Ok(recover_in(found)),
         CommandName::Compact => compact_in(alloc, found),
         CommandName::Clean => Ok(clean_in(found)),
         CommandName::Shell => Ok(shell_in(found)),

@@ -493,6 +493,32 @@ copy is there; after `refused 9 Device` it may be.",
     example: "Example: mkdir copy && lsm import db copy",
 };
 
+const RECOVER: Page = Page {
+    name: "recover",
+    arguments: &[FOLDER],
+    about: "Brings the logs that are not flushed into the tables",
+    text: "Brings the write-ahead logs of the LevelDB folder DIR that are not flushed into
+its tables, as LevelDB does when it opens the folder, and prints
+`logs L entries E rest B`: of how many logs, `N.log`, the writes came in, as how
+many entries, and how many bytes at the ends of the manifest and of the logs
+hold no whole record, as a kill may leave them. Those bytes are left out.
+
+Of each key in the logs the last write comes in, as one table more at level 0;
+then a new manifest names it and the tables that are there, and reads none of
+the logs. They stay in the folder until LevelDB opens it. Where no log is to be
+read, nothing is written, and L is 0.
+
+The tables are read and checked before. A table or a log that is damaged is
+refused, and named. Compressed tables are `refused 16 Compressed`: `lsm import`
+copies such a folder. Where another program has the folder open it is
+`refused 52 Locked`. After a refusal the database is as it was, and its logs are
+still to be read; a table of them may be left, which `lsm clean` removes.
+
+Exit status: 0 done, 1 refused, 2 bad command line. After a `write fault` the
+logs are in; after `refused 9 Device` they may be.",
+    example: "Example: lsm recover db",
+};
+
 const COMPACT: Page = Page {
     name: "compact",
     arguments: &[
@@ -665,9 +691,9 @@ Exit status: 0 done, 1 refused, 2 bad command line, also where COMMAND is none."
 };
 
 /// The commands, in the order in which the overview lists them.
-pub(crate) const COMMANDS: [Page; 19] = [
+pub(crate) const COMMANDS: [Page; 20] = [
     MAKE_TABLE, DUMP, MANIFEST, SCRIPT, CHECK, LIST, LEVELS, GET, SCAN, INGEST, PUT, DELETE, LOAD,
-    IMPORT, COMPACT, CLEAN, SHELL, BENCH, HELP,
+    IMPORT, RECOVER, COMPACT, CLEAN, SHELL, BENCH, HELP,
 ];
 
 /// How a command is used.
@@ -689,6 +715,7 @@ fn usage(name: CommandName) -> &'static str {
         CommandName::Load =>
             "lsm load <DIR> [FILE] [--text] [--begin] [--beside-log] [--workers <N>] [--from-line <I>] [--progress]",
         CommandName::Import => "lsm import <SRC> <DST>",
+        CommandName::Recover => "lsm recover <DIR>",
         CommandName::Compact =>
             "lsm compact <DIR> [--all] [--from <KEY>] [--to <KEY>] [--text] [--workers <N>] [--accept-rest] [--progress]",
         CommandName::Clean => "lsm clean <DIR> [--accept-rest]",

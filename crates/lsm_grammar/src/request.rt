@@ -22,6 +22,8 @@ pub enum Request<'a> {
     Load(LoadLine<'a>),
     /// `import`.
     Import(ImportLine<'a>),
+    /// `recover` of a folder.
+    Recover(&'a str),
     /// `compact`.
     Compact(CompactLine<'a>),
     /// `script`: the commands that an input spells.

@@ -5,12 +5,14 @@ use Rattle.std.specs.Prelude.{length, Some}
 use Rattle.lsm_codec.specs.Lists.{Has}
 use Rattle.lsm_codec.specs.Entries.{Entry}
 use Rattle.lsm_shelf.specs.Asked.{Asked, StartManifest}
+use Rattle.lsm_shelf.specs.Told.{Becomes, Told, sending}
 use Rattle.lsm_shelf.specs.declared.shelf_fault.ShelfFault.{ShelfFault}
 use Rattle.lsm_table.specs.Table.{IsImage}
 use Rattle.lsm_table.specs.declared.table_options.TableOptions.{TableOptions}
 use Rattle.lsm_manifest.specs.EditFit.{Change, IsFit}
 use Rattle.lsm_manifest.specs.EditWriting.{edit_text}
 use Rattle.lsm_manifest.specs.LogWriting.{record_text}
+use Rattle.lsm_manifest.specs.Manifest.{IsManifest}
 use Rattle.lsm_manifest.specs.Replay.{FileAt}
 use Rattle.lsm_manifest.specs.Shape.{Form, IsRefused}
 use Rattle.lsm_manifest.specs.WholeEdit.{files_from, whole_edit}
@@ -21,6 +23,7 @@ use Rattle.lsm_batch.specs.declared.write.Write.{Write}
 use Rattle.lsm_wal.specs.WriteLog.{after, writes_of}
 use Rattle.lsm_wal.specs.declared.write_batch.WriteBatch.{WriteBatch}
 use Rattle.lsm_import.specs.Copies.{AreCopies, AreNotCopied, HasLastNumber, IsAbove, IsPutRefusal}
+use Rattle.lsm_import.specs.Copies.{OnlyPuts}
 use Rattle.lsm_import.specs.declared.copied.Copied.{Copied}
 use Rattle.lsm_import.specs.declared.import_fault.ImportFault.{ImportFault}
 use Rattle.lsm_import.specs.declared.import_fault.ImportFault.TheVariants.{OutOfMemory, Unread}
@@ -68,6 +71,10 @@ IsNotCopied From Into Unheld Denied options files fault =
     AreNotCopied From Unheld Denied options files fault
     ⊎ ((fault ≡ NumbersSpent) × ((copies : List FileAt) × (es : List Entry)
     × AreCopies From Into files copies es × HasLastNumber copies))
+
+-- LevelDB's usual options of tables
+abbrev pub usual : TableOptions
+usual = record { block_size = 4096; restart_interval = 16 }
 
 -- ---- logs
 
@@ -147,6 +154,13 @@ begun_edit copied = record copied.edit { next = Some (copied.next + 1) }
 -- the manifest's bytes
 abbrev pub manifest_of : Copied → List ℕ
 manifest_of copied = record_text 0 (edit_text (begun_edit copied))
+
+-- Tables were put, and then the manifest of the copy was begun: its one edit names just them.
+pub record IsBegun (whole : Copied) (was is : Told) : Type 0 where
+  pub mid : Told
+  pub puts : OnlyPuts was mid
+  pub begun : Becomes (sending whole.next (manifest_of whole) mid) is
+  pub manifest : IsManifest (manifest_of whole) (begun_edit whole ∷ []) 0
 
 -- Why no manifest is begun: memory ran out; or no file number is left; or the edit comes to no
 -- shape; or the target refuses.

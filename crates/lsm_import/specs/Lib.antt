@@ -2,4 +2,5 @@
 pub mod ImportFault
 pub mod Copies
 pub mod Copied
+pub mod Standing
 pub mod Answers

@@ -19,6 +19,9 @@ mod beginning;
 mod copied;
 mod logs;
 
+// A database that is not copied: it stands as it is.
+mod standing;
+
 // What it answers.
 mod laws;
 

@@ -1,7 +1,7 @@
 use Rattle.std.proofs.Common.{ap, ◌∙◌, inl, inr, refl, arith, sym}
 use Rattle.std.proofs.lemmas.Result.{err_from_is_err_and}
 use Rattle.lsm_shelf.specs.Stored.{Stored}
-use Rattle.lsm_cmd_import.proofs.MadeLaws.{writes_came}
+use Rattle.lsm_import.proofs.CallerLemmas.{writes_came}
 use Rattle.lsm_cmd_import.proofs.copying.fill.Goals as goal
 
 pub returns-in_err-before-clause-refused : goal.returns-in_err-before-clause-refused

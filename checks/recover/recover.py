@@ -1,0 +1,202 @@
+"""Recovers folders of LevelDB, whole and damaged: recover.py LSM LEVELDB WORK SEED FLIPS KILLS [KIND..]"""
+
+import os
+import random
+import re
+import shutil
+import subprocess
+import sys
+import time
+from pathlib import Path
+
+LSM, LEVELDB = sys.argv[1:3]
+WORK = Path(sys.argv[3])
+SEED, FLIPS, KILLS = map(int, sys.argv[4:7])
+LINE = re.compile(rb"logs (\d+) entries (\d+) rest (\d+)\n")
+REUSED = ["one_in_a_log", "batches", "bloom", "reopened_often", "two_logs", "tables_and_two_logs"]
+
+
+def run(*words, status=0, reuse=False):
+    environment = os.environ | ({"REUSE_LOGS": "1"} if reuse else {})
+    done = subprocess.run([str(word) for word in words], capture_output=True, timeout=600, env=environment)
+    if status is not None and done.returncode != status:
+        sys.exit(f"{words}: status {done.returncode}: {done.stderr.decode()}")
+    return done
+
+
+def fresh(name):
+    folder = WORK / name
+    shutil.rmtree(folder, ignore_errors=True)
+    return folder
+
+
+def copied(folder, name):
+    shutil.copytree(folder, fresh(name))
+    return WORK / name
+
+
+def files_of(folder):
+    return {path.name: path.read_bytes() for path in folder.iterdir() if path.name not in ("LOCK", "LOG", "LOG.old")}
+
+
+def pairs_by_leveldb(folder, reuse=False):
+    """What LevelDB reads of a copy of the folder, or none where it refuses it."""
+    done = run(LEVELDB, "scan", copied(folder, "scanned"), status=None, reuse=reuse)
+    return done.stdout if done.returncode == 0 else None
+
+
+def pairs_of(folder):
+    """What both read of a folder that `lsm check` takes, and in which no log is to be read."""
+    run(LSM, "check", folder, "--strict")
+    ours = run(LSM, "scan", folder, "--strict").stdout
+    for reuse in (False, True):
+        if ours != pairs_by_leveldb(folder, reuse):
+            sys.exit(f"{folder}: LevelDB reads other pairs there than lsm scan")
+        for number in re.findall(r"Recovering log #(\d+)", (WORK / "scanned" / "LOG").read_text()):
+            if (folder / f"{int(number):06}.log").stat().st_size > 0:
+                sys.exit(f"{folder}: LevelDB recovers log {number} there")
+    return ours
+
+
+def counted(many, word):
+    return f"{many} {word}" if many == 1 else f"{many} {word}s"
+
+
+def told_by(done, name):
+    told = LINE.fullmatch(done.stdout)
+    if done.returncode != 0 or not told or done.stderr.replace(b"lsm: unproved build\n", b""):
+        sys.exit(f"{name}: status {done.returncode}: {done.stdout.decode()}{done.stderr.decode()}")
+    return [int(word) for word in told.groups()]
+
+
+def again(folder, kind):
+    """A second recovery writes nothing, and a key comes in and is read by both."""
+    before = files_of(folder)
+    if told_by(run(LSM, "recover", folder, status=None), kind) != [0, 0, 0] or files_of(folder) != before:
+        sys.exit(f"{kind}: the second recovery has logs, or writes")
+    run(LSM, "put", folder, "7a7a7a", "31")
+    if b"7a7a7a=31\n" not in pairs_of(folder):
+        sys.exit(f"{kind}: a key that was put is not read")
+
+
+def beside_orphans(source, wanted, kind):
+    """Tables that no manifest names, as a kill leaves them, under the next numbers: none is written over."""
+    folder = copied(source, "orphans")
+    numbers = [int(number) for path in folder.iterdir() for number in re.findall(r"\d{6}", path.name)]
+    for number in range(max(numbers) + 1, max(numbers) + 4):
+        (folder / f"{number:06}.ldb").write_bytes(b"an orphan")
+    told_by(run(LSM, "recover", folder, status=None), kind)
+    if pairs_of(folder) != wanted or len([p for p in folder.glob("*.ldb") if p.read_bytes() == b"an orphan"]) != 3:
+        sys.exit(f"{kind}: beside orphans it has other pairs, or they are gone")
+
+
+def whole(kind, reuse):
+    source = fresh(f"whole_{kind}{'_reused' if reuse else ''}")
+    run(LEVELDB, "make", source, kind, reuse=reuse)
+    kind += " by reuse_logs" if reuse else ""
+    wanted = pairs_by_leveldb(source)
+    folder = copied(source, "recovered")
+    before = files_of(folder)
+    done = run(LSM, "recover", folder, status=None)
+    logs, entries, rest = told_by(done, kind)
+    there = sum(name.endswith(".log") and len(text) > 0 for name, text in before.items())
+    if (logs, rest) != (there, 0) or (entries == 0 and logs > 0 and wanted != pairs_of(folder)):
+        sys.exit(f"{kind}: {done.stdout.decode()}, but {there} logs")
+    after = files_of(folder)
+    if any(after.get(name) != text for name, text in before.items() if name.endswith((".ldb", ".log"))):
+        sys.exit(f"{kind}: a table or a log that was there is not as it was")
+    if pairs_of(folder) != wanted:
+        sys.exit(f"{kind}: it has other pairs")
+    again(folder, kind)
+    beside_orphans(source, wanted, kind)
+    print(f"{kind}: {done.stdout.decode().strip()}, {counted(wanted.count(10), 'pair')}, the same", flush=True)
+    return source, wanted
+
+
+def damage(drawn, target):
+    """Damages a table or a log: the file, and what was done to it."""
+    files = sorted(path for path in target.iterdir() if path.suffix in (".ldb", ".log"))
+    files = [path for path in files if path.stat().st_size > 0]
+    logs = [path for path in files if path.suffix == ".log"]
+    path = drawn.choice(logs if logs and drawn.random() < 0.5 else files)
+    data = bytearray(path.read_bytes())
+    if drawn.random() < 0.15:
+        place = drawn.randrange(len(data))
+        path.write_bytes(data[:place])
+        return path, f"{path.name} cut at {place}"
+    place = drawn.randrange(len(data))
+    if path.suffix == ".ldb" and drawn.random() < 0.3:
+        place = len(data) - 1 - drawn.randrange(min(len(data), 300))
+    data[place] ^= 1 << drawn.randrange(8)
+    path.write_bytes(data)
+    return path, f"a bit of byte {place} of {path.name} flipped"
+
+
+def damaged(sources):
+    drawn = random.Random(SEED)
+    refused = same = rest = 0
+    for turn in range(FLIPS if sources else 0):
+        source, wanted = drawn.choice(sources)
+        folder = copied(source, "damaged")
+        path, what = damage(drawn, folder)
+        name = f"{source.name.removeprefix('whole_')}, turn {turn}, {what} (seed {SEED})"
+        before = files_of(folder)
+        theirs = pairs_by_leveldb(folder)
+        done = run(LSM, "recover", folder, status=None)
+        if done.returncode == 1:
+            after = files_of(folder)
+            if done.stdout or any(after.get(kept) != text for kept, text in before.items()):
+                sys.exit(f"{name}: refused, and a line was printed, or a file is not as it was")
+            if b"refused " not in done.stderr:
+                sys.exit(f"{name}: {done.stderr.decode()}")
+            refused += 1
+            continue
+        told = told_by(done, name)
+        if told == [0, 0, 0] and path.stat().st_size == 0:
+            rest += 1
+            continue
+        pairs = pairs_of(folder)
+        if pairs == wanted:
+            same += 1
+        elif path.suffix == ".log" and (told[2] > 0 or " cut " in what) and pairs == theirs:
+            rest += 1
+        else:
+            sys.exit(f"{name}: it has other pairs than the whole folder has, and than LevelDB reads")
+    return refused, same, rest
+
+
+def killed(sources):
+    drawn = random.Random(SEED)
+    stopped = 0
+    for turn in range(KILLS if sources else 0):
+        source, wanted = drawn.choice(sources)
+        name = f"{source.name.removeprefix('whole_')}, kill {turn} (seed {SEED})"
+        began = time.monotonic()
+        run(LSM, "recover", copied(source, "timed"))
+        lasts = time.monotonic() - began
+        folder = copied(source, "killed")
+        process = subprocess.Popen([LSM, "recover", folder], stdout=subprocess.PIPE, stderr=subprocess.DEVNULL)
+        time.sleep(lasts * drawn.random())
+        process.kill()
+        said = process.communicate()[0]
+        stopped += not said
+        if pairs_by_leveldb(folder) != wanted:
+            sys.exit(f"{name}: LevelDB reads other pairs behind it")
+        run(LSM, "recover", folder)
+        if pairs_of(folder) != wanted:
+            sys.exit(f"{name}: the next recovery has other pairs")
+    return stopped
+
+
+def main():
+    kinds = sys.argv[7:] or run(LEVELDB, "kinds").stdout.decode().split()
+    sources = [whole(kind, reuse) for kind in kinds for reuse in (False, True) if not reuse or kind in REUSED]
+    sources = [source for source in sources if any(path.stat().st_size > 0 for path in source[0].glob("*.log"))]
+    refused, same, rest = damaged(sources)
+    stopped = killed(sources)
+    print(f"{counted(len(kinds), 'kind')} of folders recovered: LevelDB and lsm read the same pairs; of {FLIPS} with"
+          f" damage {refused} refused, {same} the same, {rest} as LevelDB reads a cut log; of {KILLS} that were killed"
+          f" {stopped} in time, nothing was lost (seed {SEED})")
+
+
+main()

@@ -1,0 +1,23 @@
+#!/usr/bin/env bash
+# Recovers folders of the real LevelDB (Debian's libleveldb-dev) with a log that is not flushed, or
+# two after a kill: the kinds of checks/import/folders.cc, with blocks that are not compressed, and
+# some of them once more by LevelDB's `reuse_logs`. Of each one is made and recovered; then LevelDB,
+# with `reuse_logs` and without, and `lsm scan` read what LevelDB read before, LevelDB recovers no log,
+# `lsm put` comes in, and a second recovery writes nothing. Then FLIPS (200) copies of folders with a
+# bit of a table or a log flipped, or an end cut off: each is refused, and its files are as they were;
+# or it has the same pairs; or those that LevelDB reads of it, behind bytes that are told as the rest.
+# And KILLS (100) times a recovery is killed at any moment: LevelDB reads the same pairs, and the next
+# recovery is done. Words name kinds (none: all). SEED draws. Prints a line each, and stops at the first
+# that is otherwise. Needs g++, libleveldb-dev, python3; LSM=/path/to/lsm names a program.
+set -euo pipefail
+here=$(cd "$(dirname "$0")" && pwd)
+top=$(cd "$here/../.." && pwd)
+lsm=${LSM:-$("$top/tools/program")}
+seed=${SEED:-$RANDOM}
+work=$(mktemp -d)
+trap 'rm -rf "$work"' EXIT
+reuse='options.reuse_logs = std::getenv("REUSE_LOGS") != nullptr;'
+sed -e "s/options.env = env;/&\n  options.compression = leveldb::kNoCompression;\n  $reuse/" \
+    -e "s/^  options.filter_policy = .*/&\n  $reuse/" "$here/../import/folders.cc" > "$work/folders.cc"
+g++ -O2 -Wall -o "$work/leveldb" "$work/folders.cc" -lleveldb
+python3 "$here/recover.py" "$lsm" "$work/leveldb" "$work" "$seed" "${FLIPS:-200}" "${KILLS:-100}" "$@"

@@ -1,7 +1,0 @@
-use Rattle.std.proofs.Common.{rules}
-use Rattle.std.specs.Prelude.{decimal}
-use Rattle.lsm_directory.proofs.CallerLemmas.{padded_integral_six}
-use Rattle.lsm_cmd_import.proofs.log_files.digits_of.Goals as goal
-
-pub returns : goal.returns
-returns c = search (rules, padded_integral_six (decimal c.args.number))

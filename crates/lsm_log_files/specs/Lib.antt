@@ -1,0 +1,3 @@
+-- What public clauses cite, and so what a caller reads
+pub mod Logs
+pub mod Source
