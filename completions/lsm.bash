@@ -20,7 +20,7 @@ _lsm() {
     ingest) options='--text --begin --beside-log --help' places='DIR FILE' ;;
     put) options='--text --begin --beside-log --help' places='DIR KEY VALUE' ;;
     delete) options='--text --begin --beside-log --help' places='DIR KEY' ;;
-    load) options='--text --begin --beside-log --workers --from-line --progress --help' places='DIR FILE' ;;
+    load) options='--text --begin --beside-log --workers --from-line --last-line --progress --help' places='DIR FILE' ;;
     import) options='--help' places='SRC DST' ;;
     recover) options='--help' places='DIR' ;;
     compact) options='--all --from --to --text --workers --accept-rest --progress --help' places='DIR' ;;

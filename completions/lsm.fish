@@ -109,6 +109,7 @@ complete -c lsm -n '__lsm_is load' -l begin -d 'Begin a database also where CURR
 complete -c lsm -n '__lsm_is load' -l beside-log -d 'Go on also where LevelDB has not flushed its log'
 complete -c lsm -n '__lsm_is load' -l workers -x -d 'How many threads compact, 1 to 8 [default: 2]'
 complete -c lsm -n '__lsm_is load' -l from-line -x -d 'The first line that is loaded, from 1 [default: 1]'
+complete -c lsm -n '__lsm_is load' -l last-line -d 'Load the last line also without its newline'
 complete -c lsm -n '__lsm_is load' -l progress -d 'Say on standard error how far it is'
 complete -c lsm -n '__lsm_is load' -l help -d 'Print help'
 complete -c lsm -n '__lsm_is' -a import -d 'Copies a database, with its compressed tables and its logs'

@@ -92,6 +92,7 @@ before_line : (old : Pending) (found now : Marked) (p : Progress) (fault : Write
 before_line old found now p (lines.BadLine place) s = (s.0, [], s.1)
 before_line old found now p lines.LongLine s = (s.0, [], s.1)
 before_line old found now p lines.LargeWrite s = (s.0, [], s.1)
+before_line old found now p lines.NoNewline s = (s.0, [], s.1)
 before_line old found now p lines.Read s = (s.0, [], s.1)
 before_line old found now p lines.OutOfMemory s = s
 

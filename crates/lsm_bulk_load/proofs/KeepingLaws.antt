@@ -22,7 +22,7 @@ use Rattle.lsm_bulk_load.specs.Keeping.{AreStepsOf, HasComeTo, HasGrown, IsKeptB
 use Rattle.lsm_bulk_load.specs.Loading.{Loads}
 use Rattle.lsm_bulk_load.specs.Marks.{Marked, marked_in}
 use Rattle.lsm_bulk_load.specs.declared.progress.Progress.{Progress}
-use Rattle.lsm_bulk_load.proofs.LoadLaws.{came_more, came_none, gathers_then}
+use Rattle.lsm_bulk_load.proofs.LoadLaws.{SameForm, came_more, came_none, gathers_then}
 use Rattle.lsm_bulk_load.proofs.MarkLaws.{ingested_last, same_marked}
 
 -- ---- batches of lines
@@ -31,6 +31,7 @@ gathers_by : (old : Pending) (ws : List Write) (fault : WriteLineFault) → Stop
 gathers_by old ws (lines.BadLine place) s = (s.0, [], s.1)
 gathers_by old ws lines.LongLine s = (s.0, [], s.1)
 gathers_by old ws lines.LargeWrite s = (s.0, [], s.1)
+gathers_by old ws lines.NoNewline s = (s.0, [], s.1)
 gathers_by old ws lines.Read s = (s.0, [], s.1)
 gathers_by old ws lines.OutOfMemory s = s
 
@@ -40,7 +41,7 @@ gathers_of old new ws End e = (e.0, [], e.1)
 gathers_of old new ws (Stopped fault) e = gathers_by old ws fault e
 
 -- the batch that is gathered behind the lines that are in
-next_of_lines : (old mid new : Pending) (found now : Marked) (p : Progress) (r : Gathered) → mid.form ≡ old.form → Loads old mid.left mid.held found now p → IsGathered mid new r → IsOfLines old r.batch
+next_of_lines : (old mid new : Pending) (found now : Marked) (p : Progress) (r : Gathered) → SameForm mid old → Loads old mid.left mid.held found now p → IsGathered mid new r → IsOfLines old r.batch
 next_of_lines old mid new found now p r form l g =
     let by = gathers_of mid new g.ws r.end g.ends in
     record {
@@ -52,7 +53,7 @@ next_of_lines old mid new found now p r form l g =
       last = g.last;
     }
 
-pub kept_next : (Refused : Asked → ShelfFault → Type 0) (keeps : Held → Type 0) (old mid : Pending) (found now : Marked) (p : Progress) → IsKeptByAll Refused (IsOfLines old) keeps → mid.form ≡ old.form
+pub kept_next : (Refused : Asked → ShelfFault → Type 0) (keeps : Held → Type 0) (old mid : Pending) (found now : Marked) (p : Progress) → IsKeptByAll Refused (IsOfLines old) keeps → SameForm mid old
     → Loads old mid.left mid.held found now p → IsKeptByNext Refused mid keeps
 kept_next Refused keeps old mid found now p asked form l new r g = asked r.batch (next_of_lines old mid new found now p r form l g)
 

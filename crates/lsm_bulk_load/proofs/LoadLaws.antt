@@ -1,6 +1,6 @@
 -- Lines that come in, batch by batch.
 use Rattle.std.proofs.Common.{◌≡◌, ℕ, suc, ◌+◌, ◌*◌, ◌<◌, ◌≤◌, List, [], ◌∷◌, ◌++◌, length, Option, Some, None, refl, sym, ap, ◌∙◌, subst, append_assoc, append-nil, length-append, inl, inr, arith}
-use Rattle.std.specs.Prelude.{◌⊎◌, ◌^◌}
+use Rattle.std.specs.Prelude.{◌⊎◌, ◌^◌, Bool, IsFalse}
 use Rattle.lsm_codec.specs.Entries.{Entry}
 use Rattle.lsm_text.specs.EntryList.{lines_of}
 use Rattle.lsm_text.specs.BatchText.{AreWriteLines}
@@ -8,6 +8,7 @@ use Rattle.lsm_text.specs.declared.form.Form.{Form}
 use Rattle.lsm_batch.specs.Batches.{entries_from}
 use Rattle.lsm_batch.specs.declared.write.Write.{Write}
 use Rattle.lsm_lines.specs.Gathering.{Gathers, IsGathered, Pending, Reads, Stops, TakesLines}
+use Rattle.lsm_lines.specs.Reading.{IsWhole, TakesWhole}
 use Rattle.lsm_lines.specs.declared.gathered.Gathered.{Gathered}
 use Rattle.lsm_lines.specs.declared.gathered.BatchEnd.{BatchEnd}
 use Rattle.lsm_lines.specs.declared.gathered.BatchEnd.TheVariants.{Full, End, Stopped}
@@ -50,14 +51,34 @@ reads_then form old mid new ws vs r s = record {
   spelled = spelled_then form r.lines s.lines ws vs r.spelled s.spelled;
 }
 
+-- the same form, and the last line may lack its newline in both or in neither
+abbrev pub SameForm : Pending → Pending → Type 0
+SameForm new old = (new.form ≡ old.form) × (new.last ≡ old.last)
+
+whole_then : (a b : List ℕ) → IsWhole a → IsWhole b → IsWhole (a ++ b)
+whole_then a b x (inl none) = subst IsWhole (sym (ap (λ (l : List ℕ). a ++ l) none ∙ append-nil a)) x
+whole_then a b x (inr y) = inr (a ++ y.0, ap (λ (l : List ℕ). a ++ l) y.1 ∙ sym (append_assoc a y.0 (10 ∷ [])))
+
+takes_whole_none : (old : Option (List ℕ)) → TakesWhole old old
+takes_whole_none None = tt
+takes_whole_none (Some xs) = ([], refl, inl refl)
+
+takes_whole_then : (old mid new : Option (List ℕ)) → TakesWhole old mid → TakesWhole mid new → TakesWhole old new
+takes_whole_then None mid new t u = tt
+takes_whole_then (Some xs) None new t u = absurd t
+takes_whole_then (Some xs) (Some ys) None t u = absurd u
+takes_whole_then (Some xs) (Some ys) (Some zs) t u =
+    (t.0 ++ u.0, t.1 ∙ ap (λ (l : List ℕ). t.0 ++ l) u.1 ∙ sym (append_assoc t.0 u.0 zs), whole_then t.0 u.0 t.2 u.2)
+
 -- what was held back stands in front of what is gathered next
-pub gathers_then : (old mid : Pending) (left : Option (List ℕ)) (held ws vs : List Write) → mid.form ≡ old.form → Gathers old mid.left mid.held ws → Gathers mid left held vs
+pub gathers_then : (old mid : Pending) (left : Option (List ℕ)) (held ws vs : List Write) → SameForm mid old → Gathers old mid.left mid.held ws → Gathers mid left held vs
     → Gathers old left held (ws ++ vs)
 gathers_then old mid left held ws vs form g h = (
   g.0 ++ h.0,
-  reads_then old.form old.left mid.left left g.0 h.0 g.1 (subst (λ (f : Form). Reads f mid.left left h.0) form h.1),
+  reads_then old.form old.left mid.left left g.0 h.0 g.1 (subst (λ (f : Form). Reads f mid.left left h.0) form.0 h.1),
   sym (append_assoc old.held g.0 h.0) ∙ ap (λ (l : List Write). l ++ h.0) g.2 ∙ append_assoc ws mid.held h.0
       ∙ ap (λ (l : List Write). ws ++ l) h.2 ∙ sym (append_assoc ws vs held),
+  λ whole. takes_whole_then old.left mid.left left (g.3 whole) (h.3 (subst IsFalse (sym form.1) whole)),
 )
 
 -- ---- batches, one after another
@@ -88,7 +109,7 @@ loads_none old found p none lines count = record {
   batches = [];
   cut = cut_none;
   came = came_none found;
-  gathers = ([], record { lines = []; taken = takes_none old.left; spelled = tt }, append-nil old.held);
+  gathers = ([], record { lines = []; taken = takes_none old.left; spelled = tt }, append-nil old.held, λ whole. takes_whole_none old.left);
   lines = lines;
   count = count;
 }
@@ -96,7 +117,7 @@ loads_none old found p none lines count = record {
 length_more : {X : Type 0} (xs : List X) (x : X) → length (xs ++ x ∷ []) ≡ length xs + 1
 length_more xs x = length-append xs (x ∷ [])
 
-pub loads_more : (old mid : Pending) (left : Option (List ℕ)) (held ws : List Write) (found was now : Marked) (p q : Progress) → mid.form ≡ old.form
+pub loads_more : (old mid : Pending) (left : Option (List ℕ)) (held ws : List Write) (found was now : Marked) (p q : Progress) → SameForm mid old
     → Loads old mid.left mid.held found was p → Gathers mid left held ws → NoneCame ws was now p q ⊎ BatchCame ws was now p q → Loads old left held found now q
 loads_more old mid left held [] found was now p q form l g (inl none) =
     let whole : l.ws ++ [] ≡ l.ws = append-nil l.ws in
@@ -127,6 +148,7 @@ pub taken_none : (old new : Pending) (r : Gathered) (was : Marked) (p : Progress
 taken_none old new r was p g none = record {
   ws = g.ws;
   form = g.form;
+  last_line = g.last_line;
   few = omega (arith, g.count, none);
   ends = g.ends;
   came = inl (sym g.count ∙ none, refl, refl);
@@ -137,6 +159,7 @@ pub taken_some : (old new : Pending) (r : Gathered) (was now : Marked) (p q : Pr
 taken_some old new r was now p q g few comes is = record {
   ws = g.ws;
   form = g.form;
+  last_line = g.last_line;
   few = omega (arith, g.count, few);
   ends = g.ends;
   came = inr (record {
@@ -161,10 +184,11 @@ not_taken Refused keeps old new r was now Due g k = absurd k
 -- ---- the end of a load
 
 -- the same lines that were to come, as their parts
-same_pending : (old mid : Pending) → mid.form ≡ old.form → mid ≡ record { form = old.form; held = mid.held; left = mid.left }
-same_pending old mid form = ap (λ (f : Form). record { form = f; held = mid.held; left = mid.left }) form
+same_pending : (old mid : Pending) → SameForm mid old → mid ≡ record { form = old.form; last = old.last; held = mid.held; left = mid.left }
+same_pending old mid form =
+    ap (λ (f : Form). record { form = f; last = mid.last; held = mid.held; left = mid.left }) form.0 ∙ ap (λ (b : Bool). record { form = old.form; last = b; held = mid.held; left = mid.left }) form.1
 
-kept_next_out : (Refused : Asked → ShelfFault → Type 0) (keeps : Held → Type 0) (old mid : Pending) (found was now : Marked) (p : Progress) (fault : StateFault) → mid.form ≡ old.form
+kept_next_out : (Refused : Asked → ShelfFault → Type 0) (keeps : Held → Type 0) (old mid : Pending) (found was now : Marked) (p : Progress) (fault : StateFault) → SameForm mid old
     → Loads old mid.left mid.held found was p → IsNotTaken Refused keeps mid was now (Ingest fault) → KeepsNextOut Refused keeps old found now p fault
 kept_next_out Refused keeps old mid found was now p fault form l k =
     let same : now ≡ was = k.3.0 in
@@ -175,7 +199,7 @@ kept_next_out Refused keeps old mid found was now p fault form l k =
       subst (λ (q : Pending). IsNotTaken Refused keeps q now now (Ingest fault)) (same_pending old mid form) here,
     )
 
-pub stopped_short : (Refused : Asked → ShelfFault → Type 0) (keeps : Held → Type 0) (old mid : Pending) (found was now : Marked) (p : Progress) (e : LoadFault) → mid.form ≡ old.form
+pub stopped_short : (Refused : Asked → ShelfFault → Type 0) (keeps : Held → Type 0) (old mid : Pending) (found was now : Marked) (p : Progress) (e : LoadFault) → SameForm mid old
     → Loads old mid.left mid.held found was p → IsNotTaken Refused keeps mid was now e → IsStopped Refused keeps old found now p e
 stopped_short Refused keeps old mid found was now p OutOfMemory form l k =
     (mid.left, mid.held, subst (λ (m : Marked). Loads old mid.left mid.held found m p) (sym k) l)
@@ -187,27 +211,28 @@ stopped_short Refused keeps old mid found was now p (Worker fault) form l k = ab
 stopped_short Refused keeps old mid found was now p Due form l k = absurd k.3
 
 -- one batch more, up to here
-pub on : (old mid new : Pending) (left : Option (List ℕ)) (held : List Write) (found was now : Marked) (p q : Progress) (end : BatchEnd) → mid.form ≡ old.form
+pub on : (old mid new : Pending) (left : Option (List ℕ)) (held : List Write) (found was now : Marked) (p q : Progress) (end : BatchEnd) → SameForm mid old
     → Loads old mid.left mid.held found was p → (t : TakesBatch mid new was now p q end) → Gathers mid left held t.ws → Loads old left held found now q
 on old mid new left held found was now p q end form l t g = loads_more old mid left held t.ws found was now p q form l g t.came
 
 -- all lines are in
-pub ended : (old mid new : Pending) (found was now : Marked) (p q : Progress) → mid.form ≡ old.form → Loads old mid.left mid.held found was p → TakesBatch mid new was now p q End
+pub ended : (old mid new : Pending) (found was now : Marked) (p q : Progress) → SameForm mid old → Loads old mid.left mid.held found was p → TakesBatch mid new was now p q End
     → IsLoaded old found now q
 ended old mid new found was now p q form l t = (t.ends.0, on old mid new t.ends.0 [] found was now p q End form l t t.ends.1, t.ends.2)
 
 -- the next line is no write of a batch
-stops_behind : (old mid new : Pending) (found was now : Marked) (p q : Progress) (fault : WriteLineFault) → mid.form ≡ old.form → Loads old mid.left mid.held found was p
+stops_behind : (old mid new : Pending) (found was now : Marked) (p q : Progress) (fault : WriteLineFault) → SameForm mid old → Loads old mid.left mid.held found was p
     → (t : TakesBatch mid new was now p q (Stopped fault)) → (left : Option (List ℕ)) → Gathers mid left [] t.ws → Stops mid.form left fault
     → (left : Option (List ℕ)) × Loads old left [] found now q × Stops old.form left fault
 stops_behind old mid new found was now p q fault form l t left g s =
-    (left, on old mid new left [] found was now p q (Stopped fault) form l t g, subst (λ (f : Form). Stops f left fault) form s)
+    (left, on old mid new left [] found was now p q (Stopped fault) form l t g, subst (λ (f : Form). Stops f left fault) form.0 s)
 
-pub stopped_behind : (old mid new : Pending) (found was now : Marked) (p q : Progress) (fault : WriteLineFault) → mid.form ≡ old.form → Loads old mid.left mid.held found was p
+pub stopped_behind : (old mid new : Pending) (found was now : Marked) (p q : Progress) (fault : WriteLineFault) → SameForm mid old → Loads old mid.left mid.held found was p
     → TakesBatch mid new was now p q (Stopped fault) → StopsBehind old found now q fault
 stopped_behind old mid new found was now p q (lines.BadLine place) form l t = stops_behind old mid new found was now p q (lines.BadLine place) form l t t.ends.0 t.ends.1 t.ends.2
 stopped_behind old mid new found was now p q lines.LongLine form l t = stops_behind old mid new found was now p q lines.LongLine form l t t.ends.0 t.ends.1 t.ends.2
 stopped_behind old mid new found was now p q lines.LargeWrite form l t = stops_behind old mid new found was now p q lines.LargeWrite form l t t.ends.0 t.ends.1 t.ends.2
+stopped_behind old mid new found was now p q lines.NoNewline form l t = stops_behind old mid new found was now p q lines.NoNewline form l t t.ends.0 t.ends.1 t.ends.2
 stopped_behind old mid new found was now p q lines.Read form l t = stops_behind old mid new found was now p q lines.Read form l t t.ends.0 t.ends.1 t.ends.2
 stopped_behind old mid new found was now p q lines.OutOfMemory form l t =
     (t.ends.0, t.ends.1, on old mid new t.ends.0 t.ends.1 found was now p q (Stopped lines.OutOfMemory) form l t t.ends.2)
@@ -235,17 +260,17 @@ room_of_batches turn p h k = omega (arith, h, k)
 
 -- ---- one turn, by what ended its batch
 
-pub full_on : (old mid new : Pending) (found was now : Marked) (p q : Progress) (end : BatchEnd) → end ≡ Full → mid.form ≡ old.form → Loads old mid.left mid.held found was p
-    → TakesBatch mid new was now p q end → Loads old new.left new.held found now q × (new.form ≡ old.form)
+pub full_on : (old mid new : Pending) (found was now : Marked) (p q : Progress) (end : BatchEnd) → end ≡ Full → SameForm mid old → Loads old mid.left mid.held found was p
+    → TakesBatch mid new was now p q end → Loads old new.left new.held found now q × SameForm new old
 full_on old mid new found was now p q end is form l t =
     let u = subst (λ (e : BatchEnd). TakesBatch mid new was now p q e) is t in
-    (on old mid new new.left new.held found was now p q Full form l u u.ends.0, u.form ∙ form)
+    (on old mid new new.left new.held found was now p q Full form l u u.ends.0, (u.form ∙ form.0, u.last_line ∙ form.1))
 
-pub end_on : (old mid new : Pending) (found was now : Marked) (p q : Progress) (end : BatchEnd) → end ≡ End → mid.form ≡ old.form → Loads old mid.left mid.held found was p
+pub end_on : (old mid new : Pending) (found was now : Marked) (p q : Progress) (end : BatchEnd) → end ≡ End → SameForm mid old → Loads old mid.left mid.held found was p
     → TakesBatch mid new was now p q end → IsLoaded old found now q
 end_on old mid new found was now p q end is form l t = ended old mid new found was now p q form l (subst (λ (e : BatchEnd). TakesBatch mid new was now p q e) is t)
 
-pub stopped_on : (old mid new : Pending) (found was now : Marked) (p q : Progress) (end : BatchEnd) (fault : WriteLineFault) → end ≡ Stopped fault → mid.form ≡ old.form
+pub stopped_on : (old mid new : Pending) (found was now : Marked) (p q : Progress) (end : BatchEnd) (fault : WriteLineFault) → end ≡ Stopped fault → SameForm mid old
     → Loads old mid.left mid.held found was p → TakesBatch mid new was now p q end → StopsBehind old found now q fault
 stopped_on old mid new found was now p q end fault is form l t =
     stopped_behind old mid new found was now p q fault form l (subst (λ (e : BatchEnd). TakesBatch mid new was now p q e) is t)

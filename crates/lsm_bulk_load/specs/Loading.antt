@@ -63,6 +63,7 @@ pub record TakesBatch (old new : Pending) (was now : Marked) (p q : Progress) (e
     : Type 0 where
   pub ws : List Write
   pub form : new.form ≡ old.form
+  pub last_line : new.last ≡ old.last
   pub few : length ws < 2 ^ 64
   pub ends : EndsBy old new ws end
   pub came : NoneCame ws was now p q ⊎ BatchCame ws was now p q
@@ -108,8 +109,8 @@ abbrev pub KeepsNextOut : (Asked → ShelfFault → Type 0) → (Held → Type 0
     → (found now : Marked) → Progress → StateFault → Type 0
 KeepsNextOut Refused keeps old found now p fault =
     (left : Option (List ℕ)) × (held : List Write) × Loads old left held found now p
-    × IsNotTaken Refused keeps (record { form = old.form; held = held; left = left }) now now
-    (Ingest fault)
+    × IsNotTaken Refused keeps
+    (record { form = old.form; last = old.last; held = held; left = left }) now now (Ingest fault)
 
 -- Which lines are in a store, up to this mark, and why not all are.
 abbrev pub IsStopped : (Asked → ShelfFault → Type 0) → (Held → Type 0) → Pending

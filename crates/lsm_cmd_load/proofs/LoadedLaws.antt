@@ -8,7 +8,7 @@ use Rattle.lsm_shelf.specs.declared.shelf_fault.ShelfFault.{ShelfFault}
 use Rattle.lsm_slots.specs.Slots.{Looked, Slotted}
 use Rattle.lsm_state.specs.Held.{Held}
 use Rattle.lsm_state.specs.declared.state_fault.StateFault.{StateFault}
-use Rattle.lsm_text.specs.declared.form.Form.{Form}
+use Rattle.lsm_requests.specs.declared.load_options.LoadOptions.{LoadOptions}
 use Rattle.lsm_directory.specs.declared.folder.folder_file.FolderFile.{FolderFile}
 use Rattle.lsm_lines.specs.Gathering.{Pending}
 use Rattle.lsm_lines.specs.Passing.{PassesLines}
@@ -22,11 +22,11 @@ use Rattle.lsm_opening.specs.declared.prepared.Start.{Start}
 use Rattle.lsm_cmd_load.specs.Loaded.{HasComeBy, IsToCome, IsUnswept, LoadsAll, LoadsWhole}
 
 -- the lines that are still to come, behind those that were passed over
-pub to_come : (form : Form) (from count : ℕ) (input : Option (List ℕ)) (old new : Pending) → old ≡ record { form = form; held = []; left = input } → count ≡ from - 1
-    → PassesLines count old.left new.left → new ≡ record old { left = new.left } → IsToCome from form input new
-to_come form from count input old new made is passed rest = (
+pub to_come : (options : LoadOptions) (count : ℕ) (input : Option (List ℕ)) (old new : Pending) → old ≡ record { form = options.ingest.form; last = options.last_line; held = []; left = input }
+    → count ≡ options.from_line - 1 → PassesLines count old.left new.left → new ≡ record old { left = new.left } → IsToCome options input new
+to_come options count input old new made is passed rest = (
   new.left,
-  subst (λ (x : Option (List ℕ)). PassesLines (from - 1) x new.left) (ap (λ (p : Pending). p.left) made)
+  subst (λ (x : Option (List ℕ)). PassesLines (options.from_line - 1) x new.left) (ap (λ (p : Pending). p.left) made)
       (subst (λ n. PassesLines n old.left new.left) is passed),
   rest ∙ ap (λ (p : Pending). record p { left = new.left }) made,
 )

@@ -9,7 +9,6 @@ use Rattle.lsm_shelf.specs.declared.shelf_fault.ShelfFault.{ShelfFault}
 use Rattle.lsm_slots.specs.Slots.{Looked}
 use Rattle.lsm_state.specs.Held.{Held, IsLawfulState}
 use Rattle.lsm_state.specs.declared.state_fault.StateFault.{StateFault}
-use Rattle.lsm_text.specs.declared.form.Form.{Form}
 use Rattle.lsm_requests.specs.declared.load_options.LoadOptions.{LoadOptions}
 use Rattle.lsm_directory.specs.declared.folder.folder_file.FolderFile.{FolderFile}
 use Rattle.lsm_lines.specs.Gathering.{Pending}
@@ -126,18 +125,23 @@ IsLoadFault Stored Refused Honest start logs from pending Write was is =
 
 -- ---- of an input
 
--- What is to come of it, in this form, behind the lines before the one of this number, counted from
--- 1.
-abbrev pub IsToCome : ℕ → Form → Option (List ℕ) → Pending → Type 0
-IsToCome from form input pending =
-    (rest : Option (List ℕ)) × PassesLines (from - 1) input rest
-    × (pending ≡ record { form = form; held = []; left = rest })
+-- What is to come of it, as options say: in their form, behind the lines before the one of their
+-- number, counted from 1; the last line may lack its newline where they say so.
+abbrev pub IsToCome : LoadOptions → Option (List ℕ) → Pending → Type 0
+IsToCome options input pending =
+    (rest : Option (List ℕ)) × PassesLines (options.from_line - 1) input rest
+    × (pending ≡ record {
+      form = options.ingest.form;
+      last = options.last_line;
+      held = [];
+      left = rest;
+    })
 
 -- That came in, and how much it was is written.
 abbrev pub IsInputLoaded : (Asked → ShelfFault → Type 0) → Type 0 → Start → List FolderFile
     → LoadOptions → Option (List ℕ) → Told → Told → Option (List ℕ) → Option (List ℕ) → Type 0
 IsInputLoaded Refused Honest start logs options input was is old new =
-    (pending : Pending) × IsToCome options.from_line options.ingest.form input pending
+    (pending : Pending) × IsToCome options input pending
     × IsLoadDone Refused Honest start logs pending was is old new
 
 -- Memory ran out, or the input could not be read, before the shelf was asked for anything; or a
@@ -146,7 +150,7 @@ abbrev pub IsInputFault : (ℕ → List ℕ → Type 0) → (Asked → ShelfFaul
     → List FolderFile → LoadOptions → Option (List ℕ) → Stopped → Told → Told → Type 0
 IsInputFault Stored Refused Honest start logs options input e was is =
     (((e ≡ Before OutOfMemory) ⊎ (e ≡ Before Read)) × (is ≡ was))
-    ⊎ ((pending : Pending) × IsToCome options.from_line options.ingest.form input pending
+    ⊎ ((pending : Pending) × IsToCome options input pending
     × IsLoadFault Stored Refused Honest start logs options.from_line pending e was is)
 
 -- what a refusal is: what the fault says; and, unless a write failed, nothing was written on

@@ -145,18 +145,19 @@ where
     (done, shelf.into_shelf())
 }
 
-/// The lines of an input from the one of this number on, counted from 1, in this form.
+/// The lines of an input from the one of this number on, counted from 1, in this form. The last one
+/// may lack its newline, or not.
 fn lines_from<I: Read + Drop>(
     alloc: Global,
     options: LoadOptions,
     input: I,
 ) -> Result<BatchReader<I>, WriterFault>
     ensures to_come { IfOk result
-        (IsToCome options.from_line options.ingest.form (I.remaining input)) }
+        (IsToCome options (I.remaining input)) }
     ensures held { IfOk result (λ l. l.held ≡ []) }
     ensures fault { IfErr result (λ e. (e ≡ OutOfMemory) ⊎ (e ≡ Read)) }
 {
-    let mut lines = BatchReader::new(alloc, options.ingest.form, input)?;
+    let mut lines = BatchReader::new(alloc, options.ingest.form, options.last_line, input)?;
     match lines.pass(options.from_line.saturating_sub(1)) {
         Ok(()) => Ok(lines),
         Err(_) => Err(WriterFault::Read),

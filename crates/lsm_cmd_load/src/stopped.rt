@@ -2,7 +2,8 @@
 
 ghost use Rattle.std.specs.Prelude.{◌≡◌, IfSome, None, OnOk};
 ghost use Rattle.std.specs.Io.KnownBytes.{Appends};
-ghost use Rattle.lsm_cmd_load.specs.StoppedText.{came_text, last_in, line_text, load_text};
+ghost use Rattle.lsm_cmd_load.specs.StoppedText.{came_text, last_in, line_meaning, line_text};
+ghost use Rattle.lsm_cmd_load.specs.StoppedText.{load_meaning, load_text, stopped_meaning};
 ghost use Rattle.lsm_cmd_load.specs.StoppedText.{stopped_text};
 ghost use Rattle.lsm_cmd_load.specs.declared.stopped.Stopped.TheVariants.{Before, Sweep};
 ghost use Rattle.lsm_opening.specs.declared.faults.writer_fault.WriterFault.TheVariants.{Directory};
@@ -56,9 +57,10 @@ impl fmt::Display for BadLine {
     fn fmt<W: fmt::Write>(&self, f: &mut fmt::Formatter<W>) -> fmt::Result {
         let BadLine(fault, line) = self;
         match fault {
-            WriteLineFault::BadLine(_) | WriteLineFault::LongLine | WriteLineFault::LargeWrite => {
-                write!(f, "bad line {line}")
-            }
+            WriteLineFault::BadLine(_)
+            | WriteLineFault::LongLine
+            | WriteLineFault::LargeWrite
+            | WriteLineFault::NoNewline => write!(f, "bad line {line}"),
             WriteLineFault::Read => write!(f, "{}", WriterFault::Read),
             WriteLineFault::OutOfMemory => write!(f, "{}", WriterFault::OutOfMemory),
         }
@@ -126,7 +128,9 @@ fn fault_of_line(fault: WriteLineFault, line: u128) -> WriterFault {
     let line = usize::try_from(line).unwrap_or(usize::MAX);
     match fault {
         WriteLineFault::BadLine(place) => WriterFault::BadLine(line, place),
-        WriteLineFault::LongLine | WriteLineFault::LargeWrite => WriterFault::BadLine(line, None),
+        WriteLineFault::LongLine | WriteLineFault::LargeWrite | WriteLineFault::NoNewline => {
+            WriterFault::BadLine(line, None)
+        }
         WriteLineFault::Read => WriterFault::Read,
         WriteLineFault::OutOfMemory => WriterFault::OutOfMemory,
     }
@@ -145,12 +149,19 @@ fn fault_of_load(fault: LoadFault, line: u128) -> Option<CompactFault> {
 }
 
 /// Writes what is wrong with the first line that is not in.
-fn explain_line<E: Write>(err: &mut E, fault: WriteLineFault, line: u128) -> io::Result<()> {
+fn explain_line<E: Write>(err: &mut E, fault: WriteLineFault, line: u128) -> io::Result<()>
+    ensures { OnOk result (IfSome (line_meaning fault line) (λ text.
+        Appends (E.contents err.old) (E.contents err.new) text)) }
+{
     match fault {
         WriteLineFault::LongLine => writeln!(err, "line {line} has more than 8388608 bytes"),
         WriteLineFault::LargeWrite => writeln!(
             err,
             "line {line}: its key has more than 4096 bytes, or its value more than 1048576"
+        ),
+        WriteLineFault::NoNewline => writeln!(
+            err,
+            "line {line} has no newline, so that it may be cut; --last-line takes it"
         ),
         WriteLineFault::Read => writeln!(err, "the input could not be read any further"),
         fault => fault_of_line(fault, line).explain(err, &[]),
@@ -169,7 +180,10 @@ fn explain_worker<E: Write>(err: &mut E, fault: WorkerFault) -> io::Result<()> {
 }
 
 /// Writes what a fault of a load means.
-fn explain_load<E: Write>(err: &mut E, fault: LoadFault, line: u128) -> io::Result<()> {
+fn explain_load<E: Write>(err: &mut E, fault: LoadFault, line: u128) -> io::Result<()>
+    ensures { OnOk result (IfSome (load_meaning fault line) (λ text.
+        Appends (E.contents err.old) (E.contents err.new) text)) }
+{
     match fault {
         LoadFault::Line(fault) => explain_line(err, fault, line),
         LoadFault::Worker(fault) => explain_worker(err, fault),
@@ -184,7 +198,7 @@ fn explain_load<E: Write>(err: &mut E, fault: LoadFault, line: u128) -> io::Resu
 impl Exit for Stopped {
     ghost file = { λ _. None };
 
-    ghost meaning = { λ _. None };
+    ghost meaning = { stopped_meaning };
 
     fn table_file(&self) -> Option<u64> {
         None

@@ -111,6 +111,9 @@ accept_rest = flag (codes "accept-rest")
 abbrev pub strict : Rule
 strict = flag (codes "strict")
 
+abbrev pub last_line : Rule
+last_line = flag (codes "last-line")
+
 abbrev pub progress : Rule
 progress = flag (codes "progress")
 
@@ -168,7 +171,7 @@ delete = command (codes "delete") (folder ∷ key ∷ text ∷ begin ∷ beside_
 
 unfoldable pub load : App
 load = command (codes "load") (folder ∷ file ∷ text ∷ begin ∷ beside_log ∷ workers ∷ from_line
-    ∷ progress ∷ [])
+    ∷ last_line ∷ progress ∷ [])
 
 unfoldable pub import_folder : App
 import_folder = command (codes "import") (word (codes "SRC") ∷ word (codes "DST") ∷ [])

@@ -294,6 +294,7 @@ AreLoadOptions rows options =
     AreIngestOptions rows options.ingest
     × AreWorkers (word_in (codes "workers") rows) options.workers
     × IsLineNumber (word_in (codes "from-line") rows) options.from_line
+    × (options.last_line ≡ is_set (codes "last-line") rows)
     × (options.progress ≡ is_set (codes "progress") rows)
 
 -- the word names these benchmarks

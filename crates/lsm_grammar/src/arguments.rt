@@ -208,6 +208,12 @@ pub(crate) const BAIL: Argument = Argument::Flag(
     "End behind the first bad or refused line",
 );
 
+/// A last line that may have been cut is loaded.
+pub(crate) const LAST_LINE: Argument = Argument::Flag(
+    "last-line",
+    "Load the last line also without its newline",
+);
+
 /// The benchmarks that run.
 pub(crate) const BENCHMARKS: Argument = Argument::Valued(Valued {
     name: "benchmarks",

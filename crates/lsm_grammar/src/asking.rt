@@ -251,6 +251,7 @@ fn load_options_in(found: &ArgMatches<'_>) -> Option<LoadOptions>
         ingest: ingest_options_in(found),
         workers: workers_of(found)?,
         from_line: between_in(word_in(found, "from-line"), 1, u64::MAX)?,
+        last_line: is_set(found, "last-line"),
         progress: is_set(found, "progress"),
     })
 }

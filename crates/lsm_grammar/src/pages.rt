@@ -2,8 +2,8 @@
 
 use crate::arguments::{
     ACCEPT_REST, ALL, Argument, BAIL, BATCH, BEGIN, BENCHMARKS, BESIDE_LOG, COMPACTORS, COUNT,
-    EXISTS, FILES, FIRST, FOLDER, FROM, FROM_LINE, JSON, KEY, KEYS, LAST, LIMIT, NUM, PREFIX,
-    PROGRESS, RAW, SOME_WORKERS, SOURCE, STRICT, SVG, TARGET, TEXT, TO, VALUE, VALUE_SIZE,
+    EXISTS, FILES, FIRST, FOLDER, FROM, FROM_LINE, JSON, KEY, KEYS, LAST, LAST_LINE, LIMIT, NUM,
+    PREFIX, PROGRESS, RAW, SOME_WORKERS, SOURCE, STRICT, SVG, TARGET, TEXT, TO, VALUE, VALUE_SIZE,
     VERIFIERS, WORKERS,
 };
 use crate::command_name::{CommandName, named};
@@ -432,6 +432,7 @@ const LOAD: Page = Page {
         BESIDE_LOG,
         WORKERS,
         FROM_LINE,
+        LAST_LINE,
         PROGRESS,
     ],
     about: "Brings lines of keys into a folder, any number in any order",
@@ -449,11 +450,13 @@ many, 1 to 8; 2 if it is not said. Behind the last line they end all that is due
 more are removed.
 
 A line of another form, or of more than 8388608 bytes, or with a key or value
-over its limit, is `bad line I`; the lines before it are in. Wherever it ends
-before the last line, whole batches are in, and the last line on standard error
-says of which lines: `lines 1 to L are in`. Mend it, and go on with --from-line
-L+1, which passes over the lines before that one; lines that come in twice leave
-what they left once, as long as those behind them come in again too.
+over its limit, is `bad line I`; so is a last line without a newline behind it,
+which may have been cut, unless --last-line is said. The lines before it are in.
+Wherever it ends before the last line, whole batches are in, and the last line on
+standard error says of which lines: `lines 1 to L are in`. Mend it, and go on
+with --from-line L+1, which passes over the lines before that one; lines that
+come in twice leave what they left once, as long as those behind them come in
+again too.
 
 Limits: 8388608 bytes of a line, 4096 bytes of a key, 1048576 bytes of a value.
 
@@ -713,7 +716,7 @@ fn usage(name: CommandName) -> &'static str {
         CommandName::Put => "lsm put <DIR> <KEY> <VALUE> [--text] [--begin] [--beside-log]",
         CommandName::Delete => "lsm delete <DIR> <KEY> [--text] [--begin] [--beside-log]",
         CommandName::Load =>
-            "lsm load <DIR> [FILE] [--text] [--begin] [--beside-log] [--workers <N>] [--from-line <I>] [--progress]",
+            "lsm load <DIR> [FILE] [--text] [--begin] [--beside-log] [--workers <N>] [--from-line <I>] [--last-line] [--progress]",
         CommandName::Import => "lsm import <SRC> <DST>",
         CommandName::Recover => "lsm recover <DIR>",
         CommandName::Compact =>

@@ -1,5 +1,5 @@
 -- Writes that are cut into batches.
-use Rattle.std.proofs.Common.{◌≡◌, List, [], ◌∷◌, ◌++◌, Option, refl, sym, ap, ◌∙◌, append_assoc, append-nil}
+use Rattle.std.proofs.Common.{◌≡◌, List, [], ◌∷◌, ◌++◌, refl, sym, ap, ◌∙◌, append_assoc, append-nil}
 use Rattle.std.specs.Option.{option_or}
 use Rattle.lsm_codec.specs.Keys.{UserKey}
 use Rattle.lsm_batch.specs.declared.write.Write.{Write}

@@ -1,16 +1,16 @@
 -- Lines that are taken, and their writes.
-use Rattle.std.proofs.Common.{◌≡◌, ℕ, ◌<◌, ◌≤◌, List, [], ◌∷◌, ◌++◌, length, Option, Some, None, refl, sym, ap, ◌∙◌, subst, append_assoc, append-nil, inl, inr}
-use Rattle.std.specs.Io.KnownBytes.{IsAtEnd}
+use Rattle.std.proofs.Common.{◌≡◌, ℕ, Bool, List, [], ◌∷◌, ◌++◌, Option, Some, None, refl, sym, ap, ◌∙◌, subst, append_assoc, append-nil, inl, inr}
 use Rattle.lsm_text.specs.EntryList.{lines_of}
 use Rattle.lsm_text.specs.BatchText.{AreWriteLines, IsWriteLine}
 use Rattle.lsm_text.specs.declared.form.Form.{Form}
-use Rattle.lsm_batch.specs.Batches.{IsLarge, IsTooLarge}
+use Rattle.lsm_batch.specs.Batches.{IsTooLarge}
 use Rattle.lsm_batch.specs.declared.write.Write.{Write}
-use Rattle.lsm_lines.specs.Reading.{TakesLine}
-use Rattle.lsm_lines.specs.Gathering.{BeginsWith, Gathers, Pending, Reads, Stops, StopsBy, TakesLines}
-use Rattle.lsm_lines.specs.Filling.{Fills, IsFilled, IsNoWrite}
+use Rattle.lsm_lines.specs.Reading.{BeginsWith, IsNextHeld, IsWhole, Lined, TakesLine, TakesWhole}
+use Rattle.lsm_lines.specs.declared.line_reader.HeldLine.TheVariants as held
+use Rattle.lsm_lines.specs.Gathering.{AreEnded, Pending, Reads, Stops, StopsBy, TakesLines}
+use Rattle.lsm_lines.specs.Filling.{Fills, IsNoWrite}
 use Rattle.lsm_lines.specs.declared.write_line_fault.WriteLineFault.{WriteLineFault}
-use Rattle.lsm_lines.specs.declared.write_line_fault.WriteLineFault.TheVariants.{BadLine, LongLine, LargeWrite, Read, OutOfMemory}
+use Rattle.lsm_lines.specs.declared.write_line_fault.WriteLineFault.TheVariants.{BadLine, LongLine, LargeWrite, NoNewline, Read, OutOfMemory}
 
 -- ---- the first line of what is left
 
@@ -24,7 +24,14 @@ stops_at form line old new (BadLine place) t none = (line, takes_begins line old
 stops_at form line old new OutOfMemory t none = tt
 stops_at form line old new LongLine t none = absurd none
 stops_at form line old new LargeWrite t none = absurd none
+stops_at form line old new NoNewline t none = absurd none
 stops_at form line old new Read t none = absurd none
+
+pub stops_unended : (form : Form) (old new : Lined) → IsNextHeld old new held.Last → Stops form old.left NoNewline
+stops_unended form old new i = (new.line, takes_begins new.line old.left new.left i.1, i.2)
+
+pub stops_long : (form : Form) (old new : Lined) → IsNextHeld old new held.TooLong → Stops form old.left LongLine
+stops_long form old new i = (i.0, i.2, i.1)
 
 -- ---- lines, one after another
 
@@ -56,49 +63,75 @@ reads_more form old mid new ws line w r t spells = record {
   spelled = spelled_more form r.lines ws line w r.spelled spells;
 }
 
+-- ---- texts that end with a newline
+
+whole_then : (a b : List ℕ) → IsWhole a → IsWhole b → IsWhole (a ++ b)
+whole_then a b x (inl none) = subst IsWhole (sym (ap (λ (l : List ℕ). a ++ l) none ∙ append-nil a)) x
+whole_then a b x (inr y) = inr (a ++ y.0, ap (λ (l : List ℕ). a ++ l) y.1 ∙ sym (append_assoc a y.0 (10 ∷ [])))
+
+pub whole_none : (old : Option (List ℕ)) → TakesWhole old old
+whole_none None = tt
+whole_none (Some xs) = ([], refl, inl refl)
+
+pub whole_more : (old mid new : Option (List ℕ)) → TakesWhole old mid → TakesWhole mid new → TakesWhole old new
+whole_more None mid new t u = tt
+whole_more (Some xs) None new t u = absurd t
+whole_more (Some xs) (Some ys) None t u = absurd u
+whole_more (Some xs) (Some ys) (Some zs) t u =
+    (t.0 ++ u.0, t.1 ∙ ap (λ (l : List ℕ). t.0 ++ l) u.1 ∙ sym (append_assoc t.0 u.0 zs), whole_then t.0 u.0 t.2 u.2)
+
+pub ended_none : (last : Bool) (old : Option (List ℕ)) → AreEnded last old old
+ended_none last old h = whole_none old
+
+pub ended_more : (last : Bool) (old mid new : Option (List ℕ)) → AreEnded last old mid → AreEnded last mid new → AreEnded last old new
+ended_more last old mid new e f h = whole_more old mid new (e h) (f h)
+
 -- ---- a buffer that is filled
 
-pub fills_none : (form : Form) (old : Option (List ℕ)) (before : List Write) → Fills form old old before before
-fills_none form old before = record { writes = []; reads = reads_none form old; put = sym (append-nil before) }
+pub fills_none : (form : Form) (last : Bool) (old : Option (List ℕ)) (before : List Write) → Fills form last old old before before
+fills_none form last old before = record { writes = []; reads = reads_none form old; ended = ended_none last old; put = sym (append-nil before) }
 
-pub fills_more : (form : Form) (old mid new : Option (List ℕ)) (before after : List Write) (line : List ℕ) (w : Write) → Fills form old mid before after → TakesLine line mid new
-    → IsWriteLine form line w → Fills form old new before (after ++ w ∷ [])
-fills_more form old mid new before after line w f t spells = record {
+pub fills_more : (form : Form) (last : Bool) (old mid new : Option (List ℕ)) (before after : List Write) (line : List ℕ) (w : Write) → Fills form last old mid before after → TakesLine line mid new
+    → IsWriteLine form line w → AreEnded last mid new → Fills form last old new before (after ++ w ∷ [])
+fills_more form last old mid new before after line w f t spells ended = record {
   writes = f.writes ++ w ∷ [];
+  ended = ended_more last old mid new f.ended ended;
   reads = reads_more form old mid new f.writes line w f.reads t spells;
   put = ap (λ (l : List Write). l ++ w ∷ []) f.put ∙ append_assoc before f.writes (w ∷ []);
 }
 
 -- the write of the next line would pass a limit
-pub fills_over : (form : Form) (old mid new : Option (List ℕ)) (before after after' : List Write) (line : List ℕ) (w back : Write) → Fills form old mid before after
-    → TakesLine line mid new → IsWriteLine form line w → after' ≡ after → back ≡ w → IsTooLarge (after ++ w ∷ [])
-    → Fills form old new before (after' ++ back ∷ []) × IsTooLarge (after' ++ back ∷ [])
-fills_over form old mid new before after after' line w back f t spells same its large =
+pub fills_over : (form : Form) (last : Bool) (old mid new : Option (List ℕ)) (before after after' : List Write) (line : List ℕ) (w back : Write) → Fills form last old mid before after
+    → TakesLine line mid new → IsWriteLine form line w → AreEnded last mid new → after' ≡ after → back ≡ w → IsTooLarge (after ++ w ∷ [])
+    → Fills form last old new before (after' ++ back ∷ []) × IsTooLarge (after' ++ back ∷ [])
+fills_over form last old mid new before after after' line w back f t spells ended same its large =
     let longer : after ++ w ∷ [] ≡ after' ++ back ∷ [] = ap (λ (l : List Write). l ++ w ∷ []) (sym same) ∙ ap (λ (v : Write). after' ++ v ∷ []) (sym its) in
-    (subst (λ (l : List Write). Fills form old new before l) longer (fills_more form old mid new before after line w f t spells), subst IsTooLarge longer large)
+    (subst (λ (l : List Write). Fills form last old new before l) longer (fills_more form last old mid new before after line w f t spells ended), subst IsTooLarge longer large)
 
 -- ---- what is gathered of what was to come
 
-pub gathered : (form : Form) (old new : Option (List ℕ)) (before kept later after : List Write) → before ≡ kept → Fills form old new before (after ++ later)
-    → (writes : List Write) × Reads form old new writes × (kept ++ writes ≡ after ++ later)
-gathered form old new before kept later after same f = (f.writes, f.reads, sym (f.put ∙ ap (λ (l : List Write). l ++ f.writes) same))
+pub gathered : (form : Form) (last : Bool) (old new : Option (List ℕ)) (before kept later after : List Write) → before ≡ kept → Fills form last old new before (after ++ later)
+    → (writes : List Write) × Reads form old new writes × (kept ++ writes ≡ after ++ later) × AreEnded last old new
+gathered form last old new before kept later after same f = (f.writes, f.reads, sym (f.put ∙ ap (λ (l : List Write). l ++ f.writes) same), f.ended)
 
-pub gathered_all : (form : Form) (old new : Option (List ℕ)) (before kept after : List Write) → before ≡ kept → Fills form old new before after
-    → (writes : List Write) × Reads form old new writes × (kept ++ writes ≡ after ++ [])
-gathered_all form old new before kept after same f = (f.writes, f.reads, sym (append-nil after ∙ f.put ∙ ap (λ (l : List Write). l ++ f.writes) same))
+pub gathered_all : (form : Form) (last : Bool) (old new : Option (List ℕ)) (before kept after : List Write) → before ≡ kept → Fills form last old new before after
+    → (writes : List Write) × Reads form old new writes × (kept ++ writes ≡ after ++ []) × AreEnded last old new
+gathered_all form last old new before kept after same f = (f.writes, f.reads, sym (append-nil after ∙ f.put ∙ ap (λ (l : List Write). l ++ f.writes) same), f.ended)
 
-pub gathered_none : (form : Form) (old : Option (List ℕ)) (kept after : List Write) → after ≡ [] → (writes : List Write) × Reads form old old writes × (kept ++ writes ≡ after ++ kept)
-gathered_none form old kept after none = ([], reads_none form old, append-nil kept ∙ ap (λ (l : List Write). l ++ kept) (sym none))
+pub gathered_none : (form : Form) (last : Bool) (old : Option (List ℕ)) (kept after : List Write) → after ≡ []
+    → (writes : List Write) × Reads form old old writes × (kept ++ writes ≡ after ++ kept) × AreEnded last old old
+gathered_none form last old kept after none = ([], reads_none form old, append-nil kept ∙ ap (λ (l : List Write). l ++ kept) (sym none), ended_none last old)
 
-pub stopped : (old : Pending) (ws before : List Write) (left : Option (List ℕ)) (fault : WriteLineFault) → before ≡ old.held → Fills old.form old.left left before ws
+pub stopped : (old : Pending) (ws before : List Write) (left : Option (List ℕ)) (fault : WriteLineFault) → before ≡ old.held → Fills old.form old.last old.left left before ws
     → Stops old.form left fault → StopsBy old ws fault
-stopped old ws before left (BadLine place) same f s = (left, gathered_all old.form old.left left before old.held ws same f, s)
-stopped old ws before left LongLine same f s = (left, gathered_all old.form old.left left before old.held ws same f, s)
-stopped old ws before left LargeWrite same f s = (left, gathered_all old.form old.left left before old.held ws same f, s)
-stopped old ws before left Read same f s = (left, gathered_all old.form old.left left before old.held ws same f, s)
-stopped old ws before left OutOfMemory same f s = (left, [], gathered_all old.form old.left left before old.held ws same f)
+stopped old ws before left (BadLine place) same f s = (left, gathered_all old.form old.last old.left left before old.held ws same f, s)
+stopped old ws before left LongLine same f s = (left, gathered_all old.form old.last old.left left before old.held ws same f, s)
+stopped old ws before left LargeWrite same f s = (left, gathered_all old.form old.last old.left left before old.held ws same f, s)
+stopped old ws before left NoNewline same f s = (left, gathered_all old.form old.last old.left left before old.held ws same f, s)
+stopped old ws before left Read same f s = (left, gathered_all old.form old.last old.left left before old.held ws same f, s)
+stopped old ws before left OutOfMemory same f s = (left, [], gathered_all old.form old.last old.left left before old.held ws same f)
 
 -- the same, as the reader's fields give it
-pub stopped_of : (v old : Pending) → v ≡ old → (ws before : List Write) (left : Option (List ℕ)) (fault : WriteLineFault) → before ≡ v.held → Fills v.form v.left left before ws
+pub stopped_of : (v old : Pending) → v ≡ old → (ws before : List Write) (left : Option (List ℕ)) (fault : WriteLineFault) → before ≡ v.held → Fills v.form v.last v.left left before ws
     → Stops v.form left fault → StopsBy old ws fault
 stopped_of v old is ws before left fault same f s = subst (λ (p : Pending). StopsBy p ws fault) is (stopped v ws before left fault same f s)

@@ -1,5 +1,5 @@
 -- Lines that are passed over.
-use Rattle.std.proofs.Common.{◌≡◌, ℕ, ◌+◌, List, [], ◌∷◌, ◌++◌, length, Option, refl, ap, ◌∙◌, subst, length-append, inl, inr}
+use Rattle.std.proofs.Common.{◌≡◌, ℕ, ◌+◌, List, [], ◌∷◌, ◌++◌, Option, refl, ap, ◌∙◌, subst, length-append, inl, inr}
 use Rattle.std.specs.Prelude.{◌⊎◌}
 use Rattle.lsm_lines.specs.Passing.{PassesLines, TakesCount}
 use Rattle.lsm_lines.specs.Reading.{IsNext, Lined, TakesLine}

@@ -1,6 +1,6 @@
 -- Lines of writes that are gathered to batches (this project's rule).
-use Rattle.std.specs.Prelude.{◌≡◌, ◌⊎◌, ℕ, ◌<◌, ◌≤◌, ⊤, List, [], ◌∷◌, ◌++◌, length, Option, Some}
-use Rattle.std.specs.Prelude.{None}
+use Rattle.std.specs.Prelude.{◌≡◌, ◌⊎◌, ℕ, ◌<◌, ◌≤◌, ⊤, Bool, IsFalse, List, [], ◌++◌, length}
+use Rattle.std.specs.Prelude.{Option, Some, None}
 use Rattle.std.specs.Io.KnownBytes.{IsAtEnd}
 use Rattle.lsm_text.specs.EntryList.{lines_of}
 use Rattle.lsm_text.specs.BatchText.{AreWriteLines, IsWriteLine}
@@ -9,14 +9,14 @@ use Rattle.lsm_batch.specs.Batches.{IsBatch, IsLarge, IsTooLarge}
 use Rattle.lsm_batch.specs.Limits.{most_entries}
 use Rattle.lsm_batch.specs.declared.write.Write.{Write}
 use Rattle.lsm_lines.specs.LastWrites.{KeepsLast}
-use Rattle.lsm_lines.specs.Reading.{most_of_line}
+use Rattle.lsm_lines.specs.Reading.{BeginsWith, IsUnended, TakesWhole, most_of_line}
 use Rattle.lsm_lines.specs.declared.gathered.Gathered.{Gathered}
 use Rattle.lsm_lines.specs.declared.gathered.BatchEnd.{BatchEnd}
 use Rattle.lsm_lines.specs.declared.gathered.BatchEnd.TheVariants.{Full, End, Stopped}
 use Rattle.lsm_lines.specs.declared.write_line_fault.WriteLineFault.{WriteLineFault}
 use Rattle.lsm_lines.specs.declared.write_line_fault.WriteLineFault.TheVariants.{BadLine, LongLine}
-use Rattle.lsm_lines.specs.declared.write_line_fault.WriteLineFault.TheVariants.{LargeWrite, Read}
-use Rattle.lsm_lines.specs.declared.write_line_fault.WriteLineFault.TheVariants.{OutOfMemory}
+use Rattle.lsm_lines.specs.declared.write_line_fault.WriteLineFault.TheVariants.{LargeWrite, NoNewline}
+use Rattle.lsm_lines.specs.declared.write_line_fault.WriteLineFault.TheVariants.{OutOfMemory, Read}
 
 -- ---- lines
 
@@ -32,11 +32,6 @@ pub record Reads (form : Form) (old new : Option (List ℕ)) (writes : List Writ
   pub taken : TakesLines lines old new
   pub spelled : AreWriteLines form lines writes
 
--- what is left begins with this line, where it is known
-abbrev pub BeginsWith : List ℕ → Option (List ℕ) → Type 0
-BeginsWith line None = ⊤
-BeginsWith line (Some xs) = (rest : List (List ℕ)) × (lines_of xs ≡ line ∷ rest)
-
 -- Why the first line of what is left is no write that a batch may have. A failed read, and want of
 -- memory, say nothing of it.
 abbrev pub Stops : Form → Option (List ℕ) → WriteLineFault → Type 0
@@ -45,15 +40,17 @@ Stops form left (BadLine fault) =
 Stops form left LongLine = (line : List ℕ) × BeginsWith line left × (most_of_line < length line)
 Stops form left LargeWrite = (line : List ℕ) × BeginsWith line left
     × ((w : Write) × IsWriteLine form line w × IsLarge w)
+Stops form left NoNewline = (line : List ℕ) × BeginsWith line left × IsUnended line left
 Stops form left Read = ⊤
 Stops form left OutOfMemory = ⊤
 
 -- ---- batches
 
 -- what is still to come: a write that was read and is held back, if there is one, and what is left
--- of the input, where that is known
+-- of the input, where that is known; and whether its last line may lack the newline
 pub record Pending : Type 0 where
   pub form : Form
+  pub last : Bool
   pub held : List Write
   pub left : Option (List ℕ)
 
@@ -61,11 +58,15 @@ pub record Pending : Type 0 where
 abbrev pub IsFull : List Write → List Write → Type 0
 IsFull ws held = (most_entries ≤ length ws) ⊎ IsTooLarge (ws ++ held)
 
+-- Each of the lines that were taken has a newline, but the last where it may lack it.
+abbrev pub AreEnded : (last : Bool) → Option (List ℕ) → Option (List ℕ) → Type 0
+AreEnded last old new = IsFalse last → TakesWhole old new
+
 -- Lines were read, whose writes stand behind the one that was held back. Of all these the first are
 -- gathered, and none is left over but the one that is held back now.
 abbrev pub Gathers : Pending → Option (List ℕ) → (held ws : List Write) → Type 0
 Gathers old left held ws = (writes : List Write) × Reads old.form old.left left writes
-    × (old.held ++ writes ≡ ws ++ held)
+    × (old.held ++ writes ≡ ws ++ held) × AreEnded old.last old.left left
 
 -- The line that comes next is no write that a batch may have. For want of memory a write may be
 -- lost that was read.
@@ -83,6 +84,7 @@ EndsBy old new ws (Stopped fault) = StopsBy old ws fault
 -- The first writes that were to come, so many, became a batch.
 pub record IsGathered (old new : Pending) (r : Gathered) : Type 0 where
   pub form : new.form ≡ old.form
+  pub last_line : new.last ≡ old.last
   pub ws : List Write
   pub count : r.lines ≡ length ws
   pub last : KeepsLast ws r.batch

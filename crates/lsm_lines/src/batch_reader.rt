@@ -18,12 +18,13 @@ use std::io::Read;
 use std::marker::Model;
 
 /// An input whose lines spell writes in one form, `KEY=VALUE` or `KEY!`, and which is read as
-/// batches. Contracts see the write that was read and is in no batch yet, if there is one, and what
-/// is left of the input.
+/// batches. Its last line has a newline too, or may lack it. Contracts see the write that was read
+/// and is in no batch yet, if there is one, and what is left of the input.
 #[derive(Drop)]
 pub struct BatchReader<I: Read + Drop> {
     lines: LineReader<I>,
     form: Form,
+    last: bool,
     held: Option<Write>,
 }
 
@@ -35,6 +36,7 @@ impl<I: Read + Drop> Model for BatchReader<I> {
 
     ghost view = { λ r. record {
       form = r.form;
+      last = r.last;
       held = option_to_list r.held;
       left = r.lines.left;
     } };
@@ -54,14 +56,21 @@ fn put_held(held: Option<Write>, buffer: &mut WriteBuffer) -> bool
 }
 
 impl<I: Read + Drop> BatchReader<I> {
-    /// Nothing is read yet. `AllocError` where there is no memory to read ahead.
-    pub fn new(alloc: Global, form: Form, input: I) -> Result<BatchReader<I>, AllocError>
-        ensures { IfOk result (λ r.
-            r ≡ record { form = form; held = []; left = I.remaining input }) }
+    /// Nothing is read yet; `last` says whether the last line may lack its newline. `AllocError`
+    /// where there is no memory to read ahead.
+    pub fn new(
+        alloc: Global,
+        form: Form,
+        last: bool,
+        input: I,
+    ) -> Result<BatchReader<I>, AllocError>
+        ensures { IfOk result (λ r. r
+            ≡ record { form = form; last = last; held = []; left = I.remaining input }) }
     {
         Ok(BatchReader {
             lines: LineReader::new(alloc, input)?,
             form,
+            last,
             held: None,
         })
     }
@@ -82,13 +91,14 @@ impl<I: Read + Drop> BatchReader<I> {
     fn fill(&mut self, alloc: Global, buffer: &mut WriteBuffer) -> BatchEnd
         requires { buffer.old ≡ [] }
         ensures form { self.new.form ≡ self.old.form }
+        ensures last { self.new.last ≡ self.old.last }
         ensures ends { EndsBy self.old self.new buffer.new result }
     {
         let held = self.held.take();
         if !put_held(held, buffer) {
             return BatchEnd::Stopped(WriteLineFault::OutOfMemory);
         }
-        match fill(alloc, self.form, &mut self.lines, buffer) {
+        match fill(alloc, self.form, self.last, &mut self.lines, buffer) {
             FillEnd::Over(write) => {
                 self.held = Some(write);
                 BatchEnd::Full
@@ -100,8 +110,9 @@ impl<I: Read + Drop> BatchReader<I> {
     }
 
     /// The batch of the next lines: as many as a batch may have, or all up to a line that is no
-    /// write of a batch, or to the end. It may have no entry. `AllocError` where there is no memory
-    /// for the batch; then its lines are lost.
+    /// write of a batch, or to the end. Of a line that is too long no more is read than shows it,
+    /// and nothing may be read behind it. It may have no entry. `AllocError` where there is no
+    /// memory for the batch; then its lines are lost.
     pub fn next(&mut self, alloc: Global) -> Result<Gathered, AllocError>
         ensures { IfOk result (IsGathered self.old self.new) }
     {

@@ -1,13 +1,14 @@
 //! A write buffer is filled with the writes of lines.
 
-ghost use Rattle.std.specs.Prelude.{◌≡◌, List, ℕ, IfErr, IfNone, IfOk, IfSome};
+ghost use Rattle.std.specs.Prelude.{◌≡◌, List, ℕ, IfErr, IfNone, IfOk, IfSome, false, true};
 ghost use Rattle.std.specs.Io.KnownBytes.{IsAtEnd};
 ghost use Rattle.lsm_text.specs.BatchText.{IsWriteLine};
+ghost use Rattle.lsm_text.specs.declared.form.Form.{Form};
 ghost use Rattle.lsm_lines.specs.Reading.{TakesLine};
-ghost use Rattle.lsm_lines.specs.Gathering.{Stops};
+ghost use Rattle.lsm_lines.specs.Gathering.{AreEnded, Stops};
 ghost use Rattle.lsm_lines.specs.Filling.{IsFilled, IsNoWrite};
 
-use crate::line_reader::{LineReader, NextLine};
+use crate::line_reader::{HeldLine, LineReader};
 use crate::write_buffer::{PutFault, WriteBuffer};
 use crate::write_line_fault::WriteLineFault;
 use lsm_batch::{MOST_ENTRIES, Write};
@@ -48,41 +49,66 @@ fn write_of(alloc: Global, form: Form, line: &[u8]) -> Result<Write, WriteLineFa
     }
 }
 
-/// What the next line writes; none at the end.
-fn next_write<I: Read + Drop>(
-    alloc: Global,
-    form: Form,
-    lines: &mut LineReader<I>,
-) -> Result<Option<Write>, WriteLineFault>
-    ensures some { IfOk result (λ o. IfSome o (λ w. (line : List ℕ)
-        × TakesLine line lines.old.left lines.new.left × IsWriteLine form line w)) }
-    ensures none { IfOk result (λ o. IfNone o (IsAtEnd lines.old.left)) }
-    ensures stops { IfErr result (Stops form lines.old.left) }
+/// Whether there is a next line, which is held then. The last one may lack its newline, or not.
+#[tactic(auto, using(crate::proofs::GatherLaws::stops_long, crate::proofs::GatherLaws::stops_unended))]
+fn next_line<I: Read + Drop>(last: bool, lines: &mut LineReader<I>) -> Result<bool, WriteLineFault>
+    ensures line { IfOk result (λ more. more ≡ true
+        → TakesLine lines.new.line lines.old.left lines.new.left
+        × AreEnded last lines.old.left lines.new.left) }
+    ensures none { IfOk result (λ more. more ≡ false → IsAtEnd lines.old.left) }
+    ensures stops { IfErr result (λ e. (form : Form) → Stops form lines.old.left e) }
 {
-    match lines.next() {
-        Ok(NextLine::Line) => match write_of(alloc, form, lines.line()) {
-            Ok(write) => Ok(Some(write)),
-            Err(fault) => Err(fault),
-        },
-        Ok(NextLine::TooLong) => Err(WriteLineFault::LongLine),
-        Ok(NextLine::NoMemory) => Err(WriteLineFault::OutOfMemory),
-        Ok(NextLine::End) => Ok(None),
+    match lines.next_held() {
+        Ok(HeldLine::Line) => Ok(true),
+        Ok(HeldLine::Last) => {
+            if last {
+                return Ok(true);
+            }
+            Err(WriteLineFault::NoNewline)
+        }
+        Ok(HeldLine::TooLong) => Err(WriteLineFault::LongLine),
+        Ok(HeldLine::NoMemory) => Err(WriteLineFault::OutOfMemory),
+        Ok(HeldLine::End) => Ok(false),
         Err(_) => Err(WriteLineFault::Read),
     }
 }
 
+/// What the next line writes; none at the end. The last one may lack its newline, or not.
+fn next_write<I: Read + Drop>(
+    alloc: Global,
+    form: Form,
+    last: bool,
+    lines: &mut LineReader<I>,
+) -> Result<Option<Write>, WriteLineFault>
+    ensures some { IfOk result (λ o. IfSome o (λ w. (line : List ℕ)
+        × TakesLine line lines.old.left lines.new.left × IsWriteLine form line w
+        × AreEnded last lines.old.left lines.new.left)) }
+    ensures none { IfOk result (λ o. IfNone o (IsAtEnd lines.old.left)) }
+    ensures stops { IfErr result (Stops form lines.old.left) }
+{
+    match next_line(last, lines) {
+        Ok(true) => match write_of(alloc, form, lines.line()) {
+            Ok(write) => Ok(Some(write)),
+            Err(fault) => Err(fault),
+        },
+        Ok(false) => Ok(None),
+        Err(fault) => Err(fault),
+    }
+}
+
 /// Puts the writes of the next lines, until one would pass a limit, or there are enough, or a line
-/// is no write of a batch, or none is left.
+/// is no write of a batch, or none is left. The last one may lack its newline, or not.
 pub(crate) fn fill<I: Read + Drop>(
     alloc: Global,
     form: Form,
+    last: bool,
     lines: &mut LineReader<I>,
     buffer: &mut WriteBuffer,
 ) -> FillEnd
-    ensures { IsFilled form lines.old.left lines.new.left buffer.old buffer.new result }
+    ensures { IsFilled form last lines.old.left lines.new.left buffer.old buffer.new result }
 {
     'lines: while buffer.len() < MOST_ENTRIES {
-        let write = match next_write(alloc, form, lines) {
+        let write = match next_write(alloc, form, last, lines) {
             Ok(Some(write)) => write,
             Ok(None) => return FillEnd::End,
             Err(fault) => return FillEnd::Stopped(fault),

@@ -21,6 +21,6 @@ pub use ahead::ReadFailed;
 pub use batch_reader::BatchReader;
 pub use gathered::{BatchEnd, Gathered};
 pub use laws::a_cut_keeps_the_last;
-pub use line_reader::{LineReader, NextLine};
+pub use line_reader::{HeldLine, LineReader, NextLine};
 pub use write_buffer::{PutFault, WriteBuffer};
 pub use write_line_fault::WriteLineFault;

@@ -2,8 +2,8 @@
 
 ghost use Rattle.std.specs.Prelude.{◌≡◌, ◌≢◌, ◌++◌, List, ℕ, IfOk, OnOk};
 ghost use Rattle.lsm_lines.specs.Passing.{PassesLines};
-ghost use Rattle.lsm_lines.specs.Reading.{IsNext};
-ghost use Rattle.lsm_lines.specs.Pieces.{Holds};
+ghost use Rattle.lsm_lines.specs.Reading.{IsNext, IsNextHeld};
+ghost use Rattle.lsm_lines.specs.Pieces.{Holds, last_line, whole_line};
 ghost use Rattle.lsm_lines.specs.declared.line_reader.NextLine.TheVariants.{End};
 
 use crate::ahead::{Ahead, ReadFailed};
@@ -26,6 +26,45 @@ pub enum NextLine {
     NoMemory,
     /// Nothing is left.
     End,
+}
+
+/// What was read next, where no more is read of a line than is held.
+#[derive(Clone, Copy, Debug, PartialEq, Eq)]
+pub enum HeldLine {
+    /// A line with its newline, which the reader holds.
+    Line,
+    /// The last line, which the reader holds, and which has no newline.
+    Last,
+    /// More than 8 MiB of a line were read, and are not held. The rest of it is left.
+    TooLong,
+    /// There is no memory for what was read of a line. The rest of it is left.
+    NoMemory,
+    /// Nothing is left.
+    End,
+}
+
+/// A line that ends with its newline, of which so much is held.
+fn whole(line: NextLine) -> HeldLine
+    ensures { result ≡ whole_line line }
+{
+    match line {
+        NextLine::Line => HeldLine::Line,
+        NextLine::TooLong => HeldLine::TooLong,
+        NextLine::NoMemory => HeldLine::NoMemory,
+        NextLine::End => HeldLine::End,
+    }
+}
+
+/// A line that ends with the input, of which so much is held.
+fn last(line: NextLine) -> HeldLine
+    ensures { result ≡ last_line line }
+{
+    match line {
+        NextLine::Line => HeldLine::Last,
+        NextLine::TooLong => HeldLine::TooLong,
+        NextLine::NoMemory => HeldLine::NoMemory,
+        NextLine::End => HeldLine::End,
+    }
 }
 
 /// Adds a piece to a line of which so much was read, if it is still held.
@@ -109,6 +148,42 @@ impl<I: Read + Drop> LineReader<I> {
                     let count = ready.len();
                     so_far = add_piece(&mut self.line, so_far, ready);
                     self.ahead.pass(count);
+                }
+            }
+        }
+        Err(ReadFailed)
+    }
+
+    /// Reads the next line, up to a newline or to the end, and waits for it. Of a line that cannot
+    /// be held no more is read than shows it; what is left of it is read next.
+    ///
+    /// # Errors
+    /// `ReadFailed` where a read of the input fails.
+    pub fn next_held(&mut self) -> Result<HeldLine, ReadFailed>
+        ensures { IfOk result (IsNextHeld self.old self.new) }
+    {
+        self.line.clear();
+        let mut so_far = NextLine::End;
+        for _turn in 0..u64::MAX {
+            if !self.ahead.fill()? {
+                return Ok(last(so_far));
+            }
+            let ready = self.ahead.ready();
+            match parts(b'\n', ready) {
+                Some((piece, _)) => {
+                    let length = piece.len();
+                    let next = add_piece(&mut self.line, so_far, piece);
+                    self.ahead.pass(length + 1);
+                    return Ok(whole(next));
+                }
+                None => {
+                    let count = ready.len();
+                    so_far = add_piece(&mut self.line, so_far, ready);
+                    self.ahead.pass(count);
+                    match so_far {
+                        NextLine::TooLong | NextLine::NoMemory => return Ok(last(so_far)),
+                        NextLine::Line | NextLine::End => {}
+                    }
                 }
             }
         }

@@ -11,6 +11,8 @@ pub enum WriteLineFault {
     LongLine,
     /// It spells a write whose key or value is over its limit.
     LargeWrite,
+    /// It is the last one, and has no newline.
+    NoNewline,
     /// The input could not be read.
     Read,
     /// There is no memory for it.

@@ -7,7 +7,7 @@ use Rattle.lsm_bulk_load.proofs.loading.load.Goals as goal
 pub batches-init : goal.batches-init
 batches-init g c = record {
   loads = loads_none c.args.lines.now c.args.mark c.none-progress.result c.requires.held (ap (λ (p : Progress). p.lines) c.none-progress.ensures) (ap (λ (p : Progress). p.batches) c.none-progress.ensures);
-  form = refl;
+  form = (refl, refl);
   lines = omega (arith, ap (λ (p : Progress). p.lines) c.none-progress.ensures);
   count = omega (arith, ap (λ (p : Progress). p.batches) c.none-progress.ensures);
 }

@@ -1,11 +1,12 @@
 use Rattle.std.proofs.Common.{◌≡◌, ◌*◌, ◌^◌, ◌≤◌}
 use Rattle.lsm_bulk_load.specs.Loading.{Loads}
+use Rattle.lsm_bulk_load.proofs.LoadLaws.{SameForm}
 use Rattle.lsm_bulk_load.proofs.loading.load.Given as goal
 
 abbrev pub invariant-batches : goal.invariant-batches
 invariant-batches g l = record {
   loads : Loads l.fn.lines l.lines.left l.lines.held l.fn.mark l.mark l.progress;
-  form : l.lines.form ≡ l.fn.lines.form;
+  form : SameForm l.lines l.fn.lines;
   lines : l.progress.lines ≤ l._turn * 2 ^ 64;
   count : l.progress.batches ≤ l._turn;
 }

@@ -1,4 +1,4 @@
-use Rattle.std.proofs.Common.{◌≡◌, ◌+◌, ◌++◌, ◌≤◌, List, ℕ, [], Some, None, Option, length, drop, ap, sym, subst, refl, ◌∙◌, drop_of_length-le, le_refl, rules}
+use Rattle.std.proofs.Common.{◌≡◌, ◌++◌, List, ℕ, [], Some, None, Option, length, drop, ap, sym, subst, refl, ◌∙◌, drop_of_length-le, le_refl}
 use Rattle.std.specs.Io.KnownBytes.{prepend_known}
 use Rattle.lsm_text.specs.EntryReading.{parts_at}
 use Rattle.lsm_lines.specs.Pieces.{Holds}

@@ -1,5 +1,5 @@
-use Rattle.std.proofs.Common.{◌≡◌, length, ◌<◌, ◌≤◌, ◌⊎◌, rules, sym, inl, inr, ◌∙◌, ap}
-use Rattle.lsm_lines.proofs.BufferLaws.{put_fits, put_full}
+use Rattle.std.proofs.Common.{rules}
+use Rattle.lsm_lines.proofs.BufferLaws.{put_fits}
 use Rattle.lsm_lines.proofs.write_buffer.WriteBuffer.put.Goals as goal
 
 pub invariant_of-self-2 : goal.invariant_of-self-2
