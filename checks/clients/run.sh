@@ -187,11 +187,19 @@ first_is() { # COMMAND..: a first program, which makes /tmp/fruit, says of what 
   return $status
 }
 
+sizes_are() { # FIRST COMMAND..: behind a first program, one tells of /tmp/fruit's sizes
+  sizes=$folder/sizes first_is sh -c '"$0" && "$@" > "$sizes"' "$@" &&
+    grep -Eq "^[1-9][0-9]+ bytes on the disk, [1-9][0-9]+ of data$" "$folder/sizes"
+}
+
 examples() {
   gcc "${strict[@]}" -g "$clients/examples/first.c" "$work/child/libtiswenor.a" -lpthread -o "$work/first" &&
     first_is "${leaks[@]}" "$work/first" &&
     g++ -std=c++17 -I"$clients/c" "$clients/examples/first.cpp" "$work/child/libtiswenor.a" -lpthread -o "$work/first" && first_is "$work/first" &&
-    PYTHONPATH=$clients/python/src first_is "$python" "$clients/examples/first.py"
+    PYTHONPATH=$clients/python/src first_is "$python" "$clients/examples/first.py" &&
+    gcc "${strict[@]}" -g "$clients/examples/sizes.c" "$work/child/libtiswenor.a" -lpthread -o "$work/sizes" &&
+    sizes_are "$work/first" "${leaks[@]}" "$work/sizes" &&
+    PYTHONPATH=$clients/python/src sizes_are "$work/first" "$python" "$clients/examples/sizes.py"
 }
 
 cmake_and_pkg_config() { # LIBRARY WORDS..: installed, found, and used by both

@@ -3,6 +3,7 @@
 #define _GNU_SOURCE
 #include "tiswenor.h"
 
+#include <dirent.h>
 #include <errno.h>
 #include <pthread.h>
 #include <stdatomic.h>
@@ -141,9 +142,18 @@ struct waiter {
   int channel; /* that it is given; -1 before, and where no channel lives any more */
 };
 
+/* The folder that was opened: the path that it had then, and which one it is. */
+struct place {
+  char *path;
+  dev_t device;
+  ino_t number;
+  int error; /* the system's, where it was not found */
+};
+
 struct tiswenor_t {
   struct transport *transport;
   char *name;
+  struct place place;
   pthread_mutex_t lock; /* of what follows */
   struct waiter *first, **last;
   unsigned living;
@@ -378,16 +388,20 @@ static int exchange(tiswenor_t *db, const struct request *request, unsigned char
   return fault;
 }
 
+/* Whether this process was forked from the one that opened the database: it is closed here. */
+static int is_closed(tiswenor_t *db, char **errptr) {
+  int is_forked = tiswenor_transport_is_forked(db->transport);
+  if (is_forked) set_error(errptr, tiswenor_closed, "Closed", "in a forked process");
+  return is_forked;
+}
+
 /* Sends a request, and waits for its answer. Whether it is done. */
 static int ask(tiswenor_t *db, struct request *request, struct answer *answer, char **errptr) {
   unsigned char *bytes = NULL;
   size_t length = 0;
   int fault = request->failed;
   answer->memory = NULL;
-  if (tiswenor_transport_is_forked(db->transport)) {
-    set_error(errptr, tiswenor_closed, "Closed", "in a forked process");
-    return 0;
-  }
+  if (is_closed(db, errptr)) return 0;
   if (!fault) {
     store(request->bytes, request->length - 4, 4);
     fault = exchange(db, request, &bytes, &length);
@@ -439,6 +453,16 @@ static int ask_numbers(tiswenor_t *db, unsigned char kind, uint64_t *numbers, in
 
 /* Opening and closing */
 
+/* The folder of this name, as it is found from where the process works now. */
+static struct place place_of(const char *name) {
+  struct stat its = {0};
+  struct place place = {realpath(name, NULL), 0, 0, 0};
+  if (!place.path || stat(place.path, &its)) place.error = errno;
+  place.device = its.st_dev;
+  place.number = its.st_ino;
+  return place;
+}
+
 static tiswenor_t *new_database(struct transport *transport, const char *name, unsigned channels,
                                 int ahead) {
   tiswenor_t *db = calloc(1, sizeof *db);
@@ -450,6 +474,7 @@ static tiswenor_t *new_database(struct transport *transport, const char *name, u
   }
   db->transport = transport;
   db->name = own_name;
+  db->place = place_of(name);
   db->ahead = ahead;
   db->last = &db->first;
   db->living = db->free_count = channels;
@@ -534,6 +559,7 @@ void tiswenor_close(tiswenor_t *db) {
   if (!db) return;
   if (!tiswenor_transport_is_forked(db->transport)) pthread_mutex_destroy(&db->lock);
   tiswenor_transport_close(db->transport);
+  free(db->place.path);
   free(db->name);
   free(db);
 }
@@ -1249,6 +1275,23 @@ void tiswenor_statistics(tiswenor_t *db, tiswenor_statistics_t *statistics, char
   }
 }
 
+uint64_t tiswenor_statistics_tables(const tiswenor_statistics_t *statistics) {
+  uint64_t tables = 0;
+  for (int level = 0; level < tiswenor_levels; level++) tables += statistics->files[level];
+  return tables;
+}
+
+uint64_t tiswenor_statistics_bytes(const tiswenor_statistics_t *statistics) {
+  uint64_t bytes = 0;
+  for (int level = 0; level < tiswenor_levels; level++) bytes += statistics->bytes[level];
+  return bytes;
+}
+
+uint64_t tiswenor_statistics_mean(const tiswenor_statistics_t *statistics) {
+  uint64_t tables = tiswenor_statistics_tables(statistics);
+  return tables ? tiswenor_statistics_bytes(statistics) / tables : 0;
+}
+
 static char *stats_text(const tiswenor_statistics_t *statistics) {
   enum { LINE = 64 };
   char *text = malloc((tiswenor_levels + 1) * LINE);
@@ -1276,6 +1319,95 @@ char *tiswenor_property_value(tiswenor_t *db, const char *propname) {
   if (level[0] < '0' || level[0] > '6' || level[1]) return NULL;
   int made = asprintf(&text, "%llu", (unsigned long long)statistics.files[level[0] - '0']);
   return made < 0 ? NULL : text;
+}
+
+/* The folder */
+
+/* Whether these letters are the decimal digits of a number that fits 64 bits. */
+static int is_number(const char *letters, size_t length) {
+  uint64_t number = 0;
+  for (size_t i = 0; i < length; i++) {
+    unsigned digit = (unsigned char)letters[i] - (unsigned)'0';
+    if (digit > 9 || number > (UINT64_MAX - digit) / 10) return 0;
+    number = 10 * number + digit;
+  }
+  return length > 0;
+}
+
+/* Whether a name is a number, and then this ending. */
+static int is_number_before(const char *ending, const char *name) {
+  size_t all = strlen(name), last = strlen(ending);
+  return all > last && !strcmp(name + all - last, ending) && is_number(name, all - last);
+}
+
+/* Whether a name is this beginning, and then a number. */
+static int is_number_behind(const char *beginning, const char *name) {
+  size_t first = strlen(beginning);
+  return !strncmp(name, beginning, first) && is_number(name + first, strlen(name + first));
+}
+
+/* Counts a file of this name and size. */
+static void count_file(tiswenor_folder_t *folder, const char *name, uint64_t size) {
+  folder->bytes += size;
+  if (is_number_before(".ldb", name) || is_number_before(".sst", name)) {
+    if (!folder->tables || size < folder->least_table) folder->least_table = size;
+    folder->tables++;
+    folder->table_bytes += size;
+  } else if (is_number_behind("MANIFEST-", name)) {
+    folder->manifests++;
+  } else {
+    folder->others++;
+  }
+}
+
+/* Counts the regular files that are there. 0, or the system's number of an error. */
+static int count_files(DIR *files, tiswenor_folder_t *folder) {
+  struct dirent *file;
+  struct stat its;
+  while (errno = 0, file = readdir(files)) {
+    if (!fstatat(dirfd(files), file->d_name, &its, 0)) {
+      if (S_ISREG(its.st_mode)) count_file(folder, file->d_name, (uint64_t)its.st_size);
+    } else if (errno != ENOENT) {
+      break;
+    }
+  }
+  return errno;
+}
+
+/* The same of the folder at this place, if it is still there. */
+static int count_place(const struct place *place, tiswenor_folder_t *folder) {
+  struct stat its;
+  if (place->error) return place->error;
+  DIR *files = opendir(place->path);
+  if (!files) return errno;
+  int error = fstat(dirfd(files), &its) ? errno : 0;
+  if (!error && (its.st_dev != place->device || its.st_ino != place->number)) error = ENOENT;
+  if (!error) error = count_files(files, folder);
+  closedir(files);
+  return error;
+}
+
+/* The system's reason why a folder was not listed. */
+static void set_unlisted(tiswenor_t *db, int error, char **errptr) {
+  char *detail = NULL;
+  if (asprintf(&detail, "%s: %s", db->name, strerror(error)) < 0)
+    set_error(errptr, tiswenor_device, "Device", strerror(error));
+  else
+    set_error(errptr, tiswenor_device, "Device", detail);
+  free(detail);
+}
+
+void tiswenor_folder(tiswenor_t *db, tiswenor_folder_t *folder, char **errptr) {
+  tiswenor_folder_t none = {0, 0, 0, 0, 0, 0};
+  int before;
+  *folder = none;
+  if (is_closed(db, errptr)) return;
+  pthread_setcancelstate(PTHREAD_CANCEL_DISABLE, &before); /* until what is opened is closed */
+  int error = count_place(&db->place, folder);
+  pthread_setcancelstate(before, NULL);
+  if (!error) return;
+  *folder = none;
+  set_unlisted(db, error, errptr);
 }
 
 /* Options */

@@ -41,6 +41,7 @@ typedef struct tiswenor_writeoptions_t tiswenor_writeoptions_t;
    are the protocol's (200 to 204) and the library's own (250 to 255). */
 enum {
   tiswenor_out_of_memory = 1,
+  tiswenor_device = 9, /* a call of the system failed */
   tiswenor_too_large = 39,
   tiswenor_locked = 52,
   tiswenor_malformed = 200,
@@ -115,6 +116,37 @@ typedef struct {
 } tiswenor_statistics_t;
 
 void tiswenor_statistics(tiswenor_t *db, tiswenor_statistics_t *statistics, char **errptr);
+
+/* Sums over the levels: the tables, their bytes, and the mean bytes of one, rounded down; 0 where
+   there is none. */
+uint64_t tiswenor_statistics_tables(const tiswenor_statistics_t *statistics);
+uint64_t tiswenor_statistics_bytes(const tiswenor_statistics_t *statistics);
+uint64_t tiswenor_statistics_mean(const tiswenor_statistics_t *statistics);
+
+/* The regular files that are in the database's folder, by their names, as the line `folder` of
+   `lsm levels` counts them. Bytes are sizes of files, as the system tells them. Tables that are not
+   needed any more are among them until tiswenor_collect removes them.
+
+     tiswenor_folder_t folder;
+     tiswenor_folder(db, &folder, &error);
+     printf("%llu bytes on the disk\n", (unsigned long long)folder.bytes); */
+typedef struct {
+  uint64_t tables;      /* N.ldb and N.sst */
+  uint64_t manifests;   /* MANIFEST-N */
+  uint64_t others;      /* of all other names */
+  uint64_t bytes;       /* of all files together */
+  uint64_t table_bytes; /* of the tables together */
+  uint64_t least_table; /* bytes of the smallest table; 0 where there is none */
+} tiswenor_folder_t;
+
+/* Counts by calls of the system, and asks the server nothing. What other calls make and remove
+   meanwhile may be counted or not; a file that goes before its size is asked is left out.
+
+   The folder is the one that was opened, at the path that it had then, wherever the process works
+   now. Where it is not there any more, also where another one has its path, or the system does not
+   list it or tell a size, this is "9 Device: NAME: No such file or directory", with the system's
+   reason at the end, and all is 0. */
+void tiswenor_folder(tiswenor_t *db, tiswenor_folder_t *folder, char **errptr);
 
 /* "leveldb.num-files-at-levelN" or "leveldb.stats": a text to be freed by tiswenor_free. NULL for
    another name, or for an error. */

@@ -271,6 +271,14 @@ class Database {
     detail::check(error);
     return statistics;
   }
+  // The files that are in the folder, which is counted by calls of the system.
+  tiswenor_folder_t folder() const {
+    char* error = nullptr;
+    tiswenor_folder_t folder;
+    tiswenor_folder(handle_.get(), &folder, &error);
+    detail::check(error);
+    return folder;
+  }
 
  private:
   // A bound's bytes, which are somewhere also where it is empty; null where there is none.

@@ -65,15 +65,24 @@ static void count_signal(int number) {
   signals++;
 }
 
+static void count_folder(void) {
+  char *error = NULL;
+  tiswenor_folder_t found;
+  tiswenor_folder(db, &found, &error);
+  DONE(error);
+  CHECK(found.manifests == 1 && found.others == 2 && found.bytes > found.table_bytes);
+}
+
 static void *call_all(void *state) {
   while (!over) {
     char *error = NULL;
     has(db, NULL, "00007", "value");
     is_full(db, "value");
     put(db, "00007", "value");
+    count_folder();
     tiswenor_collect(db, &error);
     DONE(error);
-    calls += 4;
+    calls += 5;
   }
   return state;
 }
@@ -124,26 +133,38 @@ static void threads_come_and_go(void) {
   tiswenor_close(db);
 }
 
-static void *get_for_ever(void *state) {
+static int entries(const char *path) {
+  int count = 0;
+  DIR *all = opendir(path);
+  CHECK(all);
+  while (readdir(all)) count++;
+  closedir(all);
+  return count;
+}
+
+static void *call_for_ever(void *state) {
   for (;;) {
     has(db, NULL, "00007", "value");
+    count_folder();
     pthread_testcancel();
   }
   return state;
 }
 
-/* No channel is lost where a thread is cancelled in a call. */
+/* No channel, and no descriptor, is lost where a thread is cancelled in a call. */
 static void threads_are_cancelled(void) {
+  int descriptors = entries("/proc/self/fd");
   db = opened_as("cancelled", 1, 1);
   fill(db, "value");
   for (int round = 0; round < 20; round++) {
     pthread_t thread;
-    start(&thread, get_for_ever, NULL);
+    start(&thread, call_for_ever, NULL);
     usleep(500);
     CHECK(!pthread_cancel(thread) && !pthread_join(thread, NULL));
     is_full(db, "value");
   }
   tiswenor_close(db);
+  CHECK(entries("/proc/self/fd") == descriptors);
 }
 
 static void in_a_forked_process(void) {
@@ -153,6 +174,8 @@ static void in_a_forked_process(void) {
   CHECK(!tiswenor_get(db, NULL, "00007", 5, &length, &error));
   FAILED(error, tiswenor_closed);
   tiswenor_put(db, NULL, "00007", 5, "", 0, &error);
+  FAILED(error, tiswenor_closed);
+  tiswenor_folder(db, &(tiswenor_folder_t){0}, &error);
   FAILED(error, tiswenor_closed);
   tiswenor_close(db);
   _exit(0);
@@ -249,15 +272,6 @@ static void host_waits(void) {
   sigaction(SIGCHLD, &usual, NULL);
 }
 
-static int entries(const char *path) {
-  int count = 0;
-  DIR *all = opendir(path);
-  CHECK(all);
-  while (readdir(all)) count++;
-  closedir(all);
-  return count;
-}
-
 /* How many lines /proc/self/maps has. */
 static int mappings(void) {
   int count = 0, byte;
@@ -285,6 +299,7 @@ static void all_is_given_back(void) {
     }
     db = opened(path, 20, 3);
     put(db, "a", "b");
+    count_folder();
     tiswenor_close(db);
     CHECK(!tiswenor_open(refused, path, &error));
     FAILED(error, tiswenor_is_there);

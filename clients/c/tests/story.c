@@ -1,6 +1,8 @@
 /* Each call of tiswenor.h, and what it refuses: story FOLDER [CHANNELS], a folder that is empty. */
 #define _GNU_SOURCE
 #include <dirent.h>
+#include <fcntl.h>
+#include <limits.h>
 #include <sys/stat.h>
 #include <sys/types.h>
 #include <unistd.h>
@@ -291,27 +293,39 @@ static void sizes(tiswenor_t *db) {
   has(db, NULL, "many00019999", "value of 19999");
 }
 
-static uint64_t bytes_of_tables(tiswenor_t *db) {
+static tiswenor_statistics_t statistics_of(tiswenor_t *db) {
   char *error = NULL;
-  uint64_t bytes = 0;
   tiswenor_statistics_t statistics;
   tiswenor_statistics(db, &statistics, &error);
   DONE(error);
-  for (int level = 0; level < tiswenor_levels; level++) bytes += statistics.bytes[level];
-  return bytes;
+  return statistics;
 }
 
-/* The bytes of a folder's files. */
-static long on_disk(const char *folder) {
-  long bytes = 0;
+static uint64_t bytes_of_tables(tiswenor_t *db) {
+  tiswenor_statistics_t statistics = statistics_of(db);
+  return tiswenor_statistics_bytes(&statistics);
+}
+
+struct sums {
+  uint64_t files, bytes, least;
+};
+
+/* Those of a folder's files whose names end so. */
+static struct sums on_disk(const char *folder, const char *ending) {
+  struct sums sums = {0, 0, 0};
   DIR *files = opendir(folder);
   CHECK(files);
   for (struct dirent *file; (file = readdir(files));) {
     struct stat its;
-    if (!fstatat(dirfd(files), file->d_name, &its, 0) && S_ISREG(its.st_mode)) bytes += its.st_size;
+    size_t length = strlen(file->d_name), last = strlen(ending);
+    if (length < last || strcmp(file->d_name + length - last, ending)) continue;
+    CHECK(!fstatat(dirfd(files), file->d_name, &its, 0));
+    if (!S_ISREG(its.st_mode)) continue;
+    if (!sums.files++ || (uint64_t)its.st_size < sums.least) sums.least = (uint64_t)its.st_size;
+    sums.bytes += (uint64_t)its.st_size;
   }
   closedir(files);
-  return bytes;
+  return sums;
 }
 
 /* 16,000 pairs of a letter and a number, 1.7 MB, or the deletions of them. */
@@ -359,7 +373,7 @@ static void ranges(const char *folder) {
   letter(db, 'd', 0);
   compact_range(db, NULL, NULL);
   CHECK(bytes_of_tables(db) == 0);
-  CHECK(on_disk(folder) < 65536);
+  CHECK(on_disk(folder, "").bytes < 65536);
   has(db, NULL, "a000000", NULL);
   compact_range(db, "z", "a"); /* there is nothing */
   compact_range(db, "", "");
@@ -369,6 +383,167 @@ static void ranges(const char *folder) {
   FAILED(error, tiswenor_too_large);
   free(key);
   tiswenor_close(db);
+}
+
+/* Sums are of all levels, and a mean is rounded down. */
+static void sums_of_levels(void) {
+  tiswenor_statistics_t some = {9, {2, 0, 0, 0, 0, 0, 1}, {101, 0, 0, 0, 0, 0, 51}};
+  tiswenor_statistics_t none = {9, {0}, {0}};
+  CHECK(tiswenor_statistics_tables(&some) == 3 && tiswenor_statistics_tables(&none) == 0);
+  CHECK(tiswenor_statistics_bytes(&some) == 152 && tiswenor_statistics_bytes(&none) == 0);
+  CHECK(tiswenor_statistics_mean(&some) == 50 && tiswenor_statistics_mean(&none) == 0);
+}
+
+static tiswenor_folder_t folder_of(tiswenor_t *db) {
+  char *error = NULL;
+  tiswenor_folder_t folder;
+  memset(&folder, 255, sizeof folder);
+  tiswenor_folder(db, &folder, &error);
+  DONE(error);
+  return folder;
+}
+
+/* The folder has so many tables, beside a manifest, CURRENT and LOCK. So many of them, which have
+   so many bytes, are needed. */
+static void folder_is(tiswenor_t *db, const char *folder, uint64_t tables, uint64_t needed,
+                      uint64_t needed_bytes) {
+  tiswenor_folder_t found = folder_of(db);
+  tiswenor_statistics_t statistics = statistics_of(db);
+  struct sums all = on_disk(folder, ""), of_tables = on_disk(folder, ".ldb");
+  CHECK(all.files == tables + 3 && of_tables.files == tables);
+  CHECK(found.tables == tables && found.manifests == 1 && found.others == 2);
+  CHECK(found.bytes == all.bytes && found.table_bytes == of_tables.bytes);
+  CHECK(found.least_table == of_tables.least);
+  CHECK(tiswenor_statistics_tables(&statistics) == needed);
+  CHECK(tiswenor_statistics_bytes(&statistics) == needed_bytes);
+}
+
+/* The folder is refused with this text: all is 0. */
+static void folder_fails(tiswenor_t *db, const char *text) {
+  char *error = NULL;
+  tiswenor_folder_t folder, none = {0, 0, 0, 0, 0, 0};
+  memset(&folder, 255, sizeof folder);
+  tiswenor_folder(db, &folder, &error);
+  CHECK(tiswenor_error_number(error) == tiswenor_device && !strcmp(error, text));
+  CHECK(!memcmp(&folder, &none, sizeof none));
+  tiswenor_folder(db, &folder, &error); /* frees the text that was there */
+  FAILED(error, tiswenor_device);
+}
+
+static void make_file(const char *folder, const char *name, long size) {
+  FILE *file = fopen(in(folder, name), "wx");
+  CHECK(file);
+  for (long i = 0; i < size; i++) CHECK(putc('x', file) == 'x');
+  CHECK(!fclose(file));
+}
+
+/* Files of other programs, and what is no file. Tables and manifests are so by their names, whose
+   numbers fit 64 bits. A link counts as the file that it leads to. */
+static void strangers(tiswenor_t *db, const char *folder) {
+  static const char *others[] = {"notes",
+                                 "MANIFEST-",
+                                 "MANIFEST-7x",
+                                 "MANIFEST-18446744073709551616",
+                                 "7.log",
+                                 "+7.ldb",
+                                 ".sst",
+                                 "7.LDB",
+                                 "x7.ldb",
+                                 "7.ldb.old",
+                                 "18446744073709551616.ldb",
+                                 "\xe9",
+                                 "-1.ldb",
+                                 "7:.ldb"};
+  enum { OTHERS = sizeof others / sizeof *others };
+  tiswenor_folder_t before = folder_of(db);
+  for (int i = 0; i < OTHERS; i++) make_file(folder, others[i], 10);
+  make_file(folder, "MANIFEST-0099", 3);
+  make_file(folder, "18446744073709551615.ldb", 100000);
+  make_file(folder, "000099.sst", 7);
+  CHECK(!mkdir(in(folder, "98.ldb"), 0777) && !mkfifo(in(folder, "97.ldb"), 0666));
+  CHECK(!symlink("nowhere", in(folder, "96.ldb")) && !symlink("000099.sst", in(folder, "95.ldb")));
+  tiswenor_folder_t after = folder_of(db);
+  CHECK(after.tables == before.tables + 3 && after.manifests == before.manifests + 1);
+  CHECK(after.others == before.others + OTHERS);
+  CHECK(after.bytes == before.bytes + 10 * OTHERS + 3 + 100000 + 7 + 7);
+  CHECK(after.table_bytes == before.table_bytes + 100000 + 7 + 7);
+  CHECK(after.least_table == 7 && before.least_table > 7);
+  char text[PATH_MAX + 100];
+  CHECK(!symlink("94.ldb", in(folder, "94.ldb"))); /* a size that is not told */
+  sprintf(text, "9 Device: %s: Too many levels of symbolic links", folder);
+  folder_fails(db, text);
+  CHECK(!unlink(in(folder, "94.ldb")));
+  for (int i = 0; i < OTHERS; i++) CHECK(!unlink(in(folder, others[i])));
+  CHECK(!unlink(in(folder, "MANIFEST-0099")) && !unlink(in(folder, "18446744073709551615.ldb")));
+  CHECK(!unlink(in(folder, "000099.sst")) && !rmdir(in(folder, "98.ldb")));
+  CHECK(!unlink(in(folder, "97.ldb")) && !unlink(in(folder, "96.ldb")));
+  CHECK(!unlink(in(folder, "95.ldb")));
+}
+
+/* Writes, a compaction, what it leaves, and what others put there. */
+static void folders(const char *folder) {
+  char *error = NULL, value[1001];
+  memset(value, 'x', sizeof value - 1);
+  value[sizeof value - 1] = 0;
+  tiswenor_t *db = opened(folder, 2, 0);
+  folder_is(db, folder, 0, 0, 0);
+  put(db, "a", value);
+  put(db, "b", "");
+  put(db, "c", value);
+  uint64_t bytes = on_disk(folder, ".ldb").bytes;
+  folder_is(db, folder, 3, 3, bytes);
+  CHECK(bytes > 2000 && folder_of(db).least_table < 1000);
+  tiswenor_compact_range(db, NULL, 0, NULL, 0, &error);
+  DONE(error);
+  folder_is(db, folder, 4, 1, on_disk(folder, ".ldb").bytes - bytes);
+  CHECK(tiswenor_collect(db, &error) == 3);
+  DONE(error);
+  bytes = on_disk(folder, ".ldb").bytes;
+  folder_is(db, folder, 1, 1, bytes);
+  strangers(db, folder);
+  folder_is(db, folder, 1, 1, bytes);
+  tiswenor_close(db);
+}
+
+/* The folder that was opened, by names that depend on where the process works and on a link: from
+   elsewhere, where it is moved, and where another one is in its place. */
+static void folder_moves(const char *folder) {
+  char *all = realpath(folder, NULL), there[PATH_MAX + 8], away[PATH_MAX + 8];
+  int here = open(".", O_RDONLY | O_DIRECTORY);
+  CHECK(all && here >= 0 && !chdir(all));
+  snprintf(there, sizeof there, "%s/there", all);
+  snprintf(away, sizeof away, "%s/away", all);
+  CHECK(!symlink("there", "link") && !mkdir("there", 0777));
+  tiswenor_t *db = opened("link", 2, 0);
+  put(db, "a", "1");
+  uint64_t bytes = on_disk("there", ".ldb").bytes;
+  CHECK(!unlink("link") && !mkdir("link", 0777) && !chdir("link"));
+  folder_is(db, there, 1, 1, bytes);
+  CHECK(!chdir("/"));
+  folder_is(db, there, 1, 1, bytes);
+  CHECK(!rename(there, away));
+  folder_fails(db, "9 Device: link: No such file or directory");
+  CHECK(!mkdir(there, 0777));
+  make_file(there, "000001.ldb", 1);
+  folder_fails(db, "9 Device: link: No such file or directory");
+  CHECK(!unlink(in(there, "000001.ldb")) && !rmdir(there));
+  make_file(all, "there", 1);
+  folder_fails(db, "9 Device: link: Not a directory");
+  CHECK(!unlink(there) && !rename(away, there));
+  has(db, NULL, "a", "1");
+  folder_is(db, there, 1, 1, bytes);
+  CHECK(!chdir(there));
+  DIR *files = opendir(".");
+  CHECK(files);
+  for (struct dirent *file; (file = readdir(files));)
+    if (file->d_name[0] != '.') CHECK(!unlink(file->d_name));
+  closedir(files);
+  CHECK(!chdir("/") && folder_of(db).bytes == 0 && folder_of(db).others == 0);
+  CHECK(!rmdir(there));
+  folder_fails(db, "9 Device: link: No such file or directory");
+  tiswenor_close(db);
+  CHECK(!fchdir(here) && !close(here));
+  free(all);
 }
 
 static void several(const char *folder) {
@@ -407,6 +582,11 @@ int main(int argc, char **argv) {
   has(db, NULL, "many00019999", "value of 19999");
   tiswenor_close(db);
   ranges(in(argv[1], "ranges"));
+  sums_of_levels();
+  char folder[PATH_MAX];
+  snprintf(folder, sizeof folder, "%s/folder", argv[1]);
+  folders(folder);
+  folder_moves(argv[1]);
   several(argv[1]);
   puts("story: ok");
 }

@@ -87,7 +87,16 @@ int main(int argc, char** argv) {
     db.compact_range("", std::string_view());
     CHECK(db.get("banana") == "yellow" && !db.get("cherry"));
     db.collect();
-    CHECK(db.statistics().last_sequence == 7);
+    tiswenor_statistics_t statistics = db.statistics();
+    tiswenor_folder_t found = db.folder();
+    CHECK(statistics.last_sequence == 7 && tiswenor_statistics_tables(&statistics) >= 1);
+    CHECK(found.tables == tiswenor_statistics_tables(&statistics) && found.manifests == 1);
+    CHECK(found.table_bytes == tiswenor_statistics_bytes(&statistics) && found.others == 2);
+    CHECK(found.least_table <= tiswenor_statistics_mean(&statistics) && found.least_table > 0);
+    CHECK(found.bytes > found.table_bytes);
+    CHECK(std::rename(folder.c_str(), (folder + "-away").c_str()) == 0);
+    CHECK(error_of([&] { db.folder(); }) == tiswenor_device);
+    CHECK(std::rename((folder + "-away").c_str(), folder.c_str()) == 0);
   }
   options.error_if_exists();
   CHECK(error_of([&] { Database again(folder, options); }) == tiswenor_is_there);

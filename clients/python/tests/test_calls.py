@@ -1,5 +1,9 @@
 """Each call once, and what it refuses."""
 
+import errno
+import os
+import shutil
+
 import pytest
 
 import tiswenor
@@ -221,7 +225,7 @@ def test_compact_range(db, folder):
     def left(*bounds, **named):
         db.compact_range(*bounds, **named)
         db.collect()
-        return sum(level.bytes for level in db.statistics().levels)
+        return db.statistics().bytes
 
     for letter in b"abcd":
         put(letter)
@@ -258,7 +262,7 @@ def test_a_snapshot_keeps_what_a_range_would_lose(fruit):
         assert list(fruit) == []
         assert list(snapshot) == PAIRS
     fruit.compact_range()
-    assert sum(level.files for level in fruit.statistics().levels) == 0
+    assert fruit.statistics().tables == 0
 
 
 def test_iterator_over_many_pages(db):
@@ -328,12 +332,141 @@ def test_compact_collect_statistics(db):
     db.compact()
     assert db.collect() >= 0
     assert db.get(b"key") == b"4"
-    files = sum(level.files for level in db.statistics().levels)
-    assert files >= 1
+    assert db.statistics().tables >= 1
     at_0 = db.get_property("leveldb.num-files-at-level0")
     assert at_0 == b"%d" % db.statistics().levels[0].files
     assert db.get_property(b"leveldb.stats").count(b"\n") == 8
     assert db.get_property("leveldb.num-files-at-level7") is None
+
+
+def test_sums_are_of_all_levels():
+    ends = (tiswenor.Level(2, 101), *[tiswenor.Level(0, 0)] * 5, tiswenor.Level(1, 51))
+    some = tiswenor.Statistics(9, ends)
+    assert (some.tables, some.bytes, some.mean) == (3, 152, 50)
+    none = tiswenor.Statistics(9, (tiswenor.Level(0, 0),) * 7)
+    assert (none.tables, none.bytes, none.mean) == (0, 0, 0)
+
+
+@pytest.fixture
+def quiet(folder):
+    """A database in which nobody compacts."""
+    with tiswenor.DB(folder, create_if_missing=True, workers=0) as opened:
+        yield opened
+
+
+def sizes(folder, *endings):
+    return [file.stat().st_size for file in folder.iterdir() if file.name.endswith(endings)]
+
+
+def folder_is(db, folder, tables, needed, needed_bytes):
+    """So many tables, beside a manifest, CURRENT and LOCK. So many of them, which have so many
+    bytes, are needed."""
+    of_tables = sizes(folder, ".ldb")
+    assert len(of_tables) == tables
+    assert db.folder() == tiswenor.Folder(
+        tables=tables,
+        manifests=1,
+        others=2,
+        bytes=sum(sizes(folder, "")),
+        table_bytes=sum(of_tables),
+        least_table=min(of_tables, default=0),
+    )
+    statistics = db.statistics()
+    assert (statistics.tables, statistics.bytes) == (needed, needed_bytes)
+
+
+def test_folder(quiet, folder):
+    folder_is(quiet, folder, 0, 0, 0)
+    for key, value in ((b"a", bytes(1000)), (b"b", b""), (b"c", bytes(1000))):
+        quiet.put(key, value)
+    before = sum(sizes(folder, ".ldb"))
+    assert before > 2000 > 1000 > quiet.folder().least_table
+    folder_is(quiet, folder, 3, 3, before)
+    quiet.compact_range()
+    after = sum(sizes(folder, ".ldb")) - before
+    folder_is(quiet, folder, 4, 1, after)
+    assert quiet.collect() == 3
+    folder_is(quiet, folder, 1, 1, after)
+    assert quiet.folder().least_table == quiet.folder().table_bytes == after
+
+
+def test_folder_with_files_of_others(quiet, folder):
+    """Tables and manifests are so by their names, whose numbers fit 64 bits. A link counts as the
+    file that it leads to."""
+    quiet.put(b"a", bytes(1000))
+    before = quiet.folder()
+    others = [
+        *("notes", "MANIFEST-", "MANIFEST-7x", "MANIFEST-18446744073709551616", "7.log", "+7.ldb"),
+        *(".sst", "7.LDB", "x7.ldb", "7.ldb.old", "18446744073709551616.ldb", "7.ldb\n", "-1.ldb"),
+        *("7:.ldb", "\u0667.ldb", os.fsdecode(b"\xe9")),
+    ]
+    for name in others:
+        (folder / name).write_bytes(bytes(10))
+    (folder / "MANIFEST-0099").write_bytes(bytes(3))
+    (folder / "18446744073709551615.ldb").write_bytes(bytes(100_000))
+    (folder / "000099.sst").write_bytes(bytes(7))
+    (folder / "98.ldb").mkdir()
+    os.mkfifo(folder / "97.ldb")
+    (folder / "96.ldb").symlink_to("nowhere")
+    (folder / "95.ldb").symlink_to("000099.sst")
+    assert quiet.folder() == tiswenor.Folder(
+        tables=before.tables + 3,
+        manifests=before.manifests + 1,
+        others=before.others + len(others),
+        bytes=before.bytes + 10 * len(others) + 3 + 100_000 + 7 + 7,
+        table_bytes=before.table_bytes + 100_000 + 7 + 7,
+        least_table=7,
+    )
+    (folder / "94.ldb").symlink_to("94.ldb")
+    with pytest.raises(tiswenor.IOError, match="Too many levels of symbolic links"):
+        quiet.folder()
+
+
+def test_folder_from_elsewhere(tmp_path, monkeypatch):
+    """By names that depend on where the process works, and on a link."""
+    (tmp_path / "there").mkdir()
+    (tmp_path / "link").symlink_to("there")
+    monkeypatch.chdir(tmp_path)
+    for name in ("link", b"link", os.path.join("there", "..", "link")):
+        with tiswenor.DB(name, create_if_missing=True, workers=0) as db:
+            os.remove("link")
+            os.mkdir("link")
+            found = db.folder()
+            assert found.bytes == sum(sizes(tmp_path / "there", ""))
+            for other in ("link", "/"):
+                os.chdir(other)
+                assert db.folder() == found
+            os.chdir(tmp_path)
+            os.rmdir("link")
+            os.symlink("there", "link")
+
+
+def test_folder_that_is_gone(quiet, folder):
+    quiet.put(b"a", b"1")
+    found = quiet.folder()
+
+    def is_gone(number):
+        with pytest.raises(tiswenor.IOError) as gone:
+            quiet.folder()
+        assert (gone.value.number, gone.value.name) == (9, "Device")
+        assert gone.value.path == gone.value.filename == str(folder)
+        assert str(gone.value) == f"9 Device: {folder}: {os.strerror(number)}"
+        assert gone.value.__cause__.errno == number
+
+    away = folder.rename(folder.with_name("away"))
+    is_gone(errno.ENOENT)
+    folder.mkdir()
+    (folder / "000001.ldb").write_bytes(b"x")
+    is_gone(errno.ENOENT)
+    shutil.rmtree(folder)
+    folder.write_bytes(b"x")
+    is_gone(errno.ENOTDIR)
+    folder.unlink()
+    assert quiet.get(b"a") == b"1"
+    away.rename(folder)
+    assert quiet.folder() == found
+    shutil.rmtree(folder)
+    is_gone(errno.ENOENT)
 
 
 def test_more_writes_than_level_0_holds(db):
@@ -352,7 +485,7 @@ def test_close(folder):
     db.close()
     assert db.closed
     calls = [lambda: db.get(b"a"), lambda: next(iterator), lambda: snapshot.get(b"a"), batch.write]
-    for call in calls:
+    for call in (*calls, db.statistics, db.folder):
         with pytest.raises(tiswenor.Error) as closed:
             call()
         assert (closed.value.number, closed.value.name) == (251, "Closed")

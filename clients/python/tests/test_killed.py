@@ -36,6 +36,7 @@ def test_each_call_says_that_the_server_ended(folder):
             call()
         assert (ended.value.number, ended.value.status) == (255, -signal.SIGKILL)
         assert "signal 9" in str(ended.value)
+    assert db.folder().tables == 1  # the server is not asked
     db.close()
     with tiswenor.DB(folder) as db:
         assert list(db) == [(b"a", b"1")]

@@ -141,7 +141,7 @@ def test_forked_process_does_not_use_the_channels(folder):
             os.close(go)
             assert db.closed
             calls = [lambda: db.get(b"key"), lambda: next(iterator), lambda: db.put(b"a", b"b")]
-            for call in calls:
+            for call in (*calls, db.folder):
                 try:
                     call()
                 except tiswenor.Error as error:

@@ -13,6 +13,7 @@ by any number of threads. A call that fails raises `Error`, which has a number a
 
 from .database import DB, Iterator, Level, PrefixedDB, Snapshot, Statistics, WriteBatch
 from .errors import Closed, CorruptionError, Ended, Error, IOError, Refused, TooLarge
+from .folder import Folder
 
 __all__ = [
     "DB",
@@ -20,6 +21,7 @@ __all__ = [
     "CorruptionError",
     "Ended",
     "Error",
+    "Folder",
     "IOError",
     "Iterator",
     "Level",

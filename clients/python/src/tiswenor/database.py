@@ -12,7 +12,8 @@ from typing import Any, Deque, Iterable, List, Optional, Tuple, Type, Union
 from . import frames
 from .backward import Backward, behind
 from .errors import Closed
-from .server import Server, find
+from .folder import Folder, Place
+from .server import Server, find, not_open
 
 PathLike = Union[str, bytes, "os.PathLike[str]", "os.PathLike[bytes]"]
 Bytes = Union[bytes, bytearray, memoryview]
@@ -38,6 +39,21 @@ class Statistics:
 
     last_sequence: int
     levels: Tuple[Level, ...]
+
+    @property
+    def tables(self) -> int:
+        """How many tables all levels have."""
+        return sum(level.files for level in self.levels)
+
+    @property
+    def bytes(self) -> int:
+        """The bytes of all tables together."""
+        return sum(level.bytes for level in self.levels)
+
+    @property
+    def mean(self) -> int:
+        """The mean bytes of a table, rounded down; 0 where there is none."""
+        return self.bytes // max(self.tables, 1)
 
 
 class _Reads:
@@ -187,6 +203,7 @@ class DB(_Database):
         if create_if_missing:
             _make_folder(path)
         self._name = path
+        self._place = Place(os.fsencode(path))
         # Numbers of snapshots that nobody refers to any more. They are released at the next call,
         # since a finalizer may run where this thread has a channel or a lock.
         self._abandoned: Deque[int] = deque()
@@ -233,6 +250,24 @@ class DB(_Database):
         """The last sequence, and how many tables and bytes each level has."""
         last, *sizes = frames.numbers(self._ask(frames.STATISTICS), 15)
         return Statistics(last, tuple(map(Level, sizes[0::2], sizes[1::2])))
+
+    def folder(self) -> Folder:
+        """How many files of each kind the folder has, and their bytes.
+
+            folder = db.folder()
+            print(folder.bytes, "bytes on the disk,", folder.least_table, "of the smallest table")
+
+        They are counted by calls of the system; the server is asked nothing. What other calls make
+        and remove meanwhile may be counted or not; a file that goes before its size is asked is
+        left out.
+
+        The folder is the one that was opened, at the path that it had then, wherever the process
+        works now. An `IOError`, 9 `Device`, where it is not there any more, also where another one
+        has its path, or where the system does not list it or tell a size.
+        """
+        if self.closed:
+            raise not_open()
+        return self._place.count()
 
     def get_property(self, name: Union[str, bytes]) -> Optional[bytes]:
         """`leveldb.num-files-at-levelN` or `leveldb.stats`; None for another name."""

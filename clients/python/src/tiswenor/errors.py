@@ -13,6 +13,7 @@ CLOSED = 251
 BAD_ANSWER = 254
 ENDED = 255
 
+DEVICE = 9
 TOO_LARGE = 39
 
 # After these answers the server reads no more from the channel.
@@ -28,7 +29,7 @@ NAMES = {
 }
 
 # Refusals of a system's call, and of a folder that another program has.
-FAULTS = frozenset((9, 35, 36, 42, 52))
+FAULTS = frozenset((DEVICE, 35, 36, 42, 52))
 
 # Refusals of bytes that are none of LevelDB's, and of files that do not go together.
 DAMAGES = frozenset((*range(2, 9), 10, *range(12, 16), *range(17, 29), *range(30, 34)))
@@ -92,7 +93,8 @@ class IOError(Refused, OSError):
     """A call of the system failed in the server, or another program has the database open.
 
     It is an OSError too, as plyvel's is: `filename` is the folder of the database. The server does
-    not tell the system's number, so `errno` is None.
+    not tell the system's number, so `errno` is None. Where `folder` raises it, its `__cause__` has
+    the number.
     """
 
     def __init__(

@@ -276,7 +276,7 @@ class Server:
             channel = self._choose(call)
         call.channel = channel
         if self.is_closed:
-            raise _closed()
+            raise not_open()
         self._wake()  # the next one may find another channel
         if channel.is_left:
             channel.finish()
@@ -290,7 +290,7 @@ class Server:
         calls leave such channels to the last.
         """
         if self.is_closed:
-            raise _closed()
+            raise not_open()
         living = [channel for channel in self._channels if not channel.has_failed]
         if not living:
             raise self._ended()
@@ -411,7 +411,7 @@ def _release(lock: threading.Lock) -> None:
         pass  # it was released before
 
 
-def _closed() -> Closed:
+def not_open() -> Closed:
     return Closed("the database is not open in this process")
 
 
