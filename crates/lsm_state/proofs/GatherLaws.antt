@@ -39,7 +39,7 @@ use Rattle.lsm_journal.specs.HeldManifest.{is_at_limit}
 use Rattle.lsm_journal.specs.Difference.{Difference, Suits, changed_by, deleted_numbers}
 use Rattle.lsm_state.specs.Asked.{ChangeRefused, OnShelf}
 use Rattle.lsm_state.specs.Changing.{ChangesVersion, HasSlot, IsChangeRefusal, Sought, plain_after}
-use Rattle.lsm_state.specs.Gathering.{GatherRefused, Gathers, IsGatherChange, IsGatherRefusal, IsGathered, IsGatheredIn, IsGathering, IsRefusedIn, IsToGather, IsUngathered, MayGather, gathered}
+use Rattle.lsm_state.specs.Gathering.{GatherRefused, Gathers, HasNoneToGather, IsGatherChange, IsGatherRefusal, IsGathered, IsGatheredIn, IsGathering, IsRefusedIn, IsToGather, IsUngathered, MayGather, gathered}
 use Rattle.lsm_state.specs.Held.{HasInputs, Held, IsLawfulState, plain}
 use Rattle.lsm_state.specs.Ingesting.{HasNumbers, with_number, with_slots}
 use Rattle.lsm_state.specs.Installing.{SameAnswers, deleted_at}
@@ -458,3 +458,7 @@ fault_is P (Err e) f h k = subst P (sym h) k
 -- no refused change moves a slot
 pub change_slots : (x y : Held) (e : StateFault) (was is : Told) → IsChangeRefusal x y e was is → y.slots ≡ x.slots
 change_slots x y e was is p = Rattle.lsm_state.proofs.IngestLaws.slots_stay x y e was is p
+
+-- where files may be gathered by the rule, there are some to be gathered
+pub may_not_none : (h : Held) (n : ℕ) → MayGather h n → HasNoneToGather h → ⊥
+may_not_none h n may none = none may.rule.eight may.rule.oldest may.rule.here may.rule.can

@@ -1,7 +1,8 @@
 //! Gathering: the newest small files of level 0 become one.
 
 ghost use Rattle.std.specs.Prelude.{◌≡◌, ◌+◌, ◌-◌, ◌^◌, ◌<◌, suc, length, false, None};
-ghost use Rattle.std.specs.Prelude.{IfErr, IfNone, IfOk, IfSome, MatchOption, OnErr, OnOk};
+ghost use Rattle.std.specs.Prelude.{◌↔◌, IfErr, IfNone, IfOk, IfSome, IsTrue, MatchOption, OnErr};
+ghost use Rattle.std.specs.Prelude.{OnOk};
 ghost use Rattle.lsm_codec.specs.Lists.{Has};
 ghost use Rattle.lsm_shelf.specs.Told.{Becomes, putting};
 ghost use Rattle.lsm_table.specs.Registry.{Table};
@@ -164,6 +165,23 @@ impl<N: Boarded, S: Shelf> State<N, S> {
         let nothing = History::empty();
         self.change_version(rt, alloc, shelf, &change, slot, None, &nothing)?;
         Ok(())
+    }
+
+    /// Whether no files of level 0 are to be gathered (`lsm_picker::to_gather`).
+    ///
+    /// `Halted`; `NumbersSpent` where there are some and a file number would pass 2^64 - 2;
+    /// `OutOfMemory`.
+    #[tactic(auto, using(crate::proofs::GatherLaws::may_not_none))]
+    pub fn has_none_to_gather(&self, alloc: Global) -> Result<bool, StateFault>
+        ensures none { IfOk result (λ none. IsTrue none ↔ HasNoneToGather self.now) }
+        ensures open { OnOk result (self.now.halted ≡ false) }
+        ensures refused { IfErr result (λ e. IsGatherRefusedAtOnce self.now (gather.State e)) }
+    {
+        match self.least_to_gather(alloc) {
+            Ok(None) => Ok(true),
+            Ok(Some(_)) => Ok(false),
+            Err(fault) => Err(fault),
+        }
     }
 
     /// Gathers the newest small files of level 0 (`lsm_picker::to_gather`): they become one file of

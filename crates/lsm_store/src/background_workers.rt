@@ -11,6 +11,7 @@ ghost use Rattle.lsm_store.specs.Working.{given_one};
 ghost use Rattle.lsm_store.specs.declared.picks.Picks.TheVariants.{Gathering, Joining};
 
 use crate::background::Background;
+use crate::bell::Bell;
 use crate::drawing::draw_for_all;
 use crate::gate::Gate;
 use crate::invariant::Invariant;
