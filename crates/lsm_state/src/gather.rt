@@ -1,8 +1,7 @@
 //! Gathering: the newest small files of level 0 become one.
 
 ghost use Rattle.std.specs.Prelude.{◌≡◌, ◌+◌, ◌-◌, ◌^◌, ◌<◌, suc, length, false, None};
-ghost use Rattle.std.specs.Prelude.{◌↔◌, IfErr, IfNone, IfOk, IfSome, IsTrue, MatchOption, OnErr};
-ghost use Rattle.std.specs.Prelude.{OnOk};
+ghost use Rattle.std.specs.Prelude.{IfErr, IfNone, IfOk, IfSome, MatchBool, MatchOption, OnErr, OnOk};
 ghost use Rattle.lsm_codec.specs.Lists.{Has};
 ghost use Rattle.lsm_shelf.specs.Told.{Becomes, putting};
 ghost use Rattle.lsm_table.specs.Registry.{Table};
@@ -173,7 +172,8 @@ impl<N: Boarded, S: Shelf> State<N, S> {
     /// `OutOfMemory`.
     #[tactic(auto, using(crate::proofs::GatherLaws::may_not_none))]
     pub fn has_none_to_gather(&self, alloc: Global) -> Result<bool, StateFault>
-        ensures none { IfOk result (λ none. IsTrue none ↔ HasNoneToGather self.now) }
+        ensures none { IfOk result (λ none. MatchBool none
+            (HasNoneToGather self.now) (HasNoneToGather self.now → ⊥)) }
         ensures open { OnOk result (self.now.halted ≡ false) }
         ensures refused { IfErr result (λ e. IsGatherRefusedAtOnce self.now (gather.State e)) }
     {
