@@ -116,17 +116,18 @@ fn usable_processors<R: Threads>(rt: &R) -> usize {
     }
 }
 
-/// How many threads read and judge the tables for a command. Other commands than a check read them
-/// by this one alone.
+/// How many threads read and judge the tables for a command: as many as it says, or one a processor.
 fn threads_for<R: Threads>(rt: &R, command: &DirectoryCommand) -> usize {
     match command {
         DirectoryCommand::Check(Some(workers)) => *workers,
-        DirectoryCommand::Check(None) => usable_processors(rt),
-        DirectoryCommand::List | DirectoryCommand::Get(_, _) | DirectoryCommand::Scan(_) => 0,
+        DirectoryCommand::Check(None)
+        | DirectoryCommand::List
+        | DirectoryCommand::Get(_, _)
+        | DirectoryCommand::Scan(_) => usable_processors(rt),
     }
 }
 
-/// So many more shelves on a folder.
+/// So many more shelves on a folder, or fewer, where the system gives no more of them.
 fn shelves_on<C: FolderCalls>(
     alloc: Global,
     folder: &C,
@@ -138,7 +139,7 @@ fn shelves_on<C: FolderCalls>(
     let mut shelves = Vec::new(alloc);
     for _ in 0..count {
         let Ok(fork) = folder.fork() else {
-            return Err(AllocError);
+            return Ok(shelves);
         };
         let shelf = FileShelf::over(fork);
         shelves.push(shelf)?;

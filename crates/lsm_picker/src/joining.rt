@@ -1,11 +1,13 @@
 //! Which range of files below level 0 is joined, so that small files become larger ones.
 
-ghost use Rattle.std.specs.Prelude.{◌≡◌, MatchOption};
+ghost use Rattle.std.specs.Prelude.{◌≡◌, ◌+◌, ◌≤◌, ◌↔◌, IsTrue, MatchOption, length};
 ghost use Rattle.lsm_table.specs.Registry.{bytes_of};
-ghost use Rattle.lsm_picker.specs.Joining.{HasNoRun, IsJoined, IsOverFirstRun, IsRun, IsSettled};
-ghost use Rattle.lsm_picker.specs.Joining.{NoRunBefore};
+ghost use Rattle.lsm_picker.specs.Joining.{Falls, HasNoRun, IsInnermost, IsJoined};
+ghost use Rattle.lsm_picker.specs.Joining.{IsOverInnermostRun, IsRun, IsSettled, NoRunBefore};
+ghost use Rattle.lsm_picker.specs.Joining.{NoRunBehind};
 
 use crate::span::Span;
+use lsm_model::is_at_most;
 use lsm_table::{Naming, Registry, Shelf, TableReceipt, TableRef};
 use lsm_version::{Version, high_of, low_of};
 
@@ -23,6 +25,19 @@ fn bytes_of<N: Naming, S: Shelf>(registry: &Registry<N, S>, tables: &[TableRef<N
     bytes
 }
 
+/// Whether a run begins at an index.
+fn is_run<N: Naming, S: Shelf>(
+    registry: &Registry<N, S>,
+    tables: &[TableRef<N, S>],
+    at: usize,
+    target_size: u64,
+) -> bool
+    requires { at + 12 ≤ length tables.now }
+    ensures { IsTrue result ↔ IsRun target_size tables.now at }
+{
+    bytes_of(registry, &tables[at..at + RUN]) <= 3 * u128::from(target_size)
+}
+
 /// The index at which the first run of a level begins; none where there is no run.
 fn first_run<N: Naming, S: Shelf>(
     registry: &Registry<N, S>,
@@ -32,35 +47,90 @@ fn first_run<N: Naming, S: Shelf>(
     ensures { MatchOption result (HasNoRun target_size tables.now) (λ at.
         IsRun target_size tables.now at × NoRunBefore target_size tables.now at) }
 {
-    if tables.len() < RUN {
-        return None;
-    }
-    for at in 0..tables.len() - (RUN - 1) {
-        if bytes_of(registry, &tables[at..at + RUN]) <= 3 * u128::from(target_size) {
+    for end in RUN..=tables.len() {
+        let at = end - RUN;
+        if is_run(registry, tables, at, target_size) {
             return Some(at);
         }
     }
     None
 }
 
-/// The range of the first run of a level.
-fn over_first_run<'a, N: Naming, S: Shelf>(
+/// The index at which the last run of a level begins; none where there is no run.
+fn last_run<N: Naming, S: Shelf>(
+    registry: &Registry<N, S>,
+    tables: &[TableRef<N, S>],
+    target_size: u64,
+) -> Option<usize>
+    ensures { MatchOption result (HasNoRun target_size tables.now) (λ at.
+        IsRun target_size tables.now at × NoRunBehind target_size tables.now at) }
+{
+    for rest in RUN..=tables.len() {
+        let at = tables.len() - rest;
+        if is_run(registry, tables, at, target_size) {
+            return Some(at);
+        }
+    }
+    None
+}
+
+/// Whether a level's first file begins before that of the next level.
+fn falls<N: Naming, S: Shelf>(
+    registry: &Registry<N, S>,
+    tables: &[TableRef<N, S>],
+    below: &[TableRef<N, S>],
+) -> bool
+    ensures { IsTrue result ↔ Falls tables.now below.now }
+{
+    match (tables.first(), below.first()) {
+        (Some(first), Some(next)) => !is_at_most(low_of(registry, next), low_of(registry, first)),
+        _ => false,
+    }
+}
+
+/// The index at which the innermost run of a level begins, the last one where the level falls, else
+/// the first one; none where there is no run.
+fn innermost_run<N: Naming, S: Shelf>(
+    registry: &Registry<N, S>,
+    tables: &[TableRef<N, S>],
+    below: &[TableRef<N, S>],
+    target_size: u64,
+) -> Option<usize>
+    ensures { MatchOption result (HasNoRun target_size tables.now) (λ at.
+        IsInnermost target_size tables.now below.now at) }
+{
+    if falls(registry, tables, below) {
+        last_run(registry, tables, target_size)
+    } else {
+        first_run(registry, tables, target_size)
+    }
+}
+
+/// The range of the innermost run of a level.
+fn over_innermost_run<'a, N: Naming, S: Shelf>(
     registry: &'a Registry<N, S>,
     tables: &[TableRef<N, S>],
+    below: &[TableRef<N, S>],
     target_size: u64,
 ) -> Option<(&'a [u8], &'a [u8])>
     ensures { MatchOption result (HasNoRun target_size tables.now) (λ r.
-        IsOverFirstRun target_size tables.now r.0.now r.1.now) }
+        IsOverInnermostRun target_size tables.now below.now r.0.now r.1.now) }
 {
-    let at = first_run(registry, tables, target_size)?;
+    let at = innermost_run(registry, tables, below, target_size)?;
     let from = low_of(registry, &tables[at]);
     let to = high_of(registry, &tables[at + (RUN - 1)]);
     Some((from, to))
 }
 
 /// The files that are joined next, so that small files become larger ones; none where no file wants
-/// to be joined: the range of the first run, twelve neighbours with at most three target sizes of
-/// bytes together, of the first level from 1 to 5 that has one.
+/// to be joined: the range of the innermost run, twelve neighbours with at most three target sizes
+/// of bytes together, of the first level from 1 to 5 that has one. Innermost is the last run of a
+/// level that falls, whose first file begins before that of the next level, and the first run of
+/// any other.
+///
+/// Where keys only fall, the newest files of a level are its first ones, where they only rise its
+/// last ones: what is joined lies next to the deeper files, so that levels can stay the stairs that
+/// `outermost_span` asks for.
 ///
 /// Live jobs are not looked at: a plan that conflicts with one has to wait.
 pub fn span_to_join<'a, N: Naming, S: Shelf>(
@@ -73,8 +143,9 @@ pub fn span_to_join<'a, N: Naming, S: Shelf>(
         IsJoined version.now target_size s) }
 {
     for level in 1..6u8 {
-        let run = over_first_run(registry, version.level(usize::from(level)), target_size);
-        if let Some((from, to)) = run {
+        let tables = version.level(usize::from(level));
+        let below = version.level(usize::from(level) + 1);
+        if let Some((from, to)) = over_innermost_run(registry, tables, below, target_size) {
             return Some(Span { level, from, to });
         }
     }

@@ -161,12 +161,13 @@ pub record IsJoining (h : Held) (p : TablePlan) : Type 0 where
   pub planned : IsRangePlan h span.level span.from span.to p
   pub clear : IsClear p (reserved_jobs h.live)
 
--- Nothing can be joined: there is no run, or the files of the first one have to wait.
+-- Nothing can be joined: there is no run, or the files of the one that is taken have to wait.
 abbrev pub HasNoJoining : Held → Type 0
 HasNoJoining h = IsSettled h.slots.version h.options.target_size
     ⊎ ((s : Span) × IsJoined h.slots.version h.options.target_size s × HasToWait h s)
 
--- level 0 is compacted: it has four files that are not small, or eleven of which none are gathered
+-- level 0 is compacted: it has four files that are not small, or eleven of which not enough may be
+-- gathered
 abbrev pub IsReady : Held → Type 0
 IsReady h = picker.IsReady h.slots.version (reserved_jobs h.live) h.options.target_size
 

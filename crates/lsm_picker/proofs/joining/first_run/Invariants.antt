@@ -1,5 +1,6 @@
-use Rattle.lsm_picker.specs.Joining.{NoRunBefore}
+use Rattle.std.proofs.Common.{ℕ, ◌+◌, ◌<◌}
+use Rattle.lsm_picker.specs.Joining.{IsRun}
 use Rattle.lsm_picker.proofs.joining.first_run.Given as goal
 
-abbrev pub invariant-loop-at : goal.invariant-loop-at
-invariant-loop-at g l = NoRunBefore l.target_size l.tables l.at
+abbrev pub invariant-loop-end : goal.invariant-loop-end
+invariant-loop-end g l = (at : ℕ) → at + 12 < l.end → IsRun l.target_size l.tables at → ⊥

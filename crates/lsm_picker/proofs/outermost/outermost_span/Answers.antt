@@ -1,7 +1,6 @@
 use Rattle.std.proofs.Common.{◌≤◌, List, length, refl, subst, arith}
 use Rattle.lsm_codec.specs.Lists.{Has}
 use Rattle.lsm_table.specs.Registry.{Table}
-use Rattle.lsm_version.specs.Versions.{level_in}
 use Rattle.lsm_picker.specs.Outermost.{LiesOutside}
 use Rattle.lsm_picker.specs.Scores.{free_tables}
 use Rattle.lsm_picker.proofs.GatheringLaws.{each_more, item_has}
