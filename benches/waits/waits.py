@@ -42,6 +42,7 @@ def tell(name, times, refused, seconds):
 
 
 def by_shell(workers):
+    os.mkdir(f"{folder}/lsm{workers}")
     child = subprocess.Popen(
         [lsm, "shell", f"{folder}/lsm{workers}", "--text", "--begin", "--workers", str(workers)],
         stdin=subprocess.PIPE,
