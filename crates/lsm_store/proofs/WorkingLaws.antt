@@ -413,7 +413,7 @@ of_turn Honest old new (gather.Merge e) was is refusal = merge_of_turn Honest ol
 -- ---- looks
 
 -- what was done at a look, where the fact held before it
-pub looked_under : (Honest : Type 0) (keeps : Held → Type 0) (picks : Picks) (old new : Held) (l : Look) (was is : Told) → ∥ keeps old ∥₁ → IsLook Honest picks old new l was is
+pub looked_under : {N S R : Type 0} (Honest : Type 0) (keeps : Held → Type 0) (picks : Picks) (old new : Held) (l : Look N S R) (was is : Told) → ∥ keeps old ∥₁ → IsLook Honest picks old new l was is
     → LooksUnder Honest keeps picks l was is
 looked_under Honest keeps picks old new look.Gathered was is kept g = record { does = g.0; old = old; new = new; kept = kept; number = g.1.0; gathers = g.1.1 }
 looked_under Honest keeps picks old new (look.Reserved work) was is kept n = (record { found = old; kept = kept; none_to_gather = n.0; picked = n.1 }, n.3)

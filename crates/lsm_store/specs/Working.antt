@@ -103,7 +103,8 @@ pub record GathersUnder (Honest : Type 0) (keeps : Held → Type 0) (picks : Pic
 
 -- What a worker did at one look at the state: it gathered files of level 0; or there was nothing to
 -- be gathered, and it reserved what is picked, if there is that, and its shelf was told nothing.
-abbrev pub IsLook : Type 0 → Picks → Held → Held → Look → Told → Told → Type 0
+abbrev pub IsLook : {N S R : Type 0} → Type 0 → Picks → Held → Held → Look N S R → Told → Told
+    → Type 0
 IsLook Honest picks old new look.Gathered was is =
     DoesGather picks × ((number : ℕ) × Gathers Honest old new number was is)
 IsLook Honest picks old new (look.Reserved work) was is =
@@ -114,7 +115,8 @@ IsLook Honest picks old new look.Nothing was is =
     × IsBooked None old new × (is ≡ was)
 
 -- So it was at one taking of the lock, where the fact held.
-abbrev pub LooksUnder : Type 0 → (Held → Type 0) → Picks → Look → Told → Told → Type 0
+abbrev pub LooksUnder : {N S R : Type 0} → Type 0 → (Held → Type 0) → Picks → Look N S R → Told
+    → Told → Type 0
 LooksUnder Honest keeps picks look.Gathered was is = GathersUnder Honest keeps picks was is
 LooksUnder Honest keeps picks (look.Reserved work) was is =
     IsPickedUnder Honest keeps picks (Some work) × (is ≡ was)
