@@ -65,9 +65,9 @@ fn gather<N: Boarded, S: Shelf, R: Wait>(
 ) -> Result<bool, GatherFault>
     ensures gathers { IfOk result (λ did. MatchBool did
         (DoesGather picks.now
-            × ((n : ℕ) × Gathers S.honest state.old state.new n shelf.old shelf.new))
+        × ((n : ℕ) × Gathers S.honest state.old state.new n shelf.old shelf.new))
         ((DoesGather picks.now → HasNoneToGather state.old)
-            × (state.new ≡ state.old) × (shelf.new ≡ shelf.old))) }
+        × (state.new ≡ state.old) × (shelf.new ≡ shelf.old))) }
     ensures refused { IfErr result (λ e. DoesGather picks.now
         × IsGatherRefusal S.honest state.old state.new e shelf.old shelf.new
         × GatherRefused (S.refuses N.place) state.old e) }
@@ -336,7 +336,9 @@ fn turn<N: Boarded, S: Shelf, K: Invariant, G: Gate, R: Wait>(
         Look::Reserved(job) => job,
         Look::Nothing => return Ok(None),
     };
-    do_job(rt, alloc, store, registry, service, shelf, gate, worker, job)?;
+    do_job(
+        rt, alloc, store, registry, service, shelf, gate, worker, job,
+    )?;
     Ok(Some(Turn::Compacted))
 }
 
