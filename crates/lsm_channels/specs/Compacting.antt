@@ -15,7 +15,8 @@ use Rattle.lsm_store.specs.Workers.{IsOfReserving, IsOfTurn}
 use Rattle.lsm_store.specs.Working.{IsReturned, given_one}
 use Rattle.lsm_channels.specs.Served.{IsLent}
 use Rattle.lsm_store.specs.declared.picks.Picks.{Picks}
-use Rattle.lsm_store.specs.declared.picks.Picks.TheVariants.{Choice, Joining, Manual}
+use Rattle.lsm_store.specs.declared.picks.Picks.TheVariants.{Choice, Gathering, Joining}
+use Rattle.lsm_store.specs.declared.picks.Picks.TheVariants.{Manual}
 use Rattle.lsm_store.specs.declared.worker_end.WorkerEnd.{WorkerEnd}
 use Rattle.lsm_store.specs.declared.worker_fault.WorkerFault.{WorkerFault}
 use Rattle.lsm_store.specs.declared.worker_fault.WorkerFault.TheVariants.{NoThread, State, Merge}
@@ -45,6 +46,7 @@ IsCompactFault honest (Merge fault) = IsOfTurn honest (Merge fault)
 abbrev pub AimsAt : Levels → Between → Picks → Type 0
 AimsAt v b Choice = ⊥
 AimsAt v b Joining = ⊥
+AimsAt v b Gathering = ⊥
 AimsAt v b (Manual s) = manual.IsToClear v (Some b.from) b.to s
 
 -- So it was at a taking of the lock, of the state that it gave, which has all that the channel
@@ -57,6 +59,7 @@ IsAimed keeps b picks knew knows =
 abbrev pub HasNoneOf : Levels → Picks → Type 0
 HasNoneOf v Choice = ⊥
 HasNoneOf v Joining = ⊥
+HasNoneOf v Gathering = ⊥
 HasNoneOf v (Manual s) = manual.IsCleared v s
 
 -- So it was at a taking of the lock, of the state that it gave, which has all that the channel

@@ -257,7 +257,7 @@ fn is_clear<N: Boarded, S: Shelf>(
     catch_up(state, memory);
     match picks {
         Picks::Manual(manual) => manual.is_done(state),
-        Picks::Choice | Picks::Joining => false,
+        Picks::Choice | Picks::Joining | Picks::Gathering => false,
     }
 }
 

@@ -19,7 +19,8 @@ use Rattle.lsm_opening.specs.declared.faults.writer_fault.WriterFault.TheVariant
 use Rattle.lsm_requests.specs.declared.compact_options.CompactOptions.{CompactOptions}
 use Rattle.lsm_requests.specs.declared.compact_range.CompactRange.{CompactRange}
 use Rattle.lsm_store.specs.declared.picks.Picks.{Picks}
-use Rattle.lsm_store.specs.declared.picks.Picks.TheVariants.{Choice, Joining, Manual}
+use Rattle.lsm_store.specs.declared.picks.Picks.TheVariants.{Choice, Gathering, Joining}
+use Rattle.lsm_store.specs.declared.picks.Picks.TheVariants.{Manual}
 use Rattle.lsm_cmd_compact.specs.Compacting.{AreAimed, IsAimed, IsAimedFault, IsClearedBy, AreFaultless, Clears, Compacts, IsCompactFault, IsNamed, IsOfManning, IsOpened, IsNotCompacted, LeavesAll, StopsCompacting, StopsSweeping, installed_between}
 use Rattle.lsm_opening.specs.declared.faults.compact_fault.CompactFault.{CompactFault}
 use Rattle.lsm_opening.specs.declared.faults.compact_fault.CompactFault.TheVariants.{Writer}
@@ -103,7 +104,9 @@ named_still was is t u same named =
 pub clears_by : (keeps : Held → Type 0) (found : Held) (range : Option CompactRange) (picks : Picks) → IsAimed found.slots.version range picks → IsClearedBy keeps picks → Clears keeps found range
 clears_by keeps found None Choice aimed cleared = tt
 clears_by keeps found None Joining aimed cleared = tt
+clears_by keeps found None Gathering aimed cleared = tt
 clears_by keeps found None (Manual s) aimed cleared = tt
 clears_by keeps found (Some r) Choice aimed cleared = absurd aimed
 clears_by keeps found (Some r) Joining aimed cleared = absurd aimed
+clears_by keeps found (Some r) Gathering aimed cleared = absurd aimed
 clears_by keeps found (Some r) (Manual s) aimed cleared = (s, aimed, cleared)

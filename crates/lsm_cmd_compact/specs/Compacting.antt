@@ -28,7 +28,8 @@ use Rattle.lsm_store.specs.Working.{AreReturned, given_each}
 use Rattle.lsm_requests.specs.declared.compact_options.CompactOptions.{CompactOptions}
 use Rattle.lsm_requests.specs.declared.compact_range.CompactRange.{CompactRange}
 use Rattle.lsm_store.specs.declared.picks.Picks.{Picks}
-use Rattle.lsm_store.specs.declared.picks.Picks.TheVariants.{Choice, Joining, Manual}
+use Rattle.lsm_store.specs.declared.picks.Picks.TheVariants.{Choice, Gathering, Joining}
+use Rattle.lsm_store.specs.declared.picks.Picks.TheVariants.{Manual}
 use Rattle.lsm_store.specs.declared.worker_end.WorkerEnd.{WorkerEnd}
 use Rattle.lsm_store.specs.declared.worker_fault.WorkerFault.{WorkerFault}
 use Rattle.lsm_opening.specs.Compactions.{IsSwept, Refuses, installed_text}
@@ -132,9 +133,11 @@ Clears keeps found (Some r) =
 abbrev pub IsAimed : Levels → Option CompactRange → Picks → Type 0
 IsAimed v None Choice = Unit {0}
 IsAimed v None Joining = ⊥
+IsAimed v None Gathering = ⊥
 IsAimed v None (Manual s) = ⊥
 IsAimed v (Some r) Choice = ⊥
 IsAimed v (Some r) Joining = ⊥
+IsAimed v (Some r) Gathering = ⊥
 IsAimed v (Some r) (Manual s) = IsToClear v r.from r.to s
 
 -- So ended as many workers as options say, which picked what these ask for.
@@ -148,6 +151,7 @@ AreAimed Refused Honest keeps place found options returned = (picks : Picks)
 abbrev pub IsClearedBy : (Held → Type 0) → Picks → Type 0
 IsClearedBy keeps Choice = Unit {0}
 IsClearedBy keeps Joining = Unit {0}
+IsClearedBy keeps Gathering = Unit {0}
 IsClearedBy keeps (Manual s) = IsClearedUnder keeps s
 
 -- ---- what the shelf was told

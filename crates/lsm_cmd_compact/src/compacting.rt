@@ -114,7 +114,7 @@ fn is_cleared<N: Boarded, S: Shelf, K: Invariant, R: Wait>(
 {
     match picks {
         Picks::Manual(manual) => manual.is_done(&store.lock(rt).state),
-        Picks::Choice | Picks::Joining => true,
+        Picks::Choice | Picks::Joining | Picks::Gathering => true,
     }
 }
 

@@ -26,7 +26,7 @@ use Rattle.lsm_journal.specs.Difference.{Difference, changed_by}
 use Rattle.lsm_journal.specs.Sending.{Sends}
 use Rattle.lsm_version.specs.Versions.{Levels}
 use Rattle.lsm_state.specs.Changing.{IsChangeRefusal, IsSlotRefusal}
-use Rattle.lsm_state.specs.Gathering.{FailsToBringIn, FailsToMerge, Gathers, HasNoneToGather, IsGatherRefusal, IsGatherRefusedAtOnce, IsRefusedIn, gathered}
+use Rattle.lsm_state.specs.Gathering.{FailsToBringIn, FailsToMerge, GatherRefused, Gathers, HasNoneToGather, IsGatherRefusal, IsGatherRefusedAtOnce, IsRefusedIn, gathered}
 use Rattle.lsm_state.specs.Held.{Held}
 use Rattle.lsm_state.specs.Ingesting.{with_number}
 use Rattle.lsm_state.specs.Options.{sizes_of}
@@ -35,12 +35,14 @@ use Rattle.lsm_state.specs.declared.gather_fault.GatherFault.{GatherFault}
 use Rattle.lsm_state.specs.declared.gather_fault.GatherFault.TheVariants as gather
 use Rattle.lsm_state.specs.declared.state_fault.StateFault.{StateFault}
 use Rattle.lsm_state.specs.declared.state_fault.StateFault.TheVariants as state
-use Rattle.lsm_store.specs.Picking.{IsPickedUnder}
+use Rattle.lsm_store.specs.Compacting.{IsCompactingStep}
+use Rattle.lsm_store.specs.Picking.{DoesGather, IsBooked, IsPicked, IsPickedUnder}
 use Rattle.lsm_store.specs.WorkerFault.{of_gather}
-use Rattle.lsm_store.specs.Workers.{IsOfInstalling, IsOfTurn}
-use Rattle.lsm_store.specs.Working.{AreReturned, FindsNoneToGather, GathersUnder, Given, IsCompaction, IsCounted, IsCountedIf, IsDone, IsLast, IsPutOrSent, IsRefusedBy, IsReturned, IsStoppedBy, IsTaken, IsTurn, IsUndone, IsWorked, OnlyPutsAndSends, Turns, compactions, given_each, given_one}
+use Rattle.lsm_store.specs.Workers.{IsOfInstalling, IsOfReserving, IsOfTurn}
+use Rattle.lsm_store.specs.Working.{AreReturned, FailsToGather, GathersUnder, Given, IsCompaction, IsCounted, IsCountedIf, IsDone, IsLast, IsLook, IsLookRefused, IsPutOrSent, IsRefusedBy, IsReturned, IsStoppedBy, IsTaken, IsTurn, IsUndone, IsWorked, LooksUnder, OnlyPutsAndSends, Turns, compactions, given_each, given_one}
+use Rattle.lsm_store.specs.declared.look.Look.{Look}
+use Rattle.lsm_store.specs.declared.look.Look.TheVariants as look
 use Rattle.lsm_store.specs.declared.picks.Picks.{Picks}
-use Rattle.lsm_store.specs.declared.picks.Picks.TheVariants.{Joining}
 use Rattle.lsm_store.specs.declared.turn.Turn.{Turn}
 use Rattle.lsm_store.specs.declared.turn.Turn.TheVariants.{Gathered, Compacted}
 use Rattle.lsm_store.specs.declared.worker_end.WorkerEnd.{WorkerEnd}
@@ -200,7 +202,7 @@ only_ungathered Honest old new e was is (inr (least, may, inr (sought, slot, lat
 
 only_turn : (Honest : Type 0) (keeps : Held → Type 0) (picks : Picks) (turn : Turn) (was is : Told) → IsTurn Honest keeps picks turn was is → OnlyPutsAndSends was is
 only_turn Honest keeps picks Gathered was is g = only_gathered Honest g.old g.new g.number was is g.gathers
-only_turn Honest keeps picks Compacted was is c = only_done Honest keeps c.1.work was is c.1.done
+only_turn Honest keeps picks Compacted was is c = only_done Honest keeps c.work was is c.done
 
 pub only_turns : (Honest : Type 0) (keeps : Held → Type 0) (picks : Picks) (turns : List Turn) (was is : Told) → Turns Honest keeps picks turns was is → OnlyPutsAndSends was is
 only_turns Honest keeps picks [] was is e = only_same was is e
@@ -365,7 +367,7 @@ pub same_given : (p q : Picks) (a b : Bool) (t u : Told) → p ≡ q → a ≡ b
 same_given p q a b t u e f g = cc
 
 -- a job that was picked and was done is a compaction
-pub turned : (Honest : Type 0) (keeps : Held → Type 0) (picks : Picks) (work : Work) (was is : Told) → (Honest → IsPickedUnder keeps picks (Some work)) → IsDone Honest keeps work was is
+pub turned : (Honest : Type 0) (keeps : Held → Type 0) (picks : Picks) (work : Work) (was is : Told) → IsPickedUnder Honest keeps picks (Some work) → IsDone Honest keeps work was is
     → IsCompaction Honest keeps picks was is
 turned Honest keeps picks work was is picked done = record { work = work; picked = picked; done = done }
 
@@ -408,13 +410,48 @@ pub of_turn : (Honest : Type 0) (old new : Held) (e : GatherFault) (was is : Tol
 of_turn Honest old new (gather.State e) was is refusal = state_of_turn Honest old new e was is refusal
 of_turn Honest old new (gather.Merge e) was is refusal = merge_of_turn Honest old new e was is refusal
 
--- ---- looks for files to gather
+-- ---- looks
 
-pub looked_under : (Honest : Type 0) (keeps : Held → Type 0) (old new : Held) (was is : Told) (did : Bool) → ∥ keeps old ∥₁
-    → MatchBool did ((n : ℕ) × Gathers Honest old new n was is) (HasNoneToGather old × (is ≡ was))
-    → MatchBool did (GathersUnder Honest keeps Joining was is) (FindsNoneToGather keeps Joining × (is ≡ was))
-looked_under Honest keeps old new was is true kept g = record { joining = refl; old = old; new = new; kept = kept; number = g.0; gathers = g.1 }
-looked_under Honest keeps old new was is false kept n = ((λ e. (old, kept, n.0)), n.1)
+-- what was done at a look, where the fact held before it
+pub looked_under : {N S R : Type 0} (Honest : Type 0) (keeps : Held → Type 0) (picks : Picks) (old new : Held) (l : Look N S R) (was is : Told) → ∥ keeps old ∥₁ → IsLook Honest picks old new l was is
+    → LooksUnder Honest keeps picks l was is
+looked_under Honest keeps picks old new look.Gathered was is kept g = record { does = g.0; old = old; new = new; kept = kept; number = g.1.0; gathers = g.1.1 }
+looked_under Honest keeps picks old new (look.Reserved work) was is kept n = (record { found = old; kept = kept; none_to_gather = n.0; picked = n.1 }, n.3)
+looked_under Honest keeps picks old new look.Nothing was is kept n = (record { found = old; kept = kept; none_to_gather = n.0; picked = n.1 }, n.3)
+
+-- and why it was refused
+pub refused_under : (Honest : Type 0) (Refused : Asked → ShelfFault → Type 0) (keeps : Held → Type 0) (picks : Picks) (old new : Held) (e : WorkerFault) (was is : Told) → ∥ keeps old ∥₁
+    → IsLookRefused Honest Refused picks old new e was is → IsStoppedBy Honest Refused keeps picks e was is
+refused_under Honest Refused keeps picks old new e was is kept (inl r) =
+    inl (subst (λ (f : WorkerFault). IsUndone Honest Refused keeps f was is) (sym r.1) (inl (r.2, r.3)))
+refused_under Honest Refused keeps picks old new e was is kept (inr r) =
+    inr (r.0, r.1, record { does = r.2; old = old; new = new; kept = kept; refusal = r.3; asked = r.4 })
+
+reserving_ends : (e : StateFault) → IsOfReserving e → IsOfInstalling e
+reserving_ends state.OutOfMemory r = tt
+reserving_ends state.Halted r = tt
+reserving_ends state.NumbersSpent r = tt
+reserving_ends (state.Shelf fault) r = absurd r
+reserving_ends (state.Read fault) r = absurd r
+reserving_ends (state.BadLevel n) r = absurd r
+reserving_ends state.EmptyBatch r = absurd r
+reserving_ends (state.KeyOrder n) r = absurd r
+reserving_ends state.TooLarge r = absurd r
+reserving_ends state.LevelZeroFull r = absurd r
+reserving_ends state.SequencesSpent r = absurd r
+reserving_ends (state.UnknownSnapshot n) r = absurd r
+reserving_ends (state.Conflict n) r = absurd r
+reserving_ends (state.UnknownTicket n) r = absurd r
+reserving_ends state.Stale r = absurd r
+reserving_ends state.SlotsHeld r = absurd r
+reserving_ends state.VersionsSpent r = absurd r
+reserving_ends state.PinsSpent r = absurd r
+
+-- which refusals these are
+pub refused_turn : (Honest : Type 0) (Refused : Asked → ShelfFault → Type 0) (picks : Picks) (old new : Held) (e : WorkerFault) (was is : Told)
+    → IsLookRefused Honest Refused picks old new e was is → IsOfTurn Honest e
+refused_turn Honest Refused picks old new e was is (inl r) = subst (IsOfTurn Honest) (sym r.1) (reserving_ends r.0 r.2)
+refused_turn Honest Refused picks old new e was is (inr r) = subst (IsOfTurn Honest) (sym r.1) (of_turn Honest old new r.0 was is r.3)
 
 -- ---- outcomes
 

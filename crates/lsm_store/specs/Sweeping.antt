@@ -76,6 +76,10 @@ LastForked given lent = ((given ≡ []) × (lent ≡ []))
     ⊎ ((front : List Told) × (t : Told) × (u : Told) × (given ≡ front ++ t ∷ [])
     × (lent ≡ front ++ u ∷ []) × ForkedOnce t u)
 
+-- so twice
+abbrev pub LastForkedTwice : (given lent : List Told) → Type 0
+LastForkedTwice given lent = (mid : List Told) × LastForked given mid × LastForked mid lent
+
 -- ---- what follows
 
 -- the removal of a table that was not kept, at one taking of the lock, where the fact held

@@ -23,11 +23,12 @@ use Rattle.lsm_state.specs.Installing.{Installed, IsInstallRefusal, MayInstall}
 use Rattle.lsm_state.specs.declared.gather_fault.GatherFault.{GatherFault}
 use Rattle.lsm_state.specs.declared.state_fault.StateFault.{StateFault}
 use Rattle.lsm_state.specs.declared.state_fault.StateFault.TheVariants as state
-use Rattle.lsm_store.specs.Picking.{IsPickedUnder}
+use Rattle.lsm_store.specs.Picking.{DoesGather, IsBooked, IsPicked, IsPickedUnder}
 use Rattle.lsm_store.specs.WorkerFault.{of_gather}
 use Rattle.lsm_store.specs.Workers.{IsOfReserving}
 use Rattle.lsm_store.specs.declared.picks.Picks.{Picks}
-use Rattle.lsm_store.specs.declared.picks.Picks.TheVariants.{Joining}
+use Rattle.lsm_store.specs.declared.look.Look.{Look}
+use Rattle.lsm_store.specs.declared.look.Look.TheVariants as look
 use Rattle.lsm_store.specs.declared.turn.Turn.{Turn}
 use Rattle.lsm_store.specs.declared.turn.Turn.TheVariants.{Gathered, Compacted}
 use Rattle.lsm_store.specs.declared.worker_end.WorkerEnd.{WorkerEnd}
@@ -83,38 +84,51 @@ pub record IsDone (Honest : Type 0) (keeps : Held → Type 0) (work : Work) (was
 pub record IsCompaction (Honest : Type 0) (keeps : Held → Type 0) (picks : Picks) (was is : Told)
     : Type 0 where
   pub work : Work
-  pub picked : Honest → IsPickedUnder keeps picks (Some work)
+  pub picked : IsPickedUnder Honest keeps picks (Some work)
   pub done : IsDone Honest keeps work was is
-
--- there was no job for a worker who picks so
-abbrev pub FindsNoJob : Type 0 → (Held → Type 0) → Picks → Type 0
-FindsNoJob Honest keeps picks = Honest → IsPickedUnder keeps picks None
 
 -- ---- one gather
 
--- Files of level 0 became one at one taking of the lock, where the fact held. Only a worker who
--- takes what comes next gathers.
+-- Files of level 0 became one at one taking of the lock, where the fact held.
 pub record GathersUnder (Honest : Type 0) (keeps : Held → Type 0) (picks : Picks) (was is : Told)
     : Type 0 where
-  pub joining : picks ≡ Joining
+  pub does : DoesGather picks
   pub old : Held
   pub new : Held
   pub kept : ∥ keeps old ∥₁
   pub number : ℕ
   pub gathers : Gathers Honest old new number was is
 
--- A worker who takes what comes next looked, at one taking of the lock where the fact held, and
--- there was nothing to be gathered.
-abbrev pub FindsNoneToGather : (Held → Type 0) → Picks → Type 0
-FindsNoneToGather keeps picks = picks ≡ Joining → (h : Held) × ∥ keeps h ∥₁ × HasNoneToGather h
+-- ---- looks
+
+-- What a worker did at one look at the state: it gathered files of level 0; or there was nothing to
+-- be gathered, and it reserved what is picked, if there is that, and its shelf was told nothing.
+abbrev pub IsLook : {N S R : Type 0} → Type 0 → Picks → Held → Held → Look N S R → Told → Told
+    → Type 0
+IsLook Honest picks old new look.Gathered was is =
+    DoesGather picks × ((number : ℕ) × Gathers Honest old new number was is)
+IsLook Honest picks old new (look.Reserved work) was is =
+    (DoesGather picks → HasNoneToGather old) × (Honest → IsPicked picks old (Some work))
+    × IsBooked (Some work) old new × (is ≡ was)
+IsLook Honest picks old new look.Nothing was is =
+    (DoesGather picks → HasNoneToGather old) × (Honest → IsPicked picks old None)
+    × IsBooked None old new × (is ≡ was)
+
+-- So it was at one taking of the lock, where the fact held.
+abbrev pub LooksUnder : {N S R : Type 0} → Type 0 → (Held → Type 0) → Picks → Look N S R → Told
+    → Told → Type 0
+LooksUnder Honest keeps picks look.Gathered was is = GathersUnder Honest keeps picks was is
+LooksUnder Honest keeps picks (look.Reserved work) was is =
+    IsPickedUnder Honest keeps picks (Some work) × (is ≡ was)
+LooksUnder Honest keeps picks look.Nothing was is =
+    IsPickedUnder Honest keeps picks None × (is ≡ was)
 
 -- ---- turns
 
 -- what a worker did in one turn: it gathered; or there was nothing to be gathered, and it compacted
 abbrev pub IsTurn : Type 0 → (Held → Type 0) → Picks → Turn → Told → Told → Type 0
 IsTurn Honest keeps picks Gathered was is = GathersUnder Honest keeps picks was is
-IsTurn Honest keeps picks Compacted was is =
-    FindsNoneToGather keeps picks × IsCompaction Honest keeps picks was is
+IsTurn Honest keeps picks Compacted was is = IsCompaction Honest keeps picks was is
 
 -- one turn after another, of which the last is told first
 abbrev pub Turns : Type 0 → (Held → Type 0) → Picks → List Turn → Told → Told → Type 0
@@ -128,9 +142,9 @@ compactions [] = 0
 compactions (Gathered ∷ turns) = compactions turns
 compactions (Compacted ∷ turns) = suc (compactions turns)
 
--- there was nothing for a worker who picks so
+-- at one look there was nothing for a worker who picks so
 abbrev pub FindsNone : Type 0 → (Held → Type 0) → Picks → Type 0
-FindsNone Honest keeps picks = FindsNoneToGather keeps picks × FindsNoJob Honest keeps picks
+FindsNone Honest keeps picks = IsPickedUnder Honest keeps picks None
 
 -- ---- what ends a worker
 
@@ -178,7 +192,7 @@ IsUndone Honest Refused keeps (Merge fault) was is = IsUnmerged Honest fault was
 -- Files were not gathered at one taking of the lock, where the fact held.
 pub record FailsToGather (Honest : Type 0) (Refused : Asked → ShelfFault → Type 0) (keeps : Held
     → Type 0) (picks : Picks) (e : GatherFault) (was is : Told) : Type 0 where
-  pub joining : picks ≡ Joining
+  pub does : DoesGather picks
   pub old : Held
   pub new : Held
   pub kept : ∥ keeps old ∥₁
@@ -192,6 +206,15 @@ abbrev pub IsStoppedBy : Type 0 → (Asked → ShelfFault → Type 0) → (Held 
 IsStoppedBy Honest Refused keeps picks e was is = IsUndone Honest Refused keeps e was is
     ⊎ ((fault : GatherFault) × (e ≡ of_gather fault)
     × FailsToGather Honest Refused keeps picks fault was is)
+
+-- A look was refused: the state has no reservation, and the shelf was asked for nothing; or files
+-- were not gathered.
+abbrev pub IsLookRefused : Type 0 → (Asked → ShelfFault → Type 0) → Picks → Held → Held
+    → WorkerFault → Told → Told → Type 0
+IsLookRefused Honest Refused picks old new e was is =
+    ((fault : StateFault) × (e ≡ State fault) × IsOfReserving fault × (is ≡ was))
+    ⊎ ((fault : GatherFault) × (e ≡ of_gather fault) × DoesGather picks
+    × IsGatherRefusal Honest old new fault was is × GatherRefused Refused old fault)
 
 -- Why a worker with a thread ended, after its last turn: a refusal; or none, and where it was to go
 -- on to the end, it found nothing.

@@ -15,13 +15,15 @@ use lsm_table::{NamedShelf, Shelf};
 use std::alloc::Global;
 use std::sync::Wait;
 
-/// Brings the batch into the state, and remembers the history with it.
+/// Brings the batch into the state, and remembers the history with it. Where it came in the bell is
+/// rung, so that nobody who sees the batch has missed the ring.
 fn bring_in<N: Boarded, S: Shelf, R: Wait>(
     state: &mut State<N, S>,
     rt: &R,
     alloc: Global,
     shelf: &mut NamedShelf<N, S>,
     batch: &Batch,
+    bell: &Bell,
 ) -> Result<(Ingested, Memory<N>), StateFault>
     ensures ok { IfOk result (λ r. BringsIn state.old state.new batch.now r.0 shelf.old shelf.new) }
     ensures memory { IfOk result (λ r. r.1 ≡ state.new.history) }
@@ -30,25 +32,29 @@ fn bring_in<N: Boarded, S: Shelf, R: Wait>(
     ensures step { IsIngestStep (S.refuses N.place) batch.now state.old state.new }
 {
     match state.ingest(rt, alloc, shelf, batch) {
-        Ok(came) => Ok((came, state.remember())),
+        Ok(came) => {
+            bell.ring(rt);
+            Ok((came, state.remember()))
+        }
         Err(fault) => Err(fault),
     }
 }
 
-/// Brings the batch in under the lock.
+/// Brings the batch in under the lock, and wakes the workers.
 fn bring_in_under_lock<N: Boarded, S: Shelf, K: Invariant, R: Wait>(
     rt: &R,
     alloc: Global,
     store: &Store<N, S, K>,
     shelf: &mut NamedShelf<N, S>,
     batch: &Batch,
+    bell: &Bell,
 ) -> Result<(Ingested, Memory<N>), StateFault>
     requires kept { IsKeptByIngest (S.refuses N.place) batch.now K.keeps }
     ensures ok { IfOk result (λ r. IsBroughtIn K.keeps batch.now r shelf.old shelf.new) }
     ensures refused { IfErr result (λ e.
         IsKeptOut (S.refuses N.place) K.keeps batch.now e shelf.old shelf.new) }
 {
-    bring_in(&mut store.lock(rt).state, rt, alloc, shelf, batch)
+    bring_in(&mut store.lock(rt).state, rt, alloc, shelf, batch, bell)
 }
 
 /// The workers that compact beside a program, as the program sees them. Threads may share it.
@@ -107,31 +113,10 @@ impl Background {
         ensures refused { IfErr result (λ e.
             IsKeptOut (S.refuses N.place) K.keeps batch.now e shelf.old shelf.new) }
     {
-        match self.try_ingest(rt, alloc, store, shelf, batch) {
+        match bring_in_under_lock(rt, alloc, store, shelf, batch, &self.bell) {
             Err(StateFault::LevelZeroFull) => self.ingest_stalled(rt, alloc, store, shelf, batch),
             came => came,
         }
-    }
-
-    // One try. Where the batch came in, workers are woken.
-    fn try_ingest<N: Boarded, S: Shelf, K: Invariant, R: Wait>(
-        &self,
-        rt: &R,
-        alloc: Global,
-        store: &Store<N, S, K>,
-        shelf: &mut NamedShelf<N, S>,
-        batch: &Batch,
-    ) -> Result<(Ingested, Memory<N>), StateFault>
-        requires kept { IsKeptByIngest (S.refuses N.place) batch.now K.keeps }
-        ensures ok { IfOk result (λ r. IsBroughtIn K.keeps batch.now r shelf.old shelf.new) }
-        ensures refused { IfErr result (λ e.
-            IsKeptOut (S.refuses N.place) K.keeps batch.now e shelf.old shelf.new) }
-    {
-        let came = bring_in_under_lock(rt, alloc, store, shelf, batch);
-        if came.is_ok() {
-            self.bell.ring(rt);
-        }
-        came
     }
 
     // Tries again each time that the bell has rung. It is rung here first: workers look again, also
@@ -152,7 +137,7 @@ impl Background {
     {
         let mut rings = self.bell.ring(rt);
         for _ in rt.forever() {
-            match self.try_ingest(rt, alloc, store, shelf, batch) {
+            match bring_in_under_lock(rt, alloc, store, shelf, batch, &self.bell) {
                 Err(StateFault::LevelZeroFull) => match self.bell.wait_for_room(rt, rings) {
                     Some(rung) => rings = rung,
                     None => return Err(StateFault::LevelZeroFull),

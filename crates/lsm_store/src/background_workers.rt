@@ -4,12 +4,14 @@ ghost use Rattle.std.specs.Prelude.{◌≡◌, ◌≤◌, List, [], All, IfErr, 
 ghost use Rattle.std.specs.Prelude.{vec_capacity, vec_len};
 ghost use Rattle.lsm_store.specs.Compacting.{IsKeptByCompaction};
 ghost use Rattle.lsm_shelf.specs.Told.{Told, fresh};
-ghost use Rattle.lsm_store.specs.Sweeping.{HasSwept, LastForked};
+ghost use Rattle.lsm_store.specs.Sweeping.{HasSwept, LastForkedTwice};
 ghost use Rattle.lsm_store.specs.Workers.{IsWorkersEnd};
-ghost use Rattle.lsm_store.specs.Working.{AreReturned, HaveEnded, given_each};
-ghost use Rattle.lsm_store.specs.declared.picks.Picks.TheVariants.{Joining};
+ghost use Rattle.lsm_store.specs.Working.{AreReturned, HaveEnded, IsReturned, given_each};
+ghost use Rattle.lsm_store.specs.Working.{given_one};
+ghost use Rattle.lsm_store.specs.declared.picks.Picks.TheVariants.{Gathering, Joining};
 
 use crate::background::Background;
+use crate::bell::Bell;
 use crate::drawing::draw_for_all;
 use crate::gate::Gate;
 use crate::invariant::Invariant;
@@ -20,7 +22,7 @@ use crate::sweeper::Sweeper;
 use crate::sweeping::fork_last;
 use crate::worker_end::WorkerEnd;
 use crate::worker_thread::{Returned, Thread};
-use crate::workers::{ends_of, join_all, start_all};
+use crate::workers::{ends_of, join_all, start, start_all};
 use lsm_slots::Boarded;
 use lsm_table::{NamedShelf, Shelf};
 use std::alloc::{AllocFailed, Global};
@@ -29,8 +31,14 @@ use std::thread;
 use std::thread::{Scope, Threads};
 
 /// What comes back of a body and of those that worked beside it: what it answered; what comes back
-/// of each worker; and the shelf of the thread that swept, none where there was no such thread.
-pub type ReturnedBeside<N, S, T> = (T, Vec<Returned<N, S>>, Option<NamedShelf<N, S>>);
+/// of each worker; what comes back of the one that only gathered, none where there was none; and the
+/// shelf of the thread that swept, none where there was no such thread.
+pub type ReturnedBeside<N, S, T> = (
+    T,
+    Vec<Returned<N, S>>,
+    Option<Returned<N, S>>,
+    Option<NamedShelf<N, S>>,
+);
 
 /// Starts the thread that draws numbers for workers. Whether it could be made.
 fn start_drawing<'s, 'e, N: Boarded, S: Shelf, K: Invariant, R: Threads + Wait + Sync>(
@@ -51,8 +59,63 @@ fn start_drawing<'s, 'e, N: Boarded, S: Shelf, K: Invariant, R: Threads + Wait +
     thread.is_ok()
 }
 
-/// Runs a worker for each shelf beside the body, which gathers and joins small files, and a thread
-/// that draws numbers for them; there is room for threads and for what comes back.
+/// Starts a worker that only gathers, over this shelf. None where there is no shelf.
+fn start_gathering<
+    's,
+    'e,
+    N: Boarded,
+    S: Shelf,
+    K: Invariant,
+    G: Gate + Sync,
+    R: Threads + Wait + Sync,
+>(
+    scope: &'s Scope<'s, &'e ()>,
+    rt: &'e R,
+    alloc: Global,
+    store: &'e Store<N, S, K>,
+    service: &'e NumberService,
+    bell: &'e Bell,
+    shelf: Option<NamedShelf<N, S>>,
+    gate: &'e G,
+    worker: usize,
+    picks: &'e Picks,
+) -> Option<Thread<N, S, K>>
+    requires kept { IsKeptByCompaction S.honest K.keeps }
+    requires fresh { IfSome shelf (λ s. s ≡ fresh N.place) }
+    ensures given { IfSome result (λ t. t.given.value ≡ fresh N.place) }
+    ensures picks { IfSome result (λ t. t.picks.value ≡ picks.now) }
+    ensures to_the_end { IfSome result (λ t. t.to_the_end ≡ bell.now.to_the_end) }
+{
+    let Some(shelf) = shelf else {
+        service.leave(rt);
+        bell.leave(rt);
+        return None;
+    };
+    Some(start(
+        scope, rt, alloc, store, service, bell, shelf, gate, worker, picks,
+    ))
+}
+
+/// Waits for the worker that only gathers, if there is one.
+fn join_gathering<N: Boarded, S: Shelf, K: Invariant, R: Threads>(
+    rt: &R,
+    thread: Option<Thread<N, S, K>>,
+) -> Option<Returned<N, S>>
+    requires given { IfSome thread (λ t. t.given.value ≡ fresh N.place) }
+    requires picks { IfSome thread (λ t. t.picks.value ≡ Gathering) }
+    requires to_the_end { IfSome thread (λ t. t.to_the_end ≡ false) }
+    ensures { IfSome result (λ g. IsReturned S.honest (S.refuses N.place) K.keeps
+        (given_one Gathering false (fresh N.place)) g.0 g.1) }
+{
+    match thread {
+        Some(thread) => Some(thread.join(rt)),
+        None => None,
+    }
+}
+
+/// Runs a worker for each shelf beside the body, which gathers and joins small files; one that only
+/// gathers; and threads that draw numbers for them and sweep. There is room for threads and for what
+/// comes back.
 fn run_beside<
     N: Boarded,
     S: Shelf,
@@ -79,19 +142,26 @@ fn run_beside<
     ensures answer { IfOk result (λ r. (b : _) × F.post body b r.0) }
     ensures len { IfOk result (λ r. vec_len r.1 ≡ vec_len shelves) }
     ensures ends { IfOk result (λ r. All (λ w. IsWorkersEnd S.honest w.0) r.1.items) }
-    ensures returned { IfOk result (λ r. (lent : List Told) × LastForked shelves.items lent
+    ensures returned { IfOk result (λ r. (lent : List Told) × LastForkedTwice shelves.items lent
         × AreReturned S.honest (S.refuses N.place) K.keeps (given_each Joining false lent)
         r.1.items) }
+    ensures gathered { IfOk result (λ r. IfSome r.2 (λ g. IsReturned S.honest (S.refuses N.place)
+        K.keeps (given_one Gathering false (fresh N.place)) g.0 g.1)) }
     ensures swept { IfOk result (λ r.
-        IfSome r.2 (HasSwept (S.refuses N.place) K.keeps (fresh N.place))) }
+        IfSome r.3 (HasSwept (S.refuses N.place) K.keeps (fresh N.place))) }
     ensures back { IfErr result (λ e. e.value ≡ (shelves, body)) }
 {
-    let service = NumberService::new(shelves.len());
+    let workers = shelves.len();
+    // One more only gathers.
+    let all = workers.saturating_add(1);
+    let service = NumberService::new(all);
     let service = &service;
-    let background = Background::of(shelves.len());
+    let background = Background::of(all);
     let background = &background;
-    let picks = Picks::Joining;
-    let picks = &picks;
+    let joining = Picks::Joining;
+    let joining = &joining;
+    let gathering = Picks::Gathering;
+    let gathering = &gathering;
     thread::scope(
         thread::scope_env(),
         rt,
@@ -101,16 +171,19 @@ fn run_beside<
             requires none { (vec_len threads ≡ 0) × (returned.items ≡ []) × (vec_len returned ≡ 0) }
             requires room { (vec_len shelves ≤ vec_capacity threads)
                 × (vec_len shelves ≤ vec_capacity returned) }
-            requires picks { picks.now ≡ Joining }
+            requires joining { joining.now ≡ Joining }
+            requires gathering { gathering.now ≡ Gathering }
             requires bell { background.now.bell.to_the_end ≡ false }
             ensures answer { IfOk result (λ r. (b : _) × F.post body b r.0) }
             ensures len { IfOk result (λ r. vec_len r.1 ≡ vec_len shelves) }
             ensures ends { IfOk result (λ r. All (λ w. IsWorkersEnd S.honest w.0) r.1.items) }
-            ensures returned { IfOk result (λ r. (lent : List Told) × LastForked shelves.items lent
+            ensures returned { IfOk result (λ r. (lent : List Told) × LastForkedTwice shelves.items lent
                 × AreReturned S.honest (S.refuses N.place) K.keeps (given_each Joining false lent)
                 r.1.items) }
+            ensures gathered { IfOk result (λ r. IfSome r.2 (λ g. IsReturned S.honest (S.refuses N.place)
+                K.keeps (given_one Gathering false (fresh N.place)) g.0 g.1)) }
             ensures swept { IfOk result (λ r.
-                IfSome r.2 (HasSwept (S.refuses N.place) K.keeps (fresh N.place))) }
+                IfSome r.3 (HasSwept (S.refuses N.place) K.keeps (fresh N.place))) }
             ensures back { IfErr result (λ e. e.value ≡ (shelves, body)) }
         {
             if !start_drawing(scope, rt, store, service) {
@@ -122,31 +195,39 @@ fn run_beside<
             let mut shelves = shelves;
             let broom = fork_last(alloc, &mut shelves);
             let sweeper = Sweeper::start(scope, rt, alloc, store, bell, broom);
+            let fork = fork_last(alloc, &mut shelves);
+            let gatherer = start_gathering(
+                scope, rt, alloc, store, service, bell, fork, gate, workers, gathering,
+            );
             let threads = start_all(
-                scope, rt, alloc, store, service, bell, shelves, gate, picks, threads,
+                scope, rt, alloc, store, service, bell, shelves, gate, joining, threads,
             );
             let answer = body(background);
             bell.close(rt);
             let returned = join_all(rt, threads, returned);
-            Ok((answer, returned, sweeper.join(rt)))
+            let gathered = join_gathering(rt, gatherer);
+            Ok((answer, returned, gathered, sweeper.join(rt)))
         },
     )
 }
 
 /// Compacts in the background while the body runs, with one worker for each shelf. Answers what the
-/// body answered; what each worker has done, with its shelf, in the order of the shelves; and the
+/// body answered; what each worker has done, with its shelf, in the order of the shelves; what the
+/// worker that only gathers has done, with its shelf, none where there is no such worker; and the
 /// shelf of the thread that removed tables, none where there is no such thread. The shelves are
 /// forks of the store's, of any number; 1 to 8 are meant.
 ///
 /// Each worker has a thread of its own, in which it gathers the newest small files of level 0 under
-/// the lock (`State::gather`); where there are none, it reserves there what comes next, so that
-/// small files are joined (`State::reserve_next`), merges outside it, and installs under it; before
-/// each merge the gate is told. Where nothing is left to do it sleeps, until it is woken
-/// (`Background::wake`) or another worker has gathered or installed. One more thread draws the
-/// numbers of the outputs under the lock. And one, over a fork of the last shelf, removes after
-/// gathers and installs the tables that nothing needs any more, one at a taking of the lock; what
-/// it cannot remove it leaves to the next time. Its shelf was told no more
-/// (`laws::what_sweeping_did_is_told`).
+/// the lock (`State::gather`); where there are none, it reserves at the same taking of the lock what
+/// comes next, so that small files are joined (`State::reserve_next`), merges outside it, and
+/// installs under it; before each merge the gate is told. Where nothing is left to do it sleeps,
+/// until it is woken (`Background::wake`) or another worker has gathered or installed.
+///
+/// Three more threads work beside them. One draws the numbers of the outputs under the lock. One,
+/// over a fork of the last shelf, only gathers, so that level 0 has room while the others merge. And
+/// one, over another fork of it, removes after gathers and installs the tables that nothing needs
+/// any more, one at a taking of the lock; what it cannot remove it leaves to the next time. Its
+/// shelf was told no more (`laws::what_sweeping_did_is_told`).
 ///
 /// The body runs in the thread of the caller, and is lent the workers. Once it has answered, each
 /// worker ends after the merge at hand, and all threads are joined. A body after which workers
@@ -178,11 +259,13 @@ pub fn with_workers_returning<
     ensures answer { IfOk result (λ r. (b : _) × F.post body b r.0) }
     ensures len { IfOk result (λ r. vec_len r.1 ≡ vec_len shelves) }
     ensures ends { IfOk result (λ r. All (λ w. IsWorkersEnd S.honest w.0) r.1.items) }
-    ensures returned { IfOk result (λ r. (lent : List Told) × LastForked shelves.items lent
+    ensures returned { IfOk result (λ r. (lent : List Told) × LastForkedTwice shelves.items lent
         × AreReturned S.honest (S.refuses N.place) K.keeps (given_each Joining false lent)
         r.1.items) }
+    ensures gathered { IfOk result (λ r. IfSome r.2 (λ g. IsReturned S.honest (S.refuses N.place)
+        K.keeps (given_one Gathering false (fresh N.place)) g.0 g.1)) }
     ensures swept { IfOk result (λ r.
-        IfSome r.2 (HasSwept (S.refuses N.place) K.keeps (fresh N.place))) }
+        IfSome r.3 (HasSwept (S.refuses N.place) K.keeps (fresh N.place))) }
     ensures back { IfErr result (λ e. e.value ≡ (shelves, body)) }
 {
     let Ok(returned) = Vec::with_capacity(alloc, shelves.len()) else {
@@ -198,7 +281,8 @@ pub fn with_workers_returning<
     run_beside(rt, alloc, store, shelves, gate, body, threads, returned)
 }
 
-/// As `with_workers_returning`, and the shelves are let go.
+/// As `with_workers_returning`, and the shelves are let go, with what the worker that only gathers has
+/// done.
 pub fn with_workers<
     N: Boarded,
     S: Shelf,
@@ -220,7 +304,7 @@ pub fn with_workers<
     ensures answer { IfOk result (λ r. (b : _) × F.post body b r.0) }
     ensures len { IfOk result (λ r. vec_len r.1 ≡ vec_len shelves) }
     ensures ends { IfOk result (λ r. All (IsWorkersEnd S.honest) r.1.items) }
-    ensures ended { IfOk result (λ r. (lent : List Told) × LastForked shelves.items lent
+    ensures ended { IfOk result (λ r. (lent : List Told) × LastForkedTwice shelves.items lent
         × HaveEnded S.honest (S.refuses N.place) K.keeps (given_each Joining false lent)
         r.1.items) }
     ensures back { IfErr result (λ e. e.value ≡ (shelves, body)) }
@@ -232,7 +316,7 @@ pub fn with_workers<
     };
     match with_workers_returning(rt, alloc, store, shelves, gate, body) {
         Ok(done) => {
-            let (answer, returned, _shelf) = done;
+            let (answer, returned, _gathered, _swept) = done;
             Ok((answer, ends_of(returned, ends)))
         }
         Err(refused) => Err(refused),

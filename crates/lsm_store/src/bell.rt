@@ -30,8 +30,10 @@ impl Rung {
 /// A bell that is rung after each change by which there may be more to do, or room at level 0.
 /// Workers sleep until it rings, and so do writers that found level 0 full.
 ///
-/// Nothing here takes the lock of the store. Whoever waits has read before its last look at the
-/// state how often the bell was rung, and waits only while that is still so. So no ring is missed.
+/// Nothing here takes the lock of the store; a writer rings while it holds it. Whoever waits has read
+/// before its last look at the state how often the bell was rung, and waits only while that is still
+/// so. So no ring is missed; and where a writer found level 0 full, and each worker has found
+/// nothing to do since the last ring, that was after the last batch which the writer saw.
 #[derive(Drop)]
 pub(crate) struct Bell {
     // Whether workers go on until nothing is left: it is closed once all of them are idle.

@@ -22,6 +22,7 @@ mod background;
 mod background_workers;
 mod bell;
 mod gate;
+mod look;
 mod manual_compaction;
 mod picks;
 mod sweeper;

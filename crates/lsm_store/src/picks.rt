@@ -10,6 +10,8 @@ pub enum Picks {
     /// The next one, as `State::reserve_next` does, so that small files are joined. Before it looks
     /// for one it gathers the newest small files of level 0 (`State::gather`).
     Joining,
+    /// None: it only gathers, as those do that join.
+    Gathering,
     /// That of a range of keys, level by level, due or not, and no other.
     Manual(ManualCompaction),
 }

@@ -6,19 +6,18 @@ ghost use Rattle.lsm_live.specs.Booked.{HasTicket, without};
 ghost use Rattle.lsm_state.specs.Gathering.{GatherRefused, Gathers, HasNoneToGather};
 ghost use Rattle.lsm_state.specs.Gathering.{IsGatherRefusal};
 ghost use Rattle.lsm_store.specs.Compacting.{IsCompactingStep, IsKeptByCompaction};
-ghost use Rattle.lsm_store.specs.Picking.{IsBooked, IsManual, IsPicked, IsPickedUnder};
+ghost use Rattle.lsm_store.specs.Picking.{DoesGather, IsBooked, IsManual, IsPicked};
 ghost use Rattle.lsm_store.specs.declared.picks.Picks.TheVariants.{Choice, Joining};
 ghost use Rattle.lsm_store.specs.declared.turn.Turn.{Turn};
-ghost use Rattle.lsm_store.specs.WorkerFault.{of_gather};
 ghost use Rattle.lsm_store.specs.Workers.{IsOfInstalling, IsOfReserving, IsOfTurn, IsWorkersEnd};
-ghost use Rattle.lsm_store.specs.Working.{FailsToGather, FindsNone, FindsNoJob, FindsNoneToGather};
-ghost use Rattle.lsm_store.specs.Working.{GathersUnder, IsCompaction, IsDone, IsStoppedBy, IsTaken};
-ghost use Rattle.lsm_store.specs.Working.{IsTurn, IsUndone, IsUntaken, IsWorked, LeavesOut};
-ghost use Rattle.lsm_store.specs.Working.{TakesIn, compactions, given_one};
+ghost use Rattle.lsm_store.specs.Working.{FindsNone, IsDone, IsLook, IsLookRefused, IsStoppedBy};
+ghost use Rattle.lsm_store.specs.Working.{IsTaken, IsTurn, IsUndone, IsUntaken, IsWorked};
+ghost use Rattle.lsm_store.specs.Working.{LeavesOut, LooksUnder, TakesIn, compactions, given_one};
 
 use crate::bell::Bell;
 use crate::gate::Gate;
 use crate::invariant::Invariant;
+use crate::look::Look;
 use crate::manual_compaction::ManualCompaction;
 use crate::number_service::NumberService;
 use crate::picks::Picks;
@@ -43,7 +42,7 @@ fn gather_in<N: Boarded, S: Shelf, R: Wait>(
 ) -> Result<bool, GatherFault>
     ensures gathers { IfOk result (λ did. MatchBool did
         ((n : ℕ) × Gathers S.honest state.old state.new n shelf.old shelf.new)
-        (HasNoneToGather state.old × (shelf.new ≡ shelf.old))) }
+        (HasNoneToGather state.old × (state.new ≡ state.old) × (shelf.new ≡ shelf.old))) }
     ensures refused { IfErr result (λ e.
         IsGatherRefusal S.honest state.old state.new e shelf.old shelf.new) }
     ensures asked { IfErr result (GatherRefused (S.refuses N.place) state.old) }
@@ -56,42 +55,26 @@ fn gather_in<N: Boarded, S: Shelf, R: Wait>(
     }
 }
 
-/// Gathers files of level 0 under the lock. Whether there were any to be gathered.
-fn gather_under_lock<N: Boarded, S: Shelf, K: Invariant, R: Wait>(
-    rt: &R,
-    alloc: Global,
-    store: &Store<N, S, K>,
-    shelf: &mut NamedShelf<N, S>,
-) -> Result<bool, GatherFault>
-    requires kept { IsKeptByCompaction S.honest K.keeps }
-    ensures gathers { IfOk result (λ did. MatchBool did
-        (GathersUnder S.honest K.keeps Joining shelf.old shelf.new)
-        (FindsNoneToGather K.keeps Joining × (shelf.new ≡ shelf.old))) }
-    ensures fails { IfErr result (λ e.
-        FailsToGather S.honest (S.refuses N.place) K.keeps Joining e shelf.old shelf.new) }
-    ensures refused { IfErr result (λ e. IsOfTurn S.honest (of_gather e)) }
-{
-    gather_in(&mut store.lock(rt).state, rt, alloc, shelf)
-}
-
 /// Gathers files of level 0, where a worker who picks so gathers. Whether it has gathered any.
-fn gather<N: Boarded, S: Shelf, K: Invariant, R: Wait>(
+fn gather<N: Boarded, S: Shelf, R: Wait>(
+    state: &mut State<N, S>,
     rt: &R,
     alloc: Global,
-    store: &Store<N, S, K>,
     shelf: &mut NamedShelf<N, S>,
     picks: &Picks,
 ) -> Result<bool, GatherFault>
-    requires kept { IsKeptByCompaction S.honest K.keeps }
     ensures gathers { IfOk result (λ did. MatchBool did
-        (GathersUnder S.honest K.keeps picks.now shelf.old shelf.new)
-        (FindsNoneToGather K.keeps picks.now × (shelf.new ≡ shelf.old))) }
-    ensures fails { IfErr result (λ e.
-        FailsToGather S.honest (S.refuses N.place) K.keeps picks.now e shelf.old shelf.new) }
-    ensures refused { IfErr result (λ e. IsOfTurn S.honest (of_gather e)) }
+        (DoesGather picks.now
+        × ((n : ℕ) × Gathers S.honest state.old state.new n shelf.old shelf.new))
+        ((DoesGather picks.now → HasNoneToGather state.old)
+        × (state.new ≡ state.old) × (shelf.new ≡ shelf.old))) }
+    ensures refused { IfErr result (λ e. DoesGather picks.now
+        × IsGatherRefusal S.honest state.old state.new e shelf.old shelf.new
+        × GatherRefused (S.refuses N.place) state.old e) }
+    ensures step { IsCompactingStep S.honest state.old state.new }
 {
     match picks {
-        Picks::Joining => gather_under_lock(rt, alloc, store, shelf),
+        Picks::Joining | Picks::Gathering => gather_in(state, rt, alloc, shelf),
         Picks::Choice | Picks::Manual(_) => Ok(false),
     }
 }
@@ -165,22 +148,52 @@ fn next_job<N: Boarded, S: Shelf>(
     match picks {
         Picks::Choice => chosen_job(state, alloc),
         Picks::Joining => joining_job(state, alloc),
+        Picks::Gathering => Ok(None),
         Picks::Manual(manual) => manual_job(state, alloc, manual),
     }
 }
 
-/// The job that the state reserves for a worker under the lock; none where there is none.
-fn reserve<N: Boarded, S: Shelf, K: Invariant, R: Wait>(
+/// Looks for something to do: files of level 0 are gathered, where a worker who picks so gathers
+/// and there are some; else the job that the state has for it is reserved.
+fn look<N: Boarded, S: Shelf, R: Wait>(
+    state: &mut State<N, S>,
+    rt: &R,
+    alloc: Global,
+    shelf: &mut NamedShelf<N, S>,
+    picks: &Picks,
+) -> Result<Look<N, S>, WorkerFault>
+    ensures looks { IfOk result (λ l.
+        IsLook S.honest picks.now state.old state.new l shelf.old shelf.new) }
+    ensures refused { IfErr result (λ e. IsLookRefused S.honest (S.refuses N.place) picks.now
+        state.old state.new e shelf.old shelf.new) }
+    ensures step { IsCompactingStep S.honest state.old state.new }
+{
+    if gather(state, rt, alloc, shelf, picks)? {
+        return Ok(Look::Gathered);
+    }
+    match next_job(state, alloc, picks) {
+        Ok(Some(job)) => Ok(Look::Reserved(job)),
+        Ok(None) => Ok(Look::Nothing),
+        Err(fault) => Err(WorkerFault::State(fault)),
+    }
+}
+
+/// Looks for something to do, at one taking of the lock.
+fn look_under_lock<N: Boarded, S: Shelf, K: Invariant, R: Wait>(
     rt: &R,
     alloc: Global,
     store: &Store<N, S, K>,
+    shelf: &mut NamedShelf<N, S>,
     picks: &Picks,
-) -> Result<Option<Job<N, S>>, StateFault>
+) -> Result<Look<N, S>, WorkerFault>
     requires kept { IsKeptByCompaction S.honest K.keeps }
-    ensures next { S.honest → IfOk result (IsPickedUnder K.keeps picks.now) }
-    ensures refused { IfErr result IsOfReserving }
+    ensures looks { IfOk result (λ l.
+        LooksUnder S.honest K.keeps picks.now l shelf.old shelf.new) }
+    ensures stopped { IfErr result (λ e.
+        IsStoppedBy S.honest (S.refuses N.place) K.keeps picks.now e shelf.old shelf.new) }
+    ensures refused { IfErr result (IsOfTurn S.honest) }
 {
-    next_job(&mut store.lock(rt).state, alloc, picks)
+    look(&mut store.lock(rt).state, rt, alloc, shelf, picks)
 }
 
 /// Puts the result into the state. A refused one is let go.
@@ -270,8 +283,8 @@ fn finish<N: Boarded, S: Shelf, K: Invariant, R: Wait>(
     }
 }
 
-/// One compaction: whether there was one to do. After a fault its job is not live.
-fn compact_next<N: Boarded, S: Shelf, K: Invariant, G: Gate, R: Wait>(
+/// Does a compaction whose job is reserved. After a fault the job is not live.
+fn do_job<N: Boarded, S: Shelf, K: Invariant, G: Gate, R: Wait>(
     rt: &R,
     alloc: Global,
     store: &Store<N, S, K>,
@@ -280,30 +293,21 @@ fn compact_next<N: Boarded, S: Shelf, K: Invariant, G: Gate, R: Wait>(
     shelf: &mut NamedShelf<N, S>,
     gate: &G,
     worker: usize,
-    picks: &Picks,
-) -> Result<bool, WorkerFault>
+    job: Job<N, S>,
+) -> Result<(), WorkerFault>
     requires kept { IsKeptByCompaction S.honest K.keeps }
     ensures refused { IfErr result (IsOfTurn S.honest) }
-    ensures compaction { IfOk result (λ did.
-        MatchBool did (IsCompaction S.honest K.keeps picks.now shelf.old shelf.new)
-        ((shelf.new ≡ shelf.old) × FindsNoJob S.honest K.keeps picks.now)) }
+    ensures done { OnOk result (IsDone S.honest K.keeps job shelf.old shelf.new) }
     ensures undone { IfErr result (λ e.
         IsUndone S.honest (S.refuses N.place) K.keeps e shelf.old shelf.new) }
 {
-    let job = match reserve(rt, alloc, store, picks) {
-        Ok(Some(job)) => job,
-        Ok(None) => return Ok(false),
-        Err(fault) => return Err(WorkerFault::State(fault)),
-    };
     let ticket = job.ticket();
     gate.merging(worker, ticket);
-    match finish(rt, alloc, store, registry, service, shelf, job) {
-        Ok(()) => Ok(true),
-        Err(fault) => {
-            give_up(rt, store, ticket);
-            Err(fault)
-        }
+    let done = finish(rt, alloc, store, registry, service, shelf, job);
+    if done.is_err() {
+        give_up(rt, store, ticket);
     }
+    done
 }
 
 /// One turn: files are gathered, where a worker who picks so gathers and there are some; and else
@@ -322,21 +326,20 @@ fn turn<N: Boarded, S: Shelf, K: Invariant, G: Gate, R: Wait>(
     requires kept { IsKeptByCompaction S.honest K.keeps }
     ensures refused { IfErr result (IsOfTurn S.honest) }
     ensures turn { IfOk result (λ did. MatchOption did
-        ((shelf.new ≡ shelf.old) × FindsNone S.honest K.keeps picks.now)
+        (FindsNone S.honest K.keeps picks.now × (shelf.new ≡ shelf.old))
         (λ t. IsTurn S.honest K.keeps picks.now t shelf.old shelf.new)) }
     ensures stopped { IfErr result (λ e.
         IsStoppedBy S.honest (S.refuses N.place) K.keeps picks.now e shelf.old shelf.new) }
 {
-    if gather(rt, alloc, store, shelf, picks)? {
-        return Ok(Some(Turn::Gathered));
-    }
-    match compact_next(
-        rt, alloc, store, registry, service, shelf, gate, worker, picks,
-    ) {
-        Ok(true) => Ok(Some(Turn::Compacted)),
-        Ok(false) => Ok(None),
-        Err(fault) => Err(fault),
-    }
+    let job = match look_under_lock(rt, alloc, store, shelf, picks)? {
+        Look::Gathered => return Ok(Some(Turn::Gathered)),
+        Look::Reserved(job) => job,
+        Look::Nothing => return Ok(None),
+    };
+    do_job(
+        rt, alloc, store, registry, service, shelf, gate, worker, job,
+    )?;
+    Ok(Some(Turn::Compacted))
 }
 
 /// So many results are installed after a turn more.

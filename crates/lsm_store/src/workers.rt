@@ -26,7 +26,15 @@ use std::thread;
 use std::thread::{Scope, Threads};
 
 /// Starts a worker in a thread of its own, over this shelf.
-fn start<'s, 'e, N: Boarded, S: Shelf, K: Invariant, G: Gate + Sync, R: Threads + Wait + Sync>(
+pub(crate) fn start<
+    's,
+    'e,
+    N: Boarded,
+    S: Shelf,
+    K: Invariant,
+    G: Gate + Sync,
+    R: Threads + Wait + Sync,
+>(
     scope: &'s Scope<'s, &'e ()>,
     rt: &'e R,
     alloc: Global,

@@ -11,4 +11,4 @@ pub returns-in-Err-LevelZeroFull-clause-ok : goal.returns-in-Err-LevelZeroFull-c
 returns-in-Err-LevelZeroFull-clause-ok g c =
     let came = (λ (t : Told). IfOk c.ingest_stalled.result (λ (r : Ingested × List Entry). IsBroughtIn g.K.Invariant.keeps c.args.batch.now r t c.ingest_stalled.new.shelf)) in
     let full = rw c.in-Err-LevelZeroFull.field-0-is at c.in-Err-LevelZeroFull.ensures.refused in
-    subst came (full_asks_nothing (g.S.Shelf.refuses g.N.Naming.place) g.K.Invariant.keeps c.args.batch.now c.args.shelf.now c.try_ingest.new.shelf full) c.ingest_stalled.ensures.ok
+    subst came (full_asks_nothing (g.S.Shelf.refuses g.N.Naming.place) g.K.Invariant.keeps c.args.batch.now c.args.shelf.now c.bring_in_under_lock.new.shelf full) c.ingest_stalled.ensures.ok
