@@ -91,14 +91,14 @@ class Killer:
 
     def scanned(self):
         status, out, err = self.run(["scan", self.path])
-        if status != 0 or plain.besides_torn(err):
+        if status != 0 or plain.besides_crash(err):
             self.stop(f"lsm scan: status {status}, says: {err[:300]}")
         return out.splitlines()
 
     def look(self, *contents):
         """Which of these contents the directory has."""
         status, out, err = self.run(["check", self.path])
-        err = plain.besides_torn(err)
+        err = plain.besides_crash(err)
         if status == 1 and err.startswith("refused 10 Missing\n") and not self.is_begun:
             return 0
         if status != 0 or err:

@@ -68,14 +68,14 @@ class Loads:
     def look(self, told):
         """Finds up to which line all is in: at least `told`."""
         status, out, err = self.call("check", self.path)
-        err = plain.besides_torn(err)
+        err = plain.besides_crash(err)
         if status == 1 and err.startswith("refused 10 Missing\n") and not self.at and not told:
             return
         if status or err:
             self.stop(f"lsm check: status {status}, says: {err[:300]}")
         self.is_begun = True
         status, out, err = self.call("scan", self.path)
-        if status or plain.besides_torn(err):
+        if status or plain.besides_crash(err):
             self.stop(f"lsm scan: status {status}, says: {err[:300]}")
         there = dict((bytes.fromhex(key), value) for key, value in (line.split("=") for line in out.splitlines()))
         seen = max([int(bytes.fromhex(value[:16])) for value in there.values()], default=0)

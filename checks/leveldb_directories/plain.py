@@ -142,9 +142,11 @@ def main(words):
     sys.stdout.writelines(f"{line}\n" for line in lines)
 
 
-def besides_torn(said):
-    """What is said beside the note of a manifest that ends within a record."""
-    return re.sub(r"note: the last [^\n]* of the manifest hold[^\n]* no whole record[^\n]*\n", "", said)
+def besides_crash(said):
+    """What is said beside the notes of what a crash leaves: a manifest that ends within a record, and
+    one that was begun, and that `CURRENT` does not name yet."""
+    said = re.sub(r"note: the last [^\n]* of the manifest hold[^\n]* no whole record[^\n]*\n", "", said)
+    return re.sub(r"note: CURRENT names MANIFEST-\d+, and MANIFEST-\d+ is there\n", "", said)
 
 
 if __name__ == "__main__":

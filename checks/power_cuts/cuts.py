@@ -92,7 +92,7 @@ class Cutter:
         if None in contents and "CURRENT" not in found:
             return None
         status, out, err = self.run("check", self.left)
-        err = plain.besides_torn(err)
+        err = plain.besides_crash(err)
         refusal = DAMAGE.match(err)
         if status == 1 and refusal and len(contents) > 1 and self.is_of_garbage(found, other, refusal):
             self.counts["damaged"] += 1
@@ -102,7 +102,7 @@ class Cutter:
         rest = re.search(r"^rest (\d+)$", out, re.M)
         self.counts["torn"] += rest is not None and rest[1] != "0"
         status, out, err = self.run("scan", self.left)
-        if status or plain.besides_torn(err):
+        if status or plain.besides_crash(err):
             raise Difference(f"lsm scan: status {status}, says: {err[:300].strip()}")
         scanned = out.splitlines()
         for content in contents:

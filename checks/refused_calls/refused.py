@@ -81,9 +81,15 @@ class Refuser:
             file.writelines(f"{line}\n" for line in plain.batch_lines(batch))
 
     def look(self, *contents):
-        """The content that the folder has, of these; LevelDB gives the same. What reads notes a torn end."""
+        """The content that the folder has, of these; LevelDB gives the same. What reads notes a torn end,
+        and a manifest that was begun."""
         rest = self.look_at_manifest()
         noted = f"note: the last {rest} bytes of the manifest hold no whole record, and are not read\n" if rest else ""
+        with open(f"{self.db}/CURRENT") as file:
+            named = file.read().strip()
+        highest = max((it for it in os.listdir(self.db) if it.startswith("MANIFEST-")), key=lambda it: int(it[9:]))
+        if int(highest[9:]) > int(named[9:]):
+            noted += f"note: CURRENT names {named}, and {highest} is there\n"
         self.done("check", self.db, noted=noted)
         lines = self.done("scan", self.db, noted=noted).splitlines()
         found = next((it for it in contents if plain.list_lines(it) == lines), None)

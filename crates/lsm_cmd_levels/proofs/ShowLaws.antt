@@ -116,6 +116,8 @@ fault_reads Refused why.NumbersSpent was is h = absurd h
 fault_reads Refused why.Locked was is h = absurd h
 fault_reads Refused (why.UnflushedLog number) was is h = absurd h
 fault_reads Refused (why.TornManifest rest) was is h = absurd h
+fault_reads Refused (why.LaterManifest later) was is h = absurd h
+fault_reads Refused why.RocksDbFiles was is h = absurd h
 fault_reads Refused why.Absent was is h = absurd h
 
 -- a log was found that is to be noted
@@ -155,6 +157,8 @@ unshown_behind form output s rest files why.NumbersSpent old mid new kept h = ab
 unshown_behind form output s rest files why.Locked old mid new kept h = absurd h
 unshown_behind form output s rest files (why.UnflushedLog number) old mid new kept h = absurd h
 unshown_behind form output s rest files (why.TornManifest torn) old mid new kept h = absurd h
+unshown_behind form output s rest files (why.LaterManifest later) old mid new kept h = absurd h
+unshown_behind form output s rest files why.RocksDbFiles old mid new kept h = absurd h
 unshown_behind form output s rest files why.Absent old mid new kept h = absurd h
 
 says_behind : (form : Form) (output : LevelsOutput) (Refused : Asked → ShelfFault → Type 0)

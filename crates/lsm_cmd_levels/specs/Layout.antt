@@ -71,6 +71,8 @@ IsUnshown form output s rest files why.NumbersSpent old new = ⊥
 IsUnshown form output s rest files why.Locked old new = ⊥
 IsUnshown form output s rest files (why.UnflushedLog number) old new = ⊥
 IsUnshown form output s rest files (why.TornManifest torn) old new = ⊥
+IsUnshown form output s rest files (why.LaterManifest later) old new = ⊥
+IsUnshown form output s rest files why.RocksDbFiles old new = ⊥
 IsUnshown form output s rest files why.Absent old new = ⊥
 
 -- ---- a shelf
@@ -94,6 +96,8 @@ IsNotNamed Refused why.NumbersSpent was is = ⊥
 IsNotNamed Refused why.Locked was is = ⊥
 IsNotNamed Refused (why.UnflushedLog number) was is = ⊥
 IsNotNamed Refused (why.TornManifest rest) was is = ⊥
+IsNotNamed Refused (why.LaterManifest later) was is = ⊥
+IsNotNamed Refused why.RocksDbFiles was is = ⊥
 IsNotNamed Refused why.Absent was is = ⊥
 
 -- That shape was shown with these files of the folder, and nothing is left out where that is asked

@@ -12,19 +12,17 @@ use Rattle.lsm_requests.specs.declared.directory_line.DirectoryLine.{DirectoryLi
 use Rattle.lsm_cmd_read.specs.Answers.{Asking, IsLookedInto, IsLookedIntoAsGiven, IsNotLookedInto, Moment, asked_by, moment}
 use Rattle.lsm_cmd_read.specs.Directory.{OnlyReads}
 use Rattle.lsm_directory.specs.Folders.{IsShelfAt, stored_at, told_by}
-use Rattle.lsm_directory.specs.Looking.{TellsBeside}
+use Rattle.lsm_directory.specs.Beside.{LooksBeside}
 use Rattle.lsm_cmd_read.specs.Looked.{FailsToLook, LooksAt, LooksAtGiven}
 use Rattle.lsm_directory.specs.declared.faults.directory_fault.DirectoryFault.{DirectoryFault}
-use Rattle.lsm_directory.specs.declared.folder.folder_file.FolderFile.{FolderFile}
+use Rattle.lsm_directory.specs.declared.folder.beside.Beside.{Beside}
 
 module _ (Honest : Type 0) where
   abbrev then_quiet : (asked : Asking) (before after : Moment) (said told last : Option (List ℕ))
       → IsLookedInto asked Honest before after said told → Keeps told last → IsLookedInto asked Honest before after said last
   then_quiet asked before after said told last done kept = record {
     version = done.version;
-    rest = done.rest;
-    log = done.log;
-    prev = done.prev;
+    manifest = done.manifest;
     holds = done.holds;
     whole = done.whole;
     printed = done.printed;
@@ -39,21 +37,21 @@ module _ (Honest : Type 0) where
   done_on (Err e) status asked Stored before after said told last err done kept zero = absurd (omega (arith, err, zero))
 
 module _ {C M : Type 0} (folders : Ghosts C M) (marks : mark.Ghosts M) where
-  pub looks_at : {T F : Type 0} (r : Result T F) (line : DirectoryLine) (others : List FolderFile) (begun ended : FileShelf C M) (old new said told : Option (List ℕ))
-      → IsShelfAt folders line.path.now (TellsBeside others) begun
-      → OnOk r (IsLookedIntoAsGiven (asked_by line others) (stored_at folders marks (told_by folders begun).place) (AreHonest folders.calls) (moment (told_by folders begun) old) (moment (told_by folders ended) new) said told)
+  pub looks_at : {T F : Type 0} (r : Result T F) (line : DirectoryLine) (beside : Beside) (begun ended : FileShelf C M) (old new said told : Option (List ℕ))
+      → IsShelfAt folders line.path.now (LooksBeside beside) begun
+      → OnOk r (IsLookedIntoAsGiven (asked_by line beside) (stored_at folders marks (told_by folders begun).place) (AreHonest folders.calls) (moment (told_by folders begun) old) (moment (told_by folders ended) new) said told)
       → OnlyReads (told_by folders begun) (told_by folders ended) → OnOk r (LooksAtGiven folders marks line old new said told)
-  looks_at (Ok x) line others begun ended old new said told on done reads =
-      record { looks = record { others = others; begun = begun; on = on; ended = ended; done = done.looked; reads = reads }; given = done.given }
-  looks_at (Err e) line others begun ended old new said told on done reads = tt
+  looks_at (Ok x) line beside begun ended old new said told on done reads =
+      record { looks = record { beside = beside; begun = begun; on = on; ended = ended; done = done.looked; reads = reads }; given = done.given }
+  looks_at (Err e) line beside begun ended old new said told on done reads = tt
 
   abbrev looks_quiet : (line : DirectoryLine) (old new said told last : Option (List ℕ)) → LooksAt folders line old new said told → Keeps told last → LooksAt folders line old new said last
   looks_quiet line old new said told last looked kept = record {
-    others = looked.others;
+    beside = looked.beside;
     begun = looked.begun;
     on = looked.on;
     ended = looked.ended;
-    done = then_quiet (AreHonest folders.calls) (asked_by line looked.others) (moment (told_by folders looked.begun) old) (moment (told_by folders looked.ended) new) said told last looked.done kept;
+    done = then_quiet (AreHonest folders.calls) (asked_by line looked.beside) (moment (told_by folders looked.begun) old) (moment (told_by folders looked.ended) new) said told last looked.done kept;
     reads = looked.reads;
   }
 
@@ -68,9 +66,9 @@ module _ {C M : Type 0} (folders : Ghosts C M) (marks : mark.Ghosts M) where
   looked_on r status line old new said told last err looked kept zero = (given_on r status line old new said told last err looked kept zero).looks
 
 module _ {C M : Type 0} (folders : Ghosts C M) (marks : mark.Ghosts M) where
-  pub fails_at : {T : Type 0} (r : Result T DirectoryFault) (line : DirectoryLine) (others : List FolderFile) (begun ended : FileShelf C M) (old new : Option (List ℕ))
-      → IsShelfAt folders line.path.now (TellsBeside others) begun
-      → IfErr r (λ e. IsNotLookedInto (asked_by line others) (stored_at folders marks (told_by folders begun).place) MayRefuse (AreHonest folders.calls) e (moment (told_by folders begun) old) (moment (told_by folders ended) new))
+  pub fails_at : {T : Type 0} (r : Result T DirectoryFault) (line : DirectoryLine) (beside : Beside) (begun ended : FileShelf C M) (old new : Option (List ℕ))
+      → IsShelfAt folders line.path.now (LooksBeside beside) begun
+      → IfErr r (λ e. IsNotLookedInto (asked_by line beside) (stored_at folders marks (told_by folders begun).place) MayRefuse (AreHonest folders.calls) e (moment (told_by folders begun) old) (moment (told_by folders ended) new))
       → OnlyReads (told_by folders begun) (told_by folders ended) → IfErr r (λ e. FailsToLook folders marks line e old new)
-  fails_at (Ok x) line others begun ended old new on refused reads = tt
-  fails_at (Err e) line others begun ended old new on refused reads = inr record { others = others; begun = begun; on = on; ended = ended; refused = refused; reads = reads }
+  fails_at (Ok x) line beside begun ended old new on refused reads = tt
+  fails_at (Err e) line beside begun ended old new on refused reads = inr record { beside = beside; begun = begun; on = on; ended = ended; refused = refused; reads = reads }

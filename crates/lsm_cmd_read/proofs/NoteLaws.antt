@@ -1,12 +1,15 @@
--- What is told of logs beside the tables, where there is none and where there are some.
-use Rattle.std.proofs.Common.{◌≡◌, ℕ, List, [], ◌∷◌, ◌++◌, refl, ap, ◌∙◌, subst, append-nil, inl, inr, arith, Option, OnOk}
-use Rattle.std.specs.Prelude.{Result, Ok, Err}
+-- What is told of what is not read, where there is nothing and where there is something.
+use Rattle.std.proofs.Common.{◌≡◌, ℕ, List, [], ◌∷◌, ◌++◌, refl, ap, ◌∙◌, subst, append-nil, inl, inr, arith, Option, OnOk, Bool, true, false}
+use Rattle.std.specs.Prelude.{Result, Ok, Err, IsFalse, None}
 use Rattle.std.specs.Io.KnownBytes.{Appends}
 use Rattle.lsm_version.specs.Versions.{Levels}
 use Rattle.lsm_cmd_read.specs.Answers.{AppendsRest, WritesNotes}
 use Rattle.lsm_cmd_read.specs.Listing.{IsChecked, check_text}
+use Rattle.lsm_directory.specs.Beside.{IsPlain, beside_text, later_text, later_than, rocksdb_text}
 use Rattle.lsm_directory.specs.Logs.{AppendsLogs, AreThose, IsUnread, NoneUnread, log_line, log_lines, note_line}
+use Rattle.lsm_directory.specs.declared.folder.beside.Beside.{Beside}
 use Rattle.lsm_directory.specs.declared.folder.folder_file.FolderFile.{FolderFile}
+use Rattle.lsm_directory.specs.declared.folder.named_manifest.NamedManifest.{NamedManifest}
 
 -- where none is unread, no line is added
 pub none_those : (log prev : ℕ) (files logs : List FolderFile) → NoneUnread log prev files → AreThose (IsUnread log prev) files logs → logs ≡ []
@@ -23,18 +26,31 @@ none_text line log prev files old new none (logs, those, text) =
 pub no_files : (log prev : ℕ) → NoneUnread log prev []
 no_files log prev file has = absurd has
 
--- nothing at the manifest's end, and no log: no note
-pub none_noted : (rest log prev : ℕ) (files : List FolderFile) (first note text : List ℕ) → first ≡ [] → rest ≡ 0 → NoneUnread log prev files → AppendsRest rest first note
-    → AppendsLogs note_line log prev files note text → text ≡ []
-none_noted rest log prev files first note text empty zero none (inl (is, same)) logs = none_text note_line log prev files note text none logs ∙ same ∙ empty
-none_noted rest log prev files first note text empty zero none (inr (some, is)) logs = absurd (omega arith)
+-- a folder of LevelDB alone, whose latest manifest is named, has no note of others
+no_rocksdb : (b : Bool) → IsFalse b → rocksdb_text b ≡ []
+no_rocksdb true h = absurd cc
+no_rocksdb false h = refl
 
--- both notes, one behind the other
-pub notes_written : {T E : Type 0} (r : Result T E) (rest log prev : ℕ) (files : List FolderFile) (first note text : List ℕ) (old new : Option (List ℕ)) → first ≡ [] → AppendsRest rest first note
-    → AppendsLogs note_line log prev files note text → OnOk r (Appends old new text) → OnOk r (WritesNotes rest log prev files old new)
-notes_written (Ok x) rest log prev files first note text old new empty a logs written = (text, (note, subst (λ (t : List ℕ). AppendsRest rest t note) empty a, logs), written)
-notes_written (Err e) rest log prev files first note text old new empty a logs written = tt
+plain_text : (number : ℕ) (beside : Beside) → IsPlain number beside → beside_text number beside ≡ []
+unfolding beside_text
+plain_text number beside plain =
+    ap (λ (o : Option ℕ). later_text number o ++ rocksdb_text beside.rocksdb) plain.0 ∙ no_rocksdb beside.rocksdb plain.1
 
-pub checked_logs : (v : Levels) (rest log prev : ℕ) (files : List FolderFile) (mid new : List ℕ) → mid ≡ check_text v rest → AppendsLogs log_line log prev files mid new
-    → IsChecked v rest log prev files new
-checked_logs v rest log prev files mid new is h = subst (λ (t : List ℕ). AppendsLogs log_line log prev files t new) is h
+-- nothing at the manifest's end, nothing else, and no log: no note
+pub none_noted : (m : NamedManifest) (beside : Beside) (files : List FolderFile) (first note more text : List ℕ) → first ≡ [] → IsPlain m.number beside → m.rest ≡ 0 → NoneUnread m.log m.prev_log files
+    → AppendsRest m.rest first note → more ≡ note ++ beside_text m.number beside → AppendsLogs note_line m.log m.prev_log files more text → text ≡ []
+none_noted m beside files first note more text empty plain zero none (inl (is, same)) others logs =
+    none_text note_line m.log m.prev_log files more text none logs ∙ others ∙ ap (λ (t : List ℕ). note ++ t) (plain_text m.number beside plain) ∙ append-nil note ∙ same ∙ empty
+none_noted m beside files first note more text empty plain zero none (inr (some, is)) others logs = absurd (omega arith)
+
+-- the notes, one behind the other
+pub notes_written : {T E : Type 0} (r : Result T E) (m : NamedManifest) (beside : Beside) (files : List FolderFile) (first note more text : List ℕ) (old new : Option (List ℕ)) → first ≡ []
+    → AppendsRest m.rest first note → more ≡ note ++ beside_text m.number beside → AppendsLogs note_line m.log m.prev_log files more text → OnOk r (Appends old new text)
+    → OnOk r (WritesNotes m beside files old new)
+notes_written (Ok x) m beside files first note more text old new empty a others logs written =
+    (text, (note, subst (λ (t : List ℕ). AppendsRest m.rest t note) empty a, subst (λ (t : List ℕ). AppendsLogs note_line m.log m.prev_log files t text) others logs), written)
+notes_written (Err e) m beside files first note more text old new empty a others logs written = tt
+
+pub checked_logs : (v : Levels) (m : NamedManifest) (beside : Beside) (mid new : List ℕ) → mid ≡ check_text v m.rest → AppendsLogs log_line m.log m.prev_log beside.logs.items mid new
+    → IsChecked v m beside new
+checked_logs v m beside mid new is h = subst (λ (t : List ℕ). AppendsLogs log_line m.log m.prev_log beside.logs.items t new) is h

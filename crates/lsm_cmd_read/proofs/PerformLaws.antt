@@ -7,7 +7,7 @@ use Rattle.lsm_text.specs.declared.form.Form.{Form}
 use Rattle.lsm_requests.specs.declared.get_output.GetOutput.{GetOutput}
 use Rattle.lsm_requests.specs.declared.get_output.GetOutput.TheVariants.{Line, Raw, Nothing}
 use Rattle.lsm_directory.specs.declared.faults.directory_fault.DirectoryFault.{DirectoryFault}
-use Rattle.lsm_directory.specs.declared.faults.directory_fault.DirectoryFault.TheVariants.{OutOfMemory, Write, Shelf, Manifest, Tables, Read, NumbersSpent, Locked, UnflushedLog, TornManifest, Absent}
+use Rattle.lsm_directory.specs.declared.faults.directory_fault.DirectoryFault.TheVariants.{OutOfMemory, Write, Shelf, Manifest, Tables, Read, NumbersSpent, Locked, UnflushedLog, TornManifest, LaterManifest, RocksDbFiles, Absent}
 use Rattle.lsm_cmd_read.specs.Answers.{IsPerformFault}
 use Rattle.lsm_cmd_read.specs.Listing.{shown_answer}
 use Rattle.lsm_cmd_read.specs.ReadFault.{IsAnswerFault, IsOutputFault}
@@ -25,6 +25,8 @@ perform_from_answer Honest command v NumbersSpent a b f = f
 perform_from_answer Honest command v Locked a b f = f
 perform_from_answer Honest command v (UnflushedLog number) a b f = f
 perform_from_answer Honest command v (TornManifest rest) a b f = f
+perform_from_answer Honest command v (LaterManifest later) a b f = f
+perform_from_answer Honest command v RocksDbFiles a b f = f
 perform_from_answer Honest command v Absent a b f = absurd f
 
 pub perform_from_output : (Honest : Type 0) (command : DirectoryCommand) (v : Levels) (e : DirectoryFault) (a b : Told) → IsOutputFault e

@@ -23,18 +23,19 @@ use Rattle.lsm_version.specs.Versions.{Levels}
 use Rattle.lsm_requests.specs.declared.directory_command.DirectoryCommand.{DirectoryCommand}
 use Rattle.lsm_requests.specs.declared.directory_command.DirectoryCommand.TheVariants.{Check, List as ListFiles, Get, Scan}
 use Rattle.lsm_directory.specs.DirectoryFault.{of_open}
-use Rattle.lsm_directory.specs.Rest.{IsLeftOut, LeavesNothingOut}
+use Rattle.lsm_directory.specs.Beside.{IsFirstLeftOut, IsWhole}
 use Rattle.lsm_cmd_read.specs.Answers.{Asking, HasNoNote, IsLookedIntoAsGiven, IsLookFault, IsNotLookedInto, IsPerformFault, Leaves, Moment, Prints, PrintsBefore, ReliesOn, SaysAbsent, moment}
 use Rattle.lsm_text.specs.declared.form.Form.{Form}
 use Rattle.lsm_cmd_read.specs.Directory.{AreGiven, Holds, OnlyReads}
 use Rattle.lsm_cmd_read.specs.Opening.{IsOpenRefusal}
-use Rattle.lsm_directory.specs.declared.folder.folder_file.FolderFile.{FolderFile}
+use Rattle.lsm_directory.specs.declared.folder.beside.Beside.{Beside}
+use Rattle.lsm_directory.specs.declared.folder.named_manifest.NamedManifest.{NamedManifest}
 use Rattle.lsm_directory.specs.declared.faults.directory_fault.DirectoryFault.{DirectoryFault}
-use Rattle.lsm_directory.specs.declared.faults.directory_fault.DirectoryFault.TheVariants.{OutOfMemory, Write, Shelf, Manifest, Tables, Read, NumbersSpent, Locked, UnflushedLog, TornManifest, Absent}
+use Rattle.lsm_directory.specs.declared.faults.directory_fault.DirectoryFault.TheVariants.{OutOfMemory, Write, Shelf, Manifest, Tables, Read, NumbersSpent, Locked, UnflushedLog, TornManifest, LaterManifest, RocksDbFiles, Absent}
 
 -- after later reads of tables
-pub holds_later : (Honest : Type 0) (was mid is : Told) (v : Levels) (rest log prev : ℕ) → Becomes mid is → Holds Honest was mid v rest log prev → Holds Honest was is v rest log prev
-holds_later Honest was mid is v rest log prev b h = record {
+pub holds_later : (Honest : Type 0) (was mid is : Told) (v : Levels) (m : NamedManifest) → Becomes mid is → Holds Honest was mid v m → Holds Honest was is v m
+holds_later Honest was mid is v m b h = record {
   held = h.held;
   limit = h.limit;
   next = h.next;
@@ -47,6 +48,7 @@ holds_later Honest was mid is v rest log prev b h = record {
     fits = h.found.fits;
     told = becomes_then (listing h.found.listed (finding h.held.number h.held.bytes was)) mid is h.found.told b;
   };
+  numbered = h.numbered;
   logs = h.logs;
   previous = h.previous;
 }
@@ -62,8 +64,8 @@ counted_from : (e : ReadFault) (listed : List ℕ) (number : ℕ) (bytes : List 
 counted_from (ShelfOfRead fault) listed number bytes was is k = (k.0, shelf_counted_from fault listed number bytes was is k.1)
 counted_from (TableOfRead fault) listed number bytes was is k = tt
 
-pub read_counted_from : (Honest : Type 0) (e : ReadFault) (was mid is : Told) (v : Levels) (rest log prev : ℕ) → Holds Honest was mid v rest log prev → ReadCounted e mid is → ReadCounted e was is
-read_counted_from Honest e was mid is v rest log prev h c =
+pub read_counted_from : (Honest : Type 0) (e : ReadFault) (was mid is : Told) (v : Levels) (m : NamedManifest) → Holds Honest was mid v m → ReadCounted e mid is → ReadCounted e was is
+read_counted_from Honest e was mid is v m h c =
     counted_from e h.found.listed h.held.number h.held.bytes was is (read_counted_later e (listing h.found.listed (finding h.held.number h.held.bytes was)) mid is h.found.told c)
 
 -- ---- a directory that is not opened
@@ -88,6 +90,8 @@ module _ (Stored : ℕ → List ℕ → Type 0) (Refused : Asked → ShelfFault 
   fault_from_open asked Locked was is h = absurd h
   fault_from_open asked (UnflushedLog number) was is h = absurd h
   fault_from_open asked (TornManifest rest) was is h = absurd h
+  fault_from_open asked (LaterManifest later) was is h = absurd h
+  fault_from_open asked RocksDbFiles was is h = absurd h
   fault_from_open asked Absent was is h = absurd h
 
   -- where nothing was written, a refusal to open leaves what it may
@@ -103,78 +107,84 @@ module _ (Stored : ℕ → List ℕ → Type 0) (Refused : Asked → ShelfFault 
   keeps_leaves asked Locked was is old f = absurd f
   keeps_leaves asked (UnflushedLog number) was is old f = absurd f
   keeps_leaves asked (TornManifest rest) was is old f = absurd f
+  keeps_leaves asked (LaterManifest later) was is old f = absurd f
+  keeps_leaves asked RocksDbFiles was is old f = absurd f
   keeps_leaves asked Absent was is old f = absurd f
 
   -- ---- something is left out
 
-  pub left_out : (asked : Asking) (e : DirectoryFault) (was is : Told) (v : Levels) (rest log prev : ℕ) → Holds Honest was is v rest log prev → AreGiven Stored v
-      → IsTrue asked.strict × IsLeftOut rest log prev asked.others e → IsLookFault asked Stored Refused Honest e was is
-  left_out asked OutOfMemory was is v rest log prev h given l = absurd l.1
-  left_out asked Write was is v rest log prev h given l = absurd l.1
-  left_out asked (Shelf e) was is v rest log prev h given l = absurd l.1
-  left_out asked (Manifest e) was is v rest log prev h given l = absurd l.1
-  left_out asked (Tables e) was is v rest log prev h given l = absurd l.1
-  left_out asked (Read e) was is v rest log prev h given l = absurd l.1
-  left_out asked NumbersSpent was is v rest log prev h given l = absurd l.1
-  left_out asked Locked was is v rest log prev h given l = absurd l.1
-  left_out asked (UnflushedLog number) was is v rest log prev h given l = (l.0, (v, rest, log, prev, h, given, l.1))
-  left_out asked (TornManifest torn) was is v rest log prev h given l = (l.0, (v, rest, log, prev, h, given, l.1))
-  left_out asked Absent was is v rest log prev h given l = absurd l.1
+  pub left_out : (asked : Asking) (e : DirectoryFault) (was is : Told) (v : Levels) (m : NamedManifest) → Holds Honest was is v m → AreGiven Stored v
+      → IsTrue asked.strict × IsFirstLeftOut m asked.beside e → IsLookFault asked Stored Refused Honest e was is
+  left_out asked OutOfMemory was is v m h given l = absurd l.1
+  left_out asked Write was is v m h given l = absurd l.1
+  left_out asked (Shelf e) was is v m h given l = absurd l.1
+  left_out asked (Manifest e) was is v m h given l = absurd l.1
+  left_out asked (Tables e) was is v m h given l = absurd l.1
+  left_out asked (Read e) was is v m h given l = absurd l.1
+  left_out asked NumbersSpent was is v m h given l = absurd l.1
+  left_out asked Locked was is v m h given l = absurd l.1
+  left_out asked (UnflushedLog number) was is v m h given l = (l.0, (v, m, h, given, l.1))
+  left_out asked (TornManifest torn) was is v m h given l = (l.0, (v, m, h, given, l.1))
+  left_out asked (LaterManifest later) was is v m h given l = (l.0, (v, m, h, given, l.1))
+  left_out asked RocksDbFiles was is v m h given l = (l.0, (v, m, h, given, l.1))
+  left_out asked Absent was is v m h given l = absurd l.1
 
-  pub left_out_leaves : (asked : Asking) (e : DirectoryFault) (was is : Told) (rest log prev : ℕ) (others : List FolderFile) (old : Option (List ℕ)) → IsLeftOut rest log prev others e
+  pub left_out_leaves : (asked : Asking) (e : DirectoryFault) (was is : Told) (m : NamedManifest) (beside : Beside) (old : Option (List ℕ)) → IsFirstLeftOut m beside e
       → Leaves asked Stored Honest e (moment was old) (moment is old)
-  left_out_leaves asked OutOfMemory was is rest log prev others old l = absurd l
-  left_out_leaves asked Write was is rest log prev others old l = absurd l
-  left_out_leaves asked (Shelf e) was is rest log prev others old l = absurd l
-  left_out_leaves asked (Manifest e) was is rest log prev others old l = absurd l
-  left_out_leaves asked (Tables e) was is rest log prev others old l = absurd l
-  left_out_leaves asked (Read e) was is rest log prev others old l = absurd l
-  left_out_leaves asked NumbersSpent was is rest log prev others old l = absurd l
-  left_out_leaves asked Locked was is rest log prev others old l = absurd l
-  left_out_leaves asked (UnflushedLog number) was is rest log prev others old l = Keeps-refl old
-  left_out_leaves asked (TornManifest torn) was is rest log prev others old l = Keeps-refl old
-  left_out_leaves asked Absent was is rest log prev others old l = absurd l
+  left_out_leaves asked OutOfMemory was is m beside old l = absurd l
+  left_out_leaves asked Write was is m beside old l = absurd l
+  left_out_leaves asked (Shelf e) was is m beside old l = absurd l
+  left_out_leaves asked (Manifest e) was is m beside old l = absurd l
+  left_out_leaves asked (Tables e) was is m beside old l = absurd l
+  left_out_leaves asked (Read e) was is m beside old l = absurd l
+  left_out_leaves asked NumbersSpent was is m beside old l = absurd l
+  left_out_leaves asked Locked was is m beside old l = absurd l
+  left_out_leaves asked (UnflushedLog number) was is m beside old l = Keeps-refl old
+  left_out_leaves asked (TornManifest torn) was is m beside old l = Keeps-refl old
+  left_out_leaves asked (LaterManifest later) was is m beside old l = Keeps-refl old
+  left_out_leaves asked RocksDbFiles was is m beside old l = Keeps-refl old
+  left_out_leaves asked Absent was is m beside old l = absurd l
 
   -- ---- an open directory
 
-  fault_later : (asked : Asking) (was mid is : Told) (v : Levels) (rest log prev : ℕ) (fault : DirectoryFault)
-      → Becomes mid is → Holds Honest was mid v rest log prev → AreGiven Stored v → IsPerformFault Honest asked.command v fault mid is → IsLookFault asked Stored Refused Honest fault was is
-  fault_later asked was mid is v rest log prev OutOfMemory b h given f = f
-  fault_later asked was mid is v rest log prev Write b h given f = (v, (rest, log, prev, holds_later Honest was mid is v rest log prev b h, given))
-  fault_later asked was mid is v rest log prev (Shelf fault) b h given f = absurd f
-  fault_later asked was mid is v rest log prev (Manifest fault) b h given f = absurd f
-  fault_later asked was mid is v rest log prev (Tables fault) b h given f = absurd f
-  fault_later asked was mid is v rest log prev (Read fault) b h given f =
-      (v, (rest, log, prev, holds_later Honest was mid is v rest log prev b h, given), f.0, read_counted_from Honest fault was mid is v rest log prev h f.1)
-  fault_later asked was mid is v rest log prev NumbersSpent b h given f = absurd f
-  fault_later asked was mid is v rest log prev Locked b h given f = absurd f
-  fault_later asked was mid is v rest log prev (UnflushedLog number) b h given f = absurd f
-  fault_later asked was mid is v rest log prev (TornManifest torn) b h given f = absurd f
-  fault_later asked was mid is v rest log prev Absent b h given f = (v, (rest, log, prev, holds_later Honest was mid is v rest log prev b h, given), f)
+  fault_later : (asked : Asking) (was mid is : Told) (v : Levels) (m : NamedManifest) (fault : DirectoryFault)
+      → Becomes mid is → Holds Honest was mid v m → AreGiven Stored v → IsPerformFault Honest asked.command v fault mid is → IsLookFault asked Stored Refused Honest fault was is
+  fault_later asked was mid is v m OutOfMemory b h given f = f
+  fault_later asked was mid is v m Write b h given f = (v, (m, holds_later Honest was mid is v m b h, given))
+  fault_later asked was mid is v m (Shelf fault) b h given f = absurd f
+  fault_later asked was mid is v m (Manifest fault) b h given f = absurd f
+  fault_later asked was mid is v m (Tables fault) b h given f = absurd f
+  fault_later asked was mid is v m (Read fault) b h given f =
+      (v, (m, holds_later Honest was mid is v m b h, given), f.0, read_counted_from Honest fault was mid is v m h f.1)
+  fault_later asked was mid is v m NumbersSpent b h given f = absurd f
+  fault_later asked was mid is v m Locked b h given f = absurd f
+  fault_later asked was mid is v m (UnflushedLog number) b h given f = absurd f
+  fault_later asked was mid is v m (TornManifest torn) b h given f = absurd f
+  fault_later asked was mid is v m (LaterManifest later) b h given f = absurd f
+  fault_later asked was mid is v m RocksDbFiles b h given f = absurd f
+  fault_later asked was mid is v m Absent b h given f = (v, (m, holds_later Honest was mid is v m b h, given), f)
 
-  pub is_fault : {T : Type 0} (r : Result T DirectoryFault) (asked : Asking) (was mid is : Told) (v : Levels) (rest log prev : ℕ)
-      → Becomes mid is → Holds Honest was mid v rest log prev → AreGiven Stored v → IfErr r (λ e. IsPerformFault Honest asked.command v e mid is)
+  pub is_fault : {T : Type 0} (r : Result T DirectoryFault) (asked : Asking) (was mid is : Told) (v : Levels) (m : NamedManifest)
+      → Becomes mid is → Holds Honest was mid v m → AreGiven Stored v → IfErr r (λ e. IsPerformFault Honest asked.command v e mid is)
       → IfErr r (λ e. IsLookFault asked Stored Refused Honest e was is)
-  is_fault (Ok x) asked was mid is v rest log prev b h given f = search
-  is_fault (Err e) asked was mid is v rest log prev b h given f = fault_later asked was mid is v rest log prev e b h given f
+  is_fault (Ok x) asked was mid is v m b h given f = search
+  is_fault (Err e) asked was mid is v m b h given f = fault_later asked was mid is v m e b h given f
 
-pub is_done : {T : Type 0} (r : Result T DirectoryFault) (asked : Asking) (Stored : ℕ → List ℕ → Type 0) (Honest : Type 0) (was mid is : Told) (v : Levels) (rest log prev : ℕ)
-    (old new said judged noted told : Option (List ℕ)) → Becomes mid is → Holds Honest was mid v rest log prev → (IsTrue asked.strict → LeavesNothingOut rest log prev asked.others) → AreGiven Stored v → (ReliesOn Honest asked.command → OnOk r (Prints asked.form asked.command v rest log prev asked.others old new))
-    → (IsFalse asked.progress → Keeps said judged) → (HasNoNote asked.command rest log prev asked.others → Keeps judged noted) → (IsFalse asked.progress → Keeps noted told) → OnOk r (IsLookedIntoAsGiven asked Stored Honest (moment was old) (moment is new) said told)
-is_done (Ok x) asked Stored Honest was mid is v rest log prev old new said judged noted told b h all given w j q k = record {
+pub is_done : {T : Type 0} (r : Result T DirectoryFault) (asked : Asking) (Stored : ℕ → List ℕ → Type 0) (Honest : Type 0) (was mid is : Told) (v : Levels) (m : NamedManifest)
+    (old new said judged noted told : Option (List ℕ)) → Becomes mid is → Holds Honest was mid v m → (IsTrue asked.strict → IsWhole m asked.beside) → AreGiven Stored v → (ReliesOn Honest asked.command → OnOk r (Prints asked.form asked.command v m asked.beside old new))
+    → (IsFalse asked.progress → Keeps said judged) → (HasNoNote asked.command m asked.beside → Keeps judged noted) → (IsFalse asked.progress → Keeps noted told) → OnOk r (IsLookedIntoAsGiven asked Stored Honest (moment was old) (moment is new) said told)
+is_done (Ok x) asked Stored Honest was mid is v m old new said judged noted told b h all given w j q k = record {
   looked = record {
     version = v;
-    rest = rest;
-    log = log;
-    prev = prev;
-    holds = holds_later Honest was mid is v rest log prev b h;
+    manifest = m;
+    holds = holds_later Honest was mid is v m b h;
     whole = all;
     printed = w;
     quiet = λ quiet none. Keeps-trans said noted told (Keeps-trans said judged noted (j quiet) (q none)) (k quiet);
   };
   given = given;
 }
-is_done (Err e) asked Stored Honest was mid is v rest log prev old new said judged noted told b h all given w j q k = search
+is_done (Err e) asked Stored Honest was mid is v m old new said judged noted told b h all given w j q k = search
 
 -- an absent key leaves what is written before a fault by a read of a key: nothing
 absent_leaves : (form : Form) (command : DirectoryCommand) (Honest : Type 0) (v : Levels) (old new : Option (List ℕ)) → SaysAbsent Honest command v
@@ -184,26 +194,28 @@ absent_leaves form ListFiles Honest v old new says p = p
 absent_leaves form (Get key output) Honest v old new says p = p
 absent_leaves form (Scan options) Honest v old new says p = absurd says
 
-leaves_later : (asked : Asking) (Stored : ℕ → List ℕ → Type 0) (Honest : Type 0) (fault : DirectoryFault) (was mid is : Told) (v : Levels) (rest log prev : ℕ) (old new : Option (List ℕ))
-    → Becomes mid is → Holds Honest was mid v rest log prev → AreGiven Stored v → IsPerformFault Honest asked.command v fault mid is → (fault ≢ Write → PrintsBefore asked.form asked.command Honest v old new)
+leaves_later : (asked : Asking) (Stored : ℕ → List ℕ → Type 0) (Honest : Type 0) (fault : DirectoryFault) (was mid is : Told) (v : Levels) (m : NamedManifest) (old new : Option (List ℕ))
+    → Becomes mid is → Holds Honest was mid v m → AreGiven Stored v → IsPerformFault Honest asked.command v fault mid is → (fault ≢ Write → PrintsBefore asked.form asked.command Honest v old new)
     → Leaves asked Stored Honest fault (moment was old) (moment is new)
-leaves_later asked Stored Honest OutOfMemory was mid is v rest log prev old new b h given f p = inr (v, (rest, log, prev, holds_later Honest was mid is v rest log prev b h, given), p (λ e. cc))
-leaves_later asked Stored Honest Write was mid is v rest log prev old new b h given f p = tt
-leaves_later asked Stored Honest (Shelf fault) was mid is v rest log prev old new b h given f p = absurd f
-leaves_later asked Stored Honest (Manifest fault) was mid is v rest log prev old new b h given f p = absurd f
-leaves_later asked Stored Honest (Tables fault) was mid is v rest log prev old new b h given f p = absurd f
-leaves_later asked Stored Honest (Read fault) was mid is v rest log prev old new b h given f p = (v, (rest, log, prev, holds_later Honest was mid is v rest log prev b h, given), p (λ e. cc))
-leaves_later asked Stored Honest NumbersSpent was mid is v rest log prev old new b h given f p = absurd f
-leaves_later asked Stored Honest Locked was mid is v rest log prev old new b h given f p = absurd f
-leaves_later asked Stored Honest (UnflushedLog number) was mid is v rest log prev old new b h given f p = absurd f
-leaves_later asked Stored Honest (TornManifest torn) was mid is v rest log prev old new b h given f p = absurd f
-leaves_later asked Stored Honest Absent was mid is v rest log prev old new b h given f p = absent_leaves asked.form asked.command Honest v old new f (p (λ e. cc))
+leaves_later asked Stored Honest OutOfMemory was mid is v m old new b h given f p = inr (v, (m, holds_later Honest was mid is v m b h, given), p (λ e. cc))
+leaves_later asked Stored Honest Write was mid is v m old new b h given f p = tt
+leaves_later asked Stored Honest (Shelf fault) was mid is v m old new b h given f p = absurd f
+leaves_later asked Stored Honest (Manifest fault) was mid is v m old new b h given f p = absurd f
+leaves_later asked Stored Honest (Tables fault) was mid is v m old new b h given f p = absurd f
+leaves_later asked Stored Honest (Read fault) was mid is v m old new b h given f p = (v, (m, holds_later Honest was mid is v m b h, given), p (λ e. cc))
+leaves_later asked Stored Honest NumbersSpent was mid is v m old new b h given f p = absurd f
+leaves_later asked Stored Honest Locked was mid is v m old new b h given f p = absurd f
+leaves_later asked Stored Honest (UnflushedLog number) was mid is v m old new b h given f p = absurd f
+leaves_later asked Stored Honest (TornManifest torn) was mid is v m old new b h given f p = absurd f
+leaves_later asked Stored Honest (LaterManifest later) was mid is v m old new b h given f p = absurd f
+leaves_later asked Stored Honest RocksDbFiles was mid is v m old new b h given f p = absurd f
+leaves_later asked Stored Honest Absent was mid is v m old new b h given f p = absent_leaves asked.form asked.command Honest v old new f (p (λ e. cc))
 
-pub is_left : {T : Type 0} (r : Result T DirectoryFault) (asked : Asking) (Stored : ℕ → List ℕ → Type 0) (Honest : Type 0) (was mid is : Told) (v : Levels) (rest log prev : ℕ) (old new : Option (List ℕ))
-    → Becomes mid is → Holds Honest was mid v rest log prev → AreGiven Stored v → IfErr r (λ e. IsPerformFault Honest asked.command v e mid is) → IfErr r (λ e. e ≢ Write → PrintsBefore asked.form asked.command Honest v old new)
+pub is_left : {T : Type 0} (r : Result T DirectoryFault) (asked : Asking) (Stored : ℕ → List ℕ → Type 0) (Honest : Type 0) (was mid is : Told) (v : Levels) (m : NamedManifest) (old new : Option (List ℕ))
+    → Becomes mid is → Holds Honest was mid v m → AreGiven Stored v → IfErr r (λ e. IsPerformFault Honest asked.command v e mid is) → IfErr r (λ e. e ≢ Write → PrintsBefore asked.form asked.command Honest v old new)
     → IfErr r (λ e. Leaves asked Stored Honest e (moment was old) (moment is new))
-is_left (Ok x) asked Stored Honest was mid is v rest log prev old new b h given f p = search
-is_left (Err e) asked Stored Honest was mid is v rest log prev old new b h given f p = leaves_later asked Stored Honest e was mid is v rest log prev old new b h given f p
+is_left (Ok x) asked Stored Honest was mid is v m old new b h given f p = search
+is_left (Err e) asked Stored Honest was mid is v m old new b h given f p = leaves_later asked Stored Honest e was mid is v m old new b h given f p
 
 pub is_refused : {T : Type 0} (r : Result T DirectoryFault) (asked : Asking) (Stored : ℕ → List ℕ → Type 0) (Refused : Asked → ShelfFault → Type 0) (Honest : Type 0) (before after : Moment)
     → IfErr r (λ e. IsLookFault asked Stored Refused Honest e before.told after.told) → IfErr r (λ e. Leaves asked Stored Honest e before after)
@@ -238,9 +250,10 @@ reads_refused Stored Refused Honest (open_faults.Check e) was is r = inr (r.held
 reads_refused Stored Refused Honest open_faults.NumbersSpent was is r = inr (r.held.number, r.held.bytes, inr (r.listed, r.told))
 
 -- a directory that was found
-pub found_held : (Honest : Type 0) (limit : ℕ) (h : HeldManifest) (v : Levels) (rest next log prev : ℕ) (was is : Told) → IsFound Honest limit h v rest next was is → log ≡ h.log → prev ≡ h.prev_log
-    → Holds Honest was is v rest log prev
-found_held Honest limit h v rest next log prev was is f logs previous = record { held = h; limit = limit; next = next; found = f; logs = sym logs; previous = sym previous }
+pub found_held : (Honest : Type 0) (limit : ℕ) (h : HeldManifest) (v : Levels) (m : NamedManifest) (next : ℕ) (was is : Told) → IsFound Honest limit h v m.rest next was is → m.number ≡ h.number → m.log ≡ h.log
+    → m.prev_log ≡ h.prev_log → Holds Honest was is v m
+found_held Honest limit h v m next was is f numbered logs previous =
+    record { held = h; limit = limit; next = next; found = f; numbered = sym numbered; logs = sym logs; previous = sym previous }
 
 pub reads_found : (Honest : Type 0) (limit : ℕ) (h : HeldManifest) (v : Levels) (rest next : ℕ) (was is : Told) → IsFound Honest limit h v rest next was is → OnlyReads was is
 reads_found Honest limit h v rest next was is f = inr (h.number, h.bytes, inr (f.listed, f.told))

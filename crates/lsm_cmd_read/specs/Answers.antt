@@ -21,11 +21,14 @@ use Rattle.lsm_text.specs.declared.form.Form.{Form}
 use Rattle.lsm_requests.specs.declared.get_output.GetOutput.TheVariants.{Line}
 use Rattle.lsm_cmd_read.specs.Directory.{AreGiven, Holds}
 use Rattle.lsm_cmd_read.specs.Listing.{IsChecked, list_text, shown_answer}
-use Rattle.lsm_directory.specs.Logs.{AppendsLogs, NoneUnread, note_line}
-use Rattle.lsm_directory.specs.Rest.{IsLeftOut, LeavesNothingOut, rest_note}
+use Rattle.lsm_directory.specs.Beside.{IsFirstLeftOut, IsPlain, IsWhole, beside_text}
+use Rattle.lsm_directory.specs.Logs.{AppendsLogs, note_line}
+use Rattle.lsm_directory.specs.Rest.{rest_note}
 use Rattle.lsm_cmd_read.specs.Scanned.{LeavesScan, PrintsScan}
 use Rattle.lsm_cmd_read.specs.Opening.{IsOpenRefusal}
+use Rattle.lsm_directory.specs.declared.folder.beside.Beside.{Beside}
 use Rattle.lsm_directory.specs.declared.folder.folder_file.FolderFile.{FolderFile}
+use Rattle.lsm_directory.specs.declared.folder.named_manifest.NamedManifest.{NamedManifest}
 use Rattle.lsm_directory.specs.declared.faults.directory_fault.DirectoryFault.{DirectoryFault}
 use Rattle.lsm_directory.specs.declared.faults.directory_fault.DirectoryFault.TheVariants.{
   OutOfMemory,
@@ -38,6 +41,8 @@ use Rattle.lsm_directory.specs.declared.faults.directory_fault.DirectoryFault.Th
   Locked,
   UnflushedLog,
   TornManifest,
+  LaterManifest,
+  RocksDbFiles,
   Absent,
 }
 use Rattle.lsm_requests.specs.declared.directory_line.DirectoryLine.{DirectoryLine}
@@ -45,12 +50,12 @@ use Rattle.lsm_cmd_read.specs.declared.inquiry.Inquiry.{Inquiry}
 
 -- ---- what is asked, and the moments before and after
 
--- what is asked: a command, with the form of keys and values, of a folder with these files beside
--- its tables; whether it is refused where something is not read, and whether it tells how far it is
+-- what is asked: a command, with the form of keys and values, of a folder in which this lies beside
+-- the tables; whether it is refused where something is not read, and whether it tells how far it is
 pub record Asking : Type 0 where
   pub command : DirectoryCommand
   pub form : Form
-  pub others : List FolderFile
+  pub beside : Beside
   pub strict : Bool
   pub progress : Bool
 
@@ -59,17 +64,17 @@ abbrev pub asking : Inquiry → Asking
 asking i = record {
   command = i.command.now;
   form = i.form;
-  others = i.files.now;
+  beside = i.beside.now;
   strict = i.strict;
   progress = i.progress;
 }
 
--- what a line asks of a folder with these files
-abbrev pub asked_by : DirectoryLine → List FolderFile → Asking
-asked_by line files = record {
+-- what a line asks of a folder in which this lies beside the tables
+abbrev pub asked_by : DirectoryLine → Beside → Asking
+asked_by line beside = record {
   command = line.command;
   form = line.form;
-  others = files;
+  beside = beside;
   strict = line.strict;
   progress = line.progress;
 }
@@ -84,17 +89,16 @@ moment told out = record { told = told; out = out }
 
 -- ---- what is written
 
--- what a command writes for a version, for a manifest with so many bytes at its end that hold no
--- whole record and with these log numbers, and for the files beside it
-abbrev pub Prints : Form → DirectoryCommand → Levels → (rest log prev : ℕ) → List FolderFile
-    → Option (List ℕ) → Option (List ℕ) → Type 0
-Prints form (Check workers) v rest log prev others old new =
-    (text : List ℕ) × IsChecked v rest log prev others text × Appends old new text
-Prints form ListFiles v rest log prev others old new = Appends old new (list_text form v)
-Prints form (Get key output) v rest log prev others old new =
+-- what a command writes for a version, for its manifest, and for what lies beside the tables
+abbrev pub Prints : Form → DirectoryCommand → Levels → NamedManifest → Beside → Option (List ℕ)
+    → Option (List ℕ) → Type 0
+Prints form (Check workers) v m beside old new =
+    (text : List ℕ) × IsChecked v m beside text × Appends old new text
+Prints form ListFiles v m beside old new = Appends old new (list_text form v)
+Prints form (Get key output) v m beside old new =
     (text : List ℕ) × (shown_answer form output (answer (all_entries (files v)) key v.last)
     ≡ Some text) × Appends old new text
-Prints form (Scan options) v rest log prev others old new = PrintsScan form options v old new
+Prints form (Scan options) v m beside old new = PrintsScan form options v old new
 
 -- What the text of a command relies on. A `get` and a `scan` read tables again, and rely on an
 -- honest shelf. What `check` and `list` print is of the tables that were read, whatever the shelf
@@ -110,27 +114,28 @@ abbrev pub AppendsRest : ℕ → (old new : List ℕ) → Type 0
 AppendsRest rest old new =
     ((rest ≡ 0) × (new ≡ old)) ⊎ ((0 < rest) × (new ≡ old ++ rest_note rest))
 
--- Notes were written of the manifest's end, and of each log among these files that is not read.
-abbrev pub WritesNotes : (rest log prev : ℕ) → List FolderFile → Option (List ℕ)
+-- Notes were written: of the manifest's end, of a later manifest and of files of RocksDB, and of
+-- each log among these that is not read.
+abbrev pub WritesNotes : NamedManifest → Beside → (logs : List FolderFile) → Option (List ℕ)
     → Option (List ℕ) → Type 0
-WritesNotes rest log prev files old new =
-    (text : List ℕ) × ((note : List ℕ) × AppendsRest rest [] note
-    × AppendsLogs note_line log prev files note text) × Appends old new text
+WritesNotes m beside logs old new =
+    (text : List ℕ) × ((note : List ℕ) × AppendsRest m.rest [] note
+    × AppendsLogs note_line m.log m.prev_log logs (note ++ beside_text m.number beside) text)
+    × Appends old new text
 
--- Of a manifest with so many bytes at its end that hold no whole record, and of these files beside
--- the tables, a command says nothing on standard error. It notes such bytes, and each log that is
--- not read; but a check says of logs what it has to say on standard output.
-abbrev pub HasNoNote : DirectoryCommand → (rest log prev : ℕ) → List FolderFile → Type 0
-HasNoNote (Check workers) rest log prev others = rest ≡ 0
-HasNoNote ListFiles rest log prev others = (rest ≡ 0) × NoneUnread log prev others
-HasNoNote (Get key output) rest log prev others = (rest ≡ 0) × NoneUnread log prev others
-HasNoNote (Scan options) rest log prev others = (rest ≡ 0) × NoneUnread log prev others
+-- Of the manifest, and of what lies beside the tables, a command says nothing on standard error. It
+-- notes whatever is not read; but a check says of logs what it has to say on standard output.
+abbrev pub HasNoNote : DirectoryCommand → NamedManifest → Beside → Type 0
+HasNoNote (Check workers) m beside = IsPlain m.number beside × (m.rest ≡ 0)
+HasNoNote ListFiles m beside = IsWhole m beside
+HasNoNote (Get key output) m beside = IsWhole m beside
+HasNoNote (Scan options) m beside = IsWhole m beside
 
 -- Standard error is kept where no progress is asked for and there is nothing to note.
-abbrev pub IsQuiet : DirectoryCommand → Bool → (rest log prev : ℕ) → List FolderFile
-    → Option (List ℕ) → Option (List ℕ) → Type 0
-IsQuiet command progress rest log prev others old new =
-    IsFalse progress → HasNoNote command rest log prev others → Keeps old new
+abbrev pub IsQuiet : DirectoryCommand → Bool → NamedManifest → Beside → Option (List ℕ)
+    → Option (List ℕ) → Type 0
+IsQuiet command progress m beside old new =
+    IsFalse progress → HasNoNote command m beside → Keeps old new
 
 -- The shelf's directory holds a version, of which nothing is left out where that is asked for; what
 -- the command prints of it was written on standard output (by `get` and `scan`, over an honest
@@ -138,14 +143,12 @@ IsQuiet command progress rest log prev others old new =
 pub record IsLookedInto (asked : Asking) (Honest : Type 0) (before after : Moment)
     (said_old said_new : Option (List ℕ)) : Type 0 where
   pub version : Levels
-  pub rest : ℕ
-  pub log : ℕ
-  pub prev : ℕ
-  pub holds : Holds Honest before.told after.told version rest log prev
-  pub whole : IsTrue asked.strict → LeavesNothingOut rest log prev asked.others
+  pub manifest : NamedManifest
+  pub holds : Holds Honest before.told after.told version manifest
+  pub whole : IsTrue asked.strict → IsWhole manifest asked.beside
   pub printed : ReliesOn Honest asked.command
-      → Prints asked.form asked.command version rest log prev asked.others before.out after.out
-  pub quiet : IsQuiet asked.command asked.progress rest log prev asked.others said_old said_new
+      → Prints asked.form asked.command version manifest asked.beside before.out after.out
+  pub quiet : IsQuiet asked.command asked.progress manifest asked.beside said_old said_new
 
 -- So it is of a version whose tables the shelf gave.
 pub record IsLookedIntoAsGiven (asked : Asking) (Stored : ℕ → List ℕ → Type 0) (Honest : Type 0)
@@ -156,7 +159,7 @@ pub record IsLookedIntoAsGiven (asked : Asking) (Stored : ℕ → List ℕ → T
 -- the directory holds a version, and the shelf gave its tables
 abbrev pub HoldsVersion : (ℕ → List ℕ → Type 0) → Type 0 → Told → Told → Levels → Type 0
 HoldsVersion Stored Honest was is v =
-    (rest : ℕ) × (log : ℕ) × (prev : ℕ) × Holds Honest was is v rest log prev × AreGiven Stored v
+    (m : NamedManifest) × Holds Honest was is v m × AreGiven Stored v
 
 -- A read of a key that is not to print a line says that it is absent: over an honest shelf it has
 -- no answer at the last sequence.
@@ -172,8 +175,8 @@ abbrev pub LeavesOut : Asking → (ℕ → List ℕ → Type 0) → Type 0 → D
     → Type 0
 LeavesOut asked Stored Honest fault was is =
     IsTrue asked.strict
-    × ((v : Levels) × (rest : ℕ) × (log : ℕ) × (prev : ℕ) × Holds Honest was is v rest log prev
-    × AreGiven Stored v × IsLeftOut rest log prev asked.others fault)
+    × ((v : Levels) × (m : NamedManifest) × Holds Honest was is v m × AreGiven Stored v
+    × IsFirstLeftOut m asked.beside fault)
 
 -- What a fault says of the directory: the first fault that opening it meets; or it was opened, and
 -- something is left out that is not to be, a write failed, or the shelf did, or the key is absent.
@@ -199,6 +202,10 @@ IsLookFault asked Stored Refused Honest (UnflushedLog number) was is =
     LeavesOut asked Stored Honest (UnflushedLog number) was is
 IsLookFault asked Stored Refused Honest (TornManifest torn) was is =
     LeavesOut asked Stored Honest (TornManifest torn) was is
+IsLookFault asked Stored Refused Honest (LaterManifest later) was is =
+    LeavesOut asked Stored Honest (LaterManifest later) was is
+IsLookFault asked Stored Refused Honest RocksDbFiles was is =
+    LeavesOut asked Stored Honest RocksDbFiles was is
 IsLookFault asked Stored Refused Honest Absent was is =
     (v : Levels) × HoldsVersion Stored Honest was is v × SaysAbsent Honest asked.command v
 
@@ -229,6 +236,8 @@ Leaves asked Stored Honest NumbersSpent before after = Keeps before.out after.ou
 Leaves asked Stored Honest Locked before after = Keeps before.out after.out
 Leaves asked Stored Honest (UnflushedLog number) before after = Keeps before.out after.out
 Leaves asked Stored Honest (TornManifest rest) before after = Keeps before.out after.out
+Leaves asked Stored Honest (LaterManifest later) before after = Keeps before.out after.out
+Leaves asked Stored Honest RocksDbFiles before after = Keeps before.out after.out
 Leaves asked Stored Honest Absent before after = Keeps before.out after.out
 
 -- What a refusal is: what the fault says of the directory, and what it leaves on standard output.
@@ -261,4 +270,6 @@ IsPerformFault Honest command v NumbersSpent was is = ⊥
 IsPerformFault Honest command v Locked was is = ⊥
 IsPerformFault Honest command v (UnflushedLog number) was is = ⊥
 IsPerformFault Honest command v (TornManifest rest) was is = ⊥
+IsPerformFault Honest command v (LaterManifest later) was is = ⊥
+IsPerformFault Honest command v RocksDbFiles was is = ⊥
 IsPerformFault Honest command v Absent was is = SaysAbsent Honest command v

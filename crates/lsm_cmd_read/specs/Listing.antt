@@ -13,7 +13,8 @@ use Rattle.lsm_text.specs.declared.form.Form.{Form}
 use Rattle.lsm_requests.specs.declared.get_output.GetOutput.{GetOutput}
 use Rattle.lsm_requests.specs.declared.get_output.GetOutput.TheVariants.{Line, Raw, Nothing}
 use Rattle.lsm_directory.specs.Logs.{AppendsLogs, log_line}
-use Rattle.lsm_directory.specs.declared.folder.folder_file.FolderFile.{FolderFile}
+use Rattle.lsm_directory.specs.declared.folder.beside.Beside.{Beside}
+use Rattle.lsm_directory.specs.declared.folder.named_manifest.NamedManifest.{NamedManifest}
 
 -- the texts of the first n levels
 unfoldable pub level_texts : (ℕ → List ℕ) → ℕ → List ℕ
@@ -79,7 +80,7 @@ check_text v rest =
     level_texts (λ n. level_line n (level_in v.tables n)) 7
     ++ (number_line (codes "last ") v.last ++ number_line (codes "rest ") rest)
 
--- what `check` prints of a version, of a manifest with so many bytes at its end that hold no whole
--- record and with these log numbers, and of the files beside it
-abbrev pub IsChecked : Levels → (rest log prev : ℕ) → List FolderFile → List ℕ → Type 0
-IsChecked v rest log prev files text = AppendsLogs log_line log prev files (check_text v rest) text
+-- what `check` prints of a version, of its manifest, and of the logs beside the tables
+abbrev pub IsChecked : Levels → NamedManifest → Beside → List ℕ → Type 0
+IsChecked v m beside text =
+    AppendsLogs log_line m.log m.prev_log beside.logs.items (check_text v m.rest) text

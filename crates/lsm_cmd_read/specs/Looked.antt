@@ -11,26 +11,26 @@ use Rattle.lsm_storage.specs.declared.file.file_shelf.FileShelf.{FileShelf}
 use Rattle.lsm_requests.specs.declared.directory_line.DirectoryLine.{DirectoryLine}
 use Rattle.lsm_cmd_read.specs.Answers.{IsLookedInto, IsNotLookedInto, asked_by, moment}
 use Rattle.lsm_cmd_read.specs.Directory.{AreGiven, OnlyReads}
+use Rattle.lsm_directory.specs.Beside.{LooksBeside}
 use Rattle.lsm_directory.specs.Folders.{IsShelfAt, stored_at, told_by}
 use Rattle.lsm_directory.specs.Holding.{IsFolderFault}
-use Rattle.lsm_directory.specs.Looking.{TellsBeside}
 use Rattle.lsm_directory.specs.declared.faults.directory_fault.DirectoryFault.{DirectoryFault}
 use Rattle.lsm_directory.specs.declared.faults.directory_fault.DirectoryFault.TheVariants.{
   OutOfMemory,
 }
-use Rattle.lsm_directory.specs.declared.folder.folder_file.FolderFile.{FolderFile}
+use Rattle.lsm_directory.specs.declared.folder.beside.Beside.{Beside}
 
 module _ {C M : Type 0} (folders : Ghosts C M) where
-  -- The lock of the folder at the path was held, and these files were found beside its tables. On a
-  -- shelf of it, which was only read, the command was done.
+  -- The lock of the folder at the path was held, and this was found beside its tables. On a shelf
+  -- of it, which was only read, the command was done.
   pub record LooksAt (line : DirectoryLine) (old new said_old said_new : Option (List ℕ))
       : Type 0 where
-    pub others : List FolderFile
+    pub beside : Beside
     pub begun : FileShelf C M
-    pub on : IsShelfAt folders line.path.now (TellsBeside others) begun
+    pub on : IsShelfAt folders line.path.now (LooksBeside beside) begun
     pub ended : FileShelf C M
     pub done :
-        IsLookedInto (asked_by line others) (AreHonest folders.calls)
+        IsLookedInto (asked_by line beside) (AreHonest folders.calls)
         (moment (told_by folders begun) old) (moment (told_by folders ended) new)
         said_old said_new
     pub reads : OnlyReads (told_by folders begun) (told_by folders ended)
@@ -43,17 +43,17 @@ module _ {C M : Type 0} (folders : Ghosts C M) (marks : mark.Ghosts M) where
     pub given : AreGiven (stored_at folders marks (told_by folders looks.begun).place)
         looks.done.version
 
-  -- The lock of the folder at the path was held, and these files were found beside its tables. On a
-  -- shelf of it, which was only read, this fault was met: what that says of the folder, and what it
+  -- The lock of the folder at the path was held, and this was found beside its tables. On a shelf
+  -- of it, which was only read, this fault was met: what that says of the folder, and what it
   -- leaves.
   pub record FailsAt (line : DirectoryLine) (fault : DirectoryFault) (old new : Option (List ℕ))
       : Type 0 where
-    pub others : List FolderFile
+    pub beside : Beside
     pub begun : FileShelf C M
-    pub on : IsShelfAt folders line.path.now (TellsBeside others) begun
+    pub on : IsShelfAt folders line.path.now (LooksBeside beside) begun
     pub ended : FileShelf C M
     pub refused :
-        IsNotLookedInto (asked_by line others)
+        IsNotLookedInto (asked_by line beside)
         (stored_at folders marks (told_by folders begun).place) MayRefuse
         (AreHonest folders.calls) fault (moment (told_by folders begun) old)
         (moment (told_by folders ended) new)

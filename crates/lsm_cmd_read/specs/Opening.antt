@@ -18,6 +18,8 @@ use Rattle.lsm_directory.specs.declared.faults.directory_fault.DirectoryFault.Th
   Locked,
   UnflushedLog,
   TornManifest,
+  LaterManifest,
+  RocksDbFiles,
   Absent,
 }
 
@@ -38,4 +40,6 @@ IsOpenRefusal Stored Refused Honest (Read fault) was is = ⊥
 IsOpenRefusal Stored Refused Honest Locked was is = ⊥
 IsOpenRefusal Stored Refused Honest (UnflushedLog number) was is = ⊥
 IsOpenRefusal Stored Refused Honest (TornManifest rest) was is = ⊥
+IsOpenRefusal Stored Refused Honest (LaterManifest later) was is = ⊥
+IsOpenRefusal Stored Refused Honest RocksDbFiles was is = ⊥
 IsOpenRefusal Stored Refused Honest Absent was is = ⊥

@@ -14,6 +14,8 @@ use Rattle.lsm_directory.specs.declared.faults.directory_fault.DirectoryFault.Th
   Locked,
   UnflushedLog,
   TornManifest,
+  LaterManifest,
+  RocksDbFiles,
   Absent,
 }
 
@@ -31,6 +33,8 @@ IsAnswerFault Honest NumbersSpent was is = ⊥
 IsAnswerFault Honest Locked was is = ⊥
 IsAnswerFault Honest (UnflushedLog number) was is = ⊥
 IsAnswerFault Honest (TornManifest rest) was is = ⊥
+IsAnswerFault Honest (LaterManifest later) was is = ⊥
+IsAnswerFault Honest RocksDbFiles was is = ⊥
 IsAnswerFault Honest Absent was is = ⊥
 
 -- memory ran out, or a write failed
@@ -45,4 +49,6 @@ IsOutputFault NumbersSpent = ⊥
 IsOutputFault Locked = ⊥
 IsOutputFault (UnflushedLog number) = ⊥
 IsOutputFault (TornManifest rest) = ⊥
+IsOutputFault (LaterManifest later) = ⊥
+IsOutputFault RocksDbFiles = ⊥
 IsOutputFault Absent = ⊥

@@ -69,7 +69,7 @@ pub(crate) fn describe<N: Naming, S: Shelf>(
     opened: &Opened<N, S>,
 ) -> Result<Vec<u8>, AllocError>
     ensures { IfOk result (λ text.
-        text.items ≡ check_text opened.now.version opened.now.rest) }
+        text.items ≡ check_text opened.now.version opened.now.manifest.rest) }
 {
     let version = &opened.version;
     let counts = opened.counts.as_slice();
@@ -79,6 +79,6 @@ pub(crate) fn describe<N: Naming, S: Shelf>(
         push_level(&mut text, registry, level, version.level(level), entries)?;
     }
     push_number(&mut text, b"last ", version.last())?;
-    push_number(&mut text, b"rest ", opened.rest)?;
+    push_number(&mut text, b"rest ", opened.manifest.rest)?;
     Ok(text)
 }

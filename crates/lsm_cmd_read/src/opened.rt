@@ -7,7 +7,7 @@ ghost use Rattle.lsm_cmd_read.specs.Opening.{IsOpenRefusal};
 ghost use Rattle.lsm_shelf.specs.Stored.{Stored};
 
 use crate::given::tables_are_given;
-use lsm_directory::DirectoryFault;
+use lsm_directory::{DirectoryFault, NamedManifest};
 use lsm_journal::Found;
 use lsm_table::{NamedShelf, Naming, Registry, Shelf};
 use lsm_verify::Watch;
@@ -16,15 +16,12 @@ use std::alloc::Global;
 use std::sync::{Arc, Wait};
 use std::thread::Threads;
 
-/// A directory that is opened to be read: its version, how many bytes at the end of its manifest
-/// hold no whole record, the numbers that the manifest gives of the write-ahead log and of the one
-/// before it, and how many entries the tables of each level have.
+/// A directory that is opened to be read: its version, the manifest that records it, and how many
+/// entries the tables of each level have.
 #[derive(Drop)]
 pub struct Opened<N: Naming, S: Shelf> {
     pub version: Version<N, S>,
-    pub rest: u64,
-    pub log: u64,
-    pub prev_log: u64,
+    pub manifest: NamedManifest,
     pub counts: Vec<u64>,
     ghost counted: { counts.items ≡ map count_of version.tables },
 }
@@ -45,7 +42,7 @@ pub fn open<N: Naming, S: Shelf, R: Threads + Wait + Sync, W: Watch + Sync>(
     watch: &W,
 ) -> Result<Opened<N, S>, DirectoryFault>
     ensures opened { IfOk result (λ o.
-        Holds S.honest shelf.old shelf.new o.version o.rest o.log o.prev_log) }
+        Holds S.honest shelf.old shelf.new o.version o.manifest) }
     ensures given { IfOk result (λ o. AreGiven (Stored S.Receipt (S.is_of N.place) S.Receipt.number
         S.Receipt.image) o.version) }
     ensures refused { IfErr result (λ e.
@@ -58,9 +55,12 @@ pub fn open<N: Naming, S: Shelf, R: Threads + Wait + Sync, W: Watch + Sync>(
     tables_are_given(&found.version);
     Ok(Opened {
         version: found.version,
-        rest: found.rest,
-        log: found.journal.log(),
-        prev_log: found.journal.prev_log(),
+        manifest: NamedManifest {
+            number: found.journal.number(),
+            rest: found.rest,
+            log: found.journal.log(),
+            prev_log: found.journal.prev_log(),
+        },
         counts: found.counts,
     })
 }

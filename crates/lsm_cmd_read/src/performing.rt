@@ -23,7 +23,7 @@ use crate::opened::{Opened, open};
 use crate::progress::FileTeller;
 use crate::scanning::print_scan;
 use lsm_codec::Bytes;
-use lsm_directory::{DirectoryFault, Wording, push_logs, refuse_left_out, write_output};
+use lsm_directory::{DirectoryFault, Wording, push_logs, refuse_beside, write_output};
 use lsm_requests::{DirectoryCommand, GetOutput};
 use lsm_table::{NamedShelf, Naming, Records, Registry, Shelf};
 use lsm_text::Form;
@@ -64,16 +64,16 @@ fn checked<N: Naming, S: Shelf>(
     opened: &Opened<N, S>,
     inquiry: &Inquiry<'_>,
 ) -> Result<Vec<u8>, AllocError>
-    ensures { IfOk result (λ text. IsChecked opened.now.version opened.now.rest opened.now.log
-        opened.now.prev_log inquiry.now.files.now text.items) }
+    ensures { IfOk result (λ text. IsChecked opened.now.version opened.now.manifest
+        inquiry.now.beside.now text.items) }
 {
     let mut text = describe(alloc, registry, opened)?;
     push_logs(
         &mut text,
         Wording::Listed,
-        inquiry.files,
-        opened.log,
-        opened.prev_log,
+        &inquiry.beside.logs,
+        opened.manifest.log,
+        opened.manifest.prev_log,
     )?;
     Ok(text)
 }
@@ -90,9 +90,8 @@ fn perform_on<N: Naming, S: Shelf, O: Write, E: Write>(
     err: &mut E,
 ) -> Result<(), DirectoryFault>
     ensures done { ReliesOn S.honest inquiry.now.command.now → OnOk result
-        (Prints inquiry.now.form inquiry.now.command.now opened.now.version opened.now.rest
-        opened.now.log opened.now.prev_log inquiry.now.files.now (O.contents out.old)
-        (O.contents out.new)) }
+        (Prints inquiry.now.form inquiry.now.command.now opened.now.version opened.now.manifest
+        inquiry.now.beside.now (O.contents out.old) (O.contents out.new)) }
     ensures left { IfErr result (λ e. e ≢ WriteFault
         → PrintsBefore inquiry.now.form inquiry.now.command.now S.honest opened.now.version
         (O.contents out.old) (O.contents out.new)) }
@@ -138,7 +137,7 @@ fn open_told<N: Naming, S: Shelf, R: Threads + Wait + Sync, E: Write + Send>(
     err: &mut E,
 ) -> Result<Opened<N, S>, DirectoryFault>
     ensures opened { IfOk result (λ o.
-        Holds S.honest shelf.old shelf.new o.version o.rest o.log o.prev_log) }
+        Holds S.honest shelf.old shelf.new o.version o.manifest) }
     ensures given { IfOk result (λ o. AreGiven (Stored S.Receipt (S.is_of N.place) S.Receipt.number
         S.Receipt.image) o.version) }
     ensures refused { IfErr result (λ e.
@@ -209,22 +208,8 @@ fn perform<N: Naming, S: Shelf, R: Threads + Wait + Sync, O: Write, E: Write + S
     let shelves = named(alloc, shelves)?;
     let progress = tells_files(inquiry);
     let opened = open_told(rt, alloc, shelf, &registry, shelves, progress, err)?;
-    refuse_left_out(
-        inquiry.strict,
-        opened.rest,
-        inquiry.files,
-        opened.log,
-        opened.prev_log,
-    )?;
-    tell_notes(
-        alloc,
-        inquiry.command,
-        opened.rest,
-        inquiry.files,
-        opened.log,
-        opened.prev_log,
-        err,
-    );
+    refuse_beside(inquiry.strict, opened.manifest, inquiry.beside)?;
+    tell_notes(alloc, inquiry.command, opened.manifest, inquiry.beside, err);
     perform_on(shelf, alloc, &registry, &opened, inquiry, out, err)
 }
 

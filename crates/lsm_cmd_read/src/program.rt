@@ -6,17 +6,17 @@ ghost use Rattle.lsm_shelf.specs.Stored.{Stored};
 ghost use Rattle.lsm_cmd_read.specs.Answers.{IsLookedIntoAsGiven, IsNotLookedInto, asking};
 ghost use Rattle.lsm_cmd_read.specs.Answers.{moment, names_files};
 ghost use Rattle.lsm_cmd_read.specs.Directory.{OnlyReads};
+ghost use Rattle.lsm_directory.specs.Beside.{LooksBeside};
 ghost use Rattle.lsm_directory.specs.Folders.{IsShelfAt};
 ghost use Rattle.lsm_directory.specs.Holding.{IsFolderFault};
 ghost use Rattle.lsm_cmd_read.specs.Looked.{FailsToLook, LooksAt, LooksAtGiven};
-ghost use Rattle.lsm_directory.specs.Looking.{TellsBeside};
 ghost use Rattle.lsm_directory.specs.declared.faults.directory_fault.DirectoryFault.{DirectoryFault};
 ghost use Rattle.lsm_directory.specs.declared.faults.directory_fault.DirectoryFault.TheVariants.{OutOfMemory};
 
 use crate::inquiry::Inquiry;
 use crate::performing::perform_as;
 use lsm_directory::{
-    DirectoryFault, FolderFile, Known, Paths, files_beside, open_at, refuse, status_of,
+    Beside, DirectoryFault, Known, Paths, look_beside, open_at, refuse, status_of,
 };
 use lsm_folder::{FolderCalls, Reasons};
 use lsm_requests::{DirectoryCommand, DirectoryLine};
@@ -71,13 +71,13 @@ fn begin<S: Shelf, R: Threads + Wait + Sync, O: Write, E: Write + Send>(
 
 /// Opens the directory of a shelf to read, does what is asked of it, and answers the exit status: 0
 /// where it is done, and 1 where it is refused. Each notes on `err` bytes at the manifest's end
-/// that are no whole record, and `list`, `get` and `scan` each log that is not read; where it is
-/// strict, all four are refused by either. A fault is one line on `err`; `check` and `scan` name in
-/// it the file of which a table is refused, and `list` and `get` in a second one. What it means, and
-/// where it is `9 Device` or `10 Missing` what the system answered, stand behind it. A `get` that
-/// prints no line of its answer is `absent` where the key has none. Nothing is written in the
-/// directory. The shelf is given back. A thread for each of the other shelves, forks of it, reads
-/// and judges tables.
+/// that are no whole record, a manifest that is later than the one that `CURRENT` names, and files
+/// of RocksDB; and `list`, `get` and `scan` each log that is not read. Where it is strict, all four
+/// are refused by any of these. A fault is one line on `err`; `check` and `scan` name in it the file
+/// of which a table is refused, and `list` and `get` in a second one. What it means, and where it is
+/// `9 Device` or `10 Missing` what the system answered, stand behind it. A `get` that prints no line
+/// of its answer is `absent` where the key has none. Nothing is written in the directory. The shelf
+/// is given back. A thread for each of the other shelves, forks of it, reads and judges tables.
 pub fn look<S: Shelf, R: Threads + Wait + Sync, O: Write, E: Write + Send>(
     rt: &R,
     alloc: Global,
@@ -116,7 +116,8 @@ fn usable_processors<R: Threads>(rt: &R) -> usize {
     }
 }
 
-/// How many threads read and judge the tables for a command: as many as it says, or one a processor.
+/// How many threads read and judge the tables for a command: as many as it says, or one a
+/// processor.
 fn threads_for<R: Threads>(rt: &R, command: &DirectoryCommand) -> usize {
     match command {
         DirectoryCommand::Check(Some(workers)) => *workers,
@@ -148,27 +149,27 @@ fn shelves_on<C: FolderCalls>(
 }
 
 /// Opens the folder at a path for a command that only reads: a shelf on it, whose lock is held as
-/// long as the shelf is, so many more, and the files that `files_beside` finds there.
+/// long as the shelf is, so many more, and what `look_beside` finds there.
 fn open_shelf<C: FolderCalls, P: Paths<C>, R: Wait>(
     rt: &R,
     paths: &P,
     path: &str,
     count: usize,
     reasons: &Reasons,
-) -> Result<(FileShelf<C>, Vec<FileShelf<C>>, Vec<FolderFile>), DirectoryFault>
+) -> Result<(FileShelf<C>, Vec<FileShelf<C>>, Beside), DirectoryFault>
     ensures found { IfOk result (λ o.
-        IsShelfAt C.FolderCalls path.now (TellsBeside o.2.items) o.0) }
+        IsShelfAt C.FolderCalls path.now (LooksBeside o.2) o.0) }
     ensures place { IfOk result (λ o.
         All (λ s. (file_told C.place s).place ≡ (file_told C.place o.0).place) o.1.items) }
     ensures fault { IfErr result (λ e. IsFolderFault e ⊎ (e ≡ OutOfMemory)) }
 {
     let mut folder = open_at(paths, path, reasons)?;
-    let files = files_beside(rt, paths.alloc(), &mut folder)?;
+    let beside = look_beside(rt, paths.alloc(), &mut folder)?;
     let shelves = shelves_on(paths.alloc(), &folder, count)?;
 
     // That a file was not there to be locked, or is gone, is no reason of a later refusal.
     reasons.forget();
-    Ok((FileShelf::over(folder), shelves, files))
+    Ok((FileShelf::over(folder), shelves, beside))
 }
 
 /// Does what a line asks of the folder at its path.
@@ -194,11 +195,11 @@ where
         (O.contents out.old) (O.contents out.new)) }
 {
     let count = threads_for(rt, &line.command);
-    let (shelf, shelves, files) = open_shelf(rt, paths, line.path, count, reasons)?;
+    let (shelf, shelves, beside) = open_shelf(rt, paths, line.path, count, reasons)?;
     let inquiry = Inquiry {
         command: &line.command,
         form: line.form,
-        files: &files,
+        beside: &beside,
         strict: line.strict,
         progress: line.progress,
         reasons: Some(reasons),
@@ -208,7 +209,7 @@ where
 }
 
 /// Does what a line asks of the folder at its path, and answers the exit status, as `look` does.
-/// `Shelf` of `Device` where it is no folder that can be opened; the refusals of `files_beside`.
+/// `Shelf` of `Device` where it is no folder that can be opened; the refusals of `look_beside`.
 pub fn run_look<
     C: FolderCalls + Send + Sync,
     P: Paths<C>,

@@ -2,6 +2,7 @@ mod Padding
 mod Quiet
 mod TellingLaws
 mod LogLaws
+mod BesideLaws
 mod LookLaws
 mod NameNumberLaws
 mod FileKindLaws

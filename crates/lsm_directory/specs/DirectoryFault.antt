@@ -39,6 +39,8 @@ use Rattle.lsm_directory.specs.declared.faults.directory_fault.DirectoryFault.Th
   Locked,
   UnflushedLog,
   TornManifest,
+  LaterManifest,
+  RocksDbFiles,
   Absent,
 }
 
@@ -90,6 +92,9 @@ fault_text Locked = Some (refusal_text 52 (codes "Locked") None)
 fault_text (UnflushedLog number) =
     Some (refusal_text 51 (codes "UnflushedLog") (Some number))
 fault_text (TornManifest rest) = Some (refusal_text 61 (codes "TornManifest") (Some rest))
+fault_text (LaterManifest number) =
+    Some (refusal_text 62 (codes "LaterManifest") (Some number))
+fault_text RocksDbFiles = Some (refusal_text 63 (codes "RocksDbFiles") None)
 fault_text Absent = Some (codes "absent")
 
 -- the number of a refusal; none of a write that failed, and of a key that is absent
@@ -104,6 +109,8 @@ number_of NumbersSpent = Some 46
 number_of Locked = Some 52
 number_of (UnflushedLog number) = Some 51
 number_of (TornManifest rest) = Some 61
+number_of (LaterManifest number) = Some 62
+number_of RocksDbFiles = Some 63
 number_of Absent = None
 
 -- the number of the file that a refusal of its table names
@@ -125,6 +132,8 @@ file_of NumbersSpent = None
 file_of Locked = None
 file_of (UnflushedLog number) = None
 file_of (TornManifest rest) = None
+file_of (LaterManifest number) = None
+file_of RocksDbFiles = None
 file_of Absent = None
 
 -- ---- what a fault means, on a line of its own
@@ -214,4 +223,8 @@ meaning_of (UnflushedLog number) =
     codes "the log is read by lsm import alone, which copies: lsm import DIR NEW\n"
 meaning_of (TornManifest rest) =
     codes "the manifest's cut end may name tables; --accept-rest, or no --strict, lets them go\n"
+meaning_of (LaterManifest number) =
+    codes "the later manifest may name other tables; no --strict reads what CURRENT names\n"
+meaning_of RocksDbFiles =
+    codes "what RocksDB has in its logs is not read; no --strict reads the tables\n"
 meaning_of Absent = []

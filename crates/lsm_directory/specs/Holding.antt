@@ -20,6 +20,8 @@ use Rattle.lsm_directory.specs.declared.faults.directory_fault.DirectoryFault.Th
   Locked,
   UnflushedLog,
   TornManifest,
+  LaterManifest,
+  RocksDbFiles,
   Absent,
 }
 
@@ -49,6 +51,8 @@ IsUnheld kind (Read fault) old new = ⊥
 IsUnheld kind NumbersSpent old new = ⊥
 IsUnheld kind (UnflushedLog number) old new = ⊥
 IsUnheld kind (TornManifest rest) old new = ⊥
+IsUnheld kind (LaterManifest number) old new = ⊥
+IsUnheld kind RocksDbFiles old new = ⊥
 IsUnheld kind Absent old new = ⊥
 
 -- a refusal before a directory is read: another has the lock, or the folder refused
@@ -63,4 +67,6 @@ IsFolderFault (Read fault) = ⊥
 IsFolderFault NumbersSpent = ⊥
 IsFolderFault (UnflushedLog number) = ⊥
 IsFolderFault (TornManifest rest) = ⊥
+IsFolderFault (LaterManifest number) = ⊥
+IsFolderFault RocksDbFiles = ⊥
 IsFolderFault Absent = ⊥

@@ -5,6 +5,7 @@ pub mod Looking
 pub mod FileNames
 pub mod Logs
 pub mod Rest
+pub mod Beside
 pub mod DirectoryFault
 pub mod Inputs
 -- What private functions and proofs cite alone

@@ -13,6 +13,8 @@ use Rattle.lsm_directory.specs.declared.faults.directory_fault.DirectoryFault.Th
   Locked,
   UnflushedLog,
   TornManifest,
+  LaterManifest,
+  RocksDbFiles,
   Absent,
 }
 use Rattle.lsm_directory.specs.declared.folder.folder_file.FolderFile.{FolderFile}
@@ -39,4 +41,6 @@ IsLeftOut rest log prev others (Tables fault) = ⊥
 IsLeftOut rest log prev others (Read fault) = ⊥
 IsLeftOut rest log prev others NumbersSpent = ⊥
 IsLeftOut rest log prev others Locked = ⊥
+IsLeftOut rest log prev others (LaterManifest number) = ⊥
+IsLeftOut rest log prev others RocksDbFiles = ⊥
 IsLeftOut rest log prev others Absent = ⊥

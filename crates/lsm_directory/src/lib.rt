@@ -18,11 +18,14 @@ mod faults;
 mod telling;
 
 pub use faults::directory_fault::DirectoryFault;
+pub use folder::beside::{Beside, look_beside};
 pub use folder::file_kind::FileKind;
 pub use folder::folder_file::FolderFile;
 pub use folder::holding::hold;
 pub use folder::logs::{first_unread, push_logs};
 pub use folder::looking::{files_beside, folder_names, log_files, logs_among};
+pub use folder::named_manifest::NamedManifest;
+pub use folder::notes::{push_beside, refuse_beside};
 pub use folder::rest::{push_rest, refuse_left_out};
 pub use folder::wording::Wording;
 pub use paths::{Paths, SystemPaths, open_at};

@@ -53,6 +53,10 @@ flushed, `list`, `get` and `scan` say on standard error how many bytes are not
 read, and `check` prints a line. `ingest`, `put`, `delete`, `load` and `shell`
 are `refused 51 UnflushedLog N` beside it.
 
+Where DIR has a later manifest than the one that CURRENT names, or files of
+RocksDB, `check`, `list`, `get` and `scan` say so on standard error; with
+--strict that is `refused 62 LaterManifest N` or `refused 63 RocksDbFiles`.
+
 Tables that are compressed, as LevelDB makes them unless told otherwise, are
 refused: `refused 16 Compressed 1`.
 

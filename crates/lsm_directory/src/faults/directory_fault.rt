@@ -11,7 +11,7 @@ ghost use Rattle.lsm_directory.specs.declared.faults.directory_fault.DirectoryFa
 ghost use Rattle.lsm_directory.specs.declared.faults.directory_fault.DirectoryFault.TheVariants.{Write as WriteVariant};
 
 use crate::faults::directory_refusals::{
-    of_locked, of_manifest, of_spent, of_tables, of_torn, of_unflushed,
+    of_later, of_locked, of_manifest, of_rocksdb, of_spent, of_tables, of_torn, of_unflushed,
 };
 use crate::faults::meanings::meaning_of;
 use crate::telling::Exit;
@@ -48,6 +48,11 @@ pub enum DirectoryFault {
     UnflushedLog(u64),
     /// So many bytes at the manifest's end hold no whole record, and that is not accepted.
     TornManifest(u64),
+    /// The manifest of this number is later than the one that `CURRENT` names, and that is not
+    /// accepted.
+    LaterManifest(u64),
+    /// Files of RocksDB are there, and that is not accepted.
+    RocksDbFiles,
     /// The key has no value, where the exit status is to tell that.
     Absent,
 }
@@ -69,6 +74,8 @@ impl DirectoryFault {
             DirectoryFault::Locked => Some(52),
             DirectoryFault::UnflushedLog(_) => Some(51),
             DirectoryFault::TornManifest(_) => Some(61),
+            DirectoryFault::LaterManifest(_) => Some(62),
+            DirectoryFault::RocksDbFiles => Some(63),
             DirectoryFault::Absent => None,
         }
     }
@@ -99,6 +106,8 @@ impl fmt::Display for DirectoryFault {
             DirectoryFault::Locked => of_locked(),
             DirectoryFault::UnflushedLog(number) => of_unflushed(*number),
             DirectoryFault::TornManifest(rest) => of_torn(*rest),
+            DirectoryFault::LaterManifest(number) => of_later(*number),
+            DirectoryFault::RocksDbFiles => of_rocksdb(),
             DirectoryFault::Tables(fault) => match of_tables(fault) {
                 Some(refusal) => refusal,
                 None => return write!(f, "refused 33 {fault}"),

@@ -86,3 +86,27 @@ pub(crate) fn of_unflushed(number: u64) -> Refusal
         field: Some(number),
     }
 }
+
+/// The refusal where the manifest of this number is later than the one that `CURRENT` names.
+pub(crate) fn of_later(number: u64) -> Refusal
+    ensures { refusal_text result.number result.name.now result.field
+        ≡ refusal_text 62 (codes "LaterManifest") (Some number) }
+{
+    Refusal {
+        number: 62,
+        name: "LaterManifest",
+        field: Some(number),
+    }
+}
+
+/// The refusal where files of RocksDB are there.
+pub(crate) fn of_rocksdb() -> Refusal
+    ensures { refusal_text result.number result.name.now result.field
+        ≡ refusal_text 63 (codes "RocksDbFiles") None }
+{
+    Refusal {
+        number: 63,
+        name: "RocksDbFiles",
+        field: None,
+    }
+}

@@ -15,7 +15,7 @@ returns-in_err-found-clause-reads g c =
     reads_refused Stored (g.S.Shelf.refuses g.N.Naming.place) g.S.Shelf.honest c.in_err-found.field-0.0 _ _ c.in_err-found.ensures.refused
 
 pub returns-clause-opened : goal.returns-clause-opened
-returns-clause-opened g c = found_held g.S.Shelf.honest _ _ _ _ _ _ _ _ _ c.in_ok-found.ensures.found c.log.ensures c.prev_log.ensures
+returns-clause-opened g c = found_held g.S.Shelf.honest _ _ _ _ _ _ _ c.in_ok-found.ensures.found c.number.ensures c.log.ensures c.prev_log.ensures
 
 pub returns-clause-reads : goal.returns-clause-reads
 returns-clause-reads g c = reads_found g.S.Shelf.honest _ _ _ _ _ _ _ c.in_ok-found.ensures.found
