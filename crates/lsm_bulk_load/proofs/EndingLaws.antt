@@ -1,5 +1,5 @@
 -- What is left behind the lines, and why all is not done.
-use Rattle.std.proofs.Common.{◌≡◌, ℕ, ◌+◌, ◌<◌, ◌≤◌, List, [], ◌∷◌, ◌++◌, length, get_or, take, drop, Option, Some, None, All, refl, sym, ap, ◌∙◌, subst, append_assoc, inl, inr}
+use Rattle.std.proofs.Common.{◌≡◌, ℕ, ◌+◌, ◌<◌, ◌≤◌, List, [], ◌∷◌, ◌++◌, length, get_or, take, drop, Some, None, All, refl, sym, ap, ◌∙◌, subst, append_assoc, inl, inr}
 use Rattle.std.proofs.lemmas.List.{drop_more, take-append-drop, take_all}
 use Rattle.std.proofs.lemmas.List.Elements.{All-more}
 use Rattle.std.specs.Prelude.{Result, Ok, Err, IfErr, OnErr, OnOk}
@@ -7,7 +7,6 @@ use Rattle.lsm_codec.specs.Entries.{Entry}
 use Rattle.lsm_shelf.specs.Asked.{Asked}
 use Rattle.lsm_shelf.specs.declared.shelf_fault.ShelfFault.{ShelfFault}
 use Rattle.lsm_history.specs.History.{IsLater}
-use Rattle.lsm_batch.specs.declared.write.Write.{Write}
 use Rattle.lsm_live.specs.Booked.{Booked}
 use Rattle.lsm_lines.specs.Gathering.{Pending}
 use Rattle.lsm_lines.specs.declared.write_line_fault.WriteLineFault.{WriteLineFault}

@@ -1,6 +1,6 @@
 -- What the lock keeps while lines come in.
-use Rattle.std.proofs.Common.{◌≡◌, ℕ, suc, List, [], ◌∷◌, ◌++◌, Option, All, refl, ap, ◌∙◌, subst, sym, inl, inr}
-use Rattle.std.specs.Prelude.{◌⊎◌, zero}
+use Rattle.std.proofs.Common.{◌≡◌, ℕ, suc, List, [], ◌∷◌, ◌++◌, Option, ap, subst, sym, inl, inr}
+use Rattle.std.specs.Prelude.{zero}
 use Rattle.std.proofs.lemmas.List.Elements.{All-nil, All-push}
 use Rattle.lsm_model.specs.Plain.{Plain}
 use Rattle.lsm_shelf.specs.Asked.{Asked}
@@ -15,9 +15,9 @@ use Rattle.lsm_lines.specs.declared.write_line_fault.WriteLineFault.{WriteLineFa
 use Rattle.lsm_lines.specs.declared.write_line_fault.WriteLineFault.TheVariants as lines
 use Rattle.lsm_state.specs.Held.{Held}
 use Rattle.lsm_state.specs.declared.ingest.Ingested.{Ingested}
-use Rattle.lsm_store.specs.Background.{BringsIn, IsIngestStep, IsKeptByIngest}
+use Rattle.lsm_store.specs.Background.{BringsIn, IsIngestStep}
 use Rattle.lsm_store.specs.Compacting.{IsKeptByCompaction}
-use Rattle.lsm_bulk_load.specs.Coming.{CameIn, ComesNext}
+use Rattle.lsm_bulk_load.specs.Coming.{ComesNext}
 use Rattle.lsm_bulk_load.specs.Keeping.{AreStepsOf, HasComeTo, HasGrown, IsKeptByAll, IsKeptByLearning, IsKeptByNext, IsOfLines, IsStepOf, IsTaken}
 use Rattle.lsm_bulk_load.specs.Loading.{Loads}
 use Rattle.lsm_bulk_load.specs.Marks.{Marked, marked_in}

@@ -1,6 +1,7 @@
 -- What is left behind lines that were loaded beside workers (this project's rule).
 use Rattle.std.specs.Prelude.{◌≡◌, ◌⊎◌, ⊤, List, ◌∷◌, ◌++◌, All, None, Some, Result, Ok, Err}
 use Rattle.lsm_history.specs.History.{IsLater}
+use Rattle.lsm_state.specs.Gathering.{HasNoneToGather}
 use Rattle.lsm_state.specs.Held.{Held}
 use Rattle.lsm_state.specs.Reserving.{HasNoNext}
 use Rattle.lsm_store.specs.declared.worker_end.WorkerEnd.{WorkerEnd}
@@ -9,9 +10,10 @@ use Rattle.lsm_bulk_load.specs.Marks.{Marked}
 use Rattle.lsm_bulk_load.specs.declared.load_fault.LoadFault.{LoadFault}
 use Rattle.lsm_bulk_load.specs.declared.load_fault.LoadFault.TheVariants.{Other, Worker, Due}
 
--- Nothing is due: there is no next compaction of a worker beside the live jobs.
+-- Nothing is due beside the live jobs: a worker has no files of level 0 to gather, and no next
+-- compaction.
 abbrev pub IsIdle : Held → Type 0
-IsIdle h = HasNoNext h
+IsIdle h = HasNoneToGather h × HasNoNext h
 
 -- A job was looked for, and what was reserved was given up again: no more may have changed than the
 -- live jobs and the next ticket.

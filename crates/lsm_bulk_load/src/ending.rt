@@ -45,7 +45,8 @@ fn give_up<N: Boarded, S: Shelf>(state: &mut State<N, S>, ticket: u64)
     }
 }
 
-/// Whether a worker would find nothing to compact. What is reserved is given up again.
+/// Whether a worker would find nothing to gather, and nothing to compact. What is reserved is given
+/// up again.
 #[tactic(auto, using(crate::proofs::EndingLaws::looked_none, crate::proofs::EndingLaws::looked_mark))]
 fn nothing_is_due<N: Boarded, S: Shelf>(
     alloc: Global,
@@ -56,6 +57,9 @@ fn nothing_is_due<N: Boarded, S: Shelf>(
     ensures looked { IsLooked state.old state.new }
     ensures same { marked_in state.new ≡ marked_in state.old }
 {
+    let Ok(true) = state.has_none_to_gather(alloc) else {
+        return Err(LoadFault::Due);
+    };
     match state.reserve_next(alloc) {
         Ok(None) => Ok(()),
         Ok(Some(job)) => {

@@ -24,7 +24,8 @@ pub enum LoadFault {
     Other,
     /// All lines are in, and the first worker that ended early did so by this.
     Worker(WorkerFault),
-    /// All lines are in, and there is still something to compact, or it could not be told.
+    /// All lines are in, and there is still something to gather or to compact, or that could not be
+    /// told.
     Due,
 }
 

@@ -1,15 +1,16 @@
 use Rattle.std.proofs.Common.{subst, sym}
-use Rattle.lsm_state.specs.Reserving.{HasNoNext}
 use Rattle.lsm_state.specs.Held.{Held}
+use Rattle.lsm_bulk_load.specs.Ending.{IsIdle}
 use Rattle.lsm_bulk_load.proofs.EndingLaws.{looked_back, looked_mark}
 use Rattle.lsm_bulk_load.proofs.ending.nothing_is_due.Goals as goal
 
--- nothing was reserved, so the state is as it was
+-- nothing was reserved, so the state is as it was when there was nothing to gather
 pub returns-in-Ok-None-clause-idle : goal.returns-in-Ok-None-clause-idle
 returns-in-Ok-None-clause-idle g c honest =
+    let gathered = rw c.in-Ok-true.field-0-test at c.in-Ok-true.ensures.none in
     let none = (rw c.in-Ok-None.field-0-is at c.in-Ok-None.ensures.next) honest in
     let same = rw c.in-Ok-None.field-0-is at c.in-Ok-None.ensures.none in
-    subst (λ (h : Held). HasNoNext h) (sym same) none
+    subst (λ (h : Held). IsIdle h) (sym same) (gathered, none)
 
 pub returns-in-Ok-Some-clause-looked : goal.returns-in-Ok-Some-clause-looked
 returns-in-Ok-Some-clause-looked g c =

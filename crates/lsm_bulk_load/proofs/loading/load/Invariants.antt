@@ -1,4 +1,4 @@
-use Rattle.std.proofs.Common.{◌≡◌, ◌*◌, ◌^◌, ◌≤◌}
+use Rattle.std.proofs.Common.{◌*◌, ◌^◌, ◌≤◌}
 use Rattle.lsm_bulk_load.specs.Loading.{Loads}
 use Rattle.lsm_bulk_load.proofs.LoadLaws.{SameForm}
 use Rattle.lsm_bulk_load.proofs.loading.load.Given as goal
