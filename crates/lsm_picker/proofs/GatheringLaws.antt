@@ -40,9 +40,9 @@ newest_less n m le (t ∷ ts) = (let more = newest_less n m le ts in elim (cases
     go true more = omega (arith, more)
     go false more = more
 
--- no such one of these is the oldest of so many
-abbrev pub NoNewest : (count target_size : ℕ) → List Reserved → List Table → List Table → Type 0
-NoNewest count target_size rs ts us = (t : Table) → Has us t → AllMayGather target_size rs ts t.number → count ≤ length (newest t.number ts) → ⊥
+-- no such one of these is the oldest of eight
+abbrev pub NoEight : ℕ → List Reserved → List Table → List Table → Type 0
+NoEight target_size rs ts us = (t : Table) → Has us t → AllMayGather target_size rs ts t.number → 8 ≤ length (newest t.number ts) → ⊥
 
 -- ---- the first above the last that stays
 

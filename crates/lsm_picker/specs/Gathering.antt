@@ -26,17 +26,11 @@ abbrev pub AllMayGather : ℕ → List Reserved → List Table → ℕ → Type 
 AllMayGather target_size rs ts number =
     (t : Table) → Has ts t → number ≤ t.number → may_gather target_size rs t ≡ true
 
--- there are so many newest files, or more, that may be gathered
-abbrev pub HasNewest : (count target_size : ℕ) → List Reserved → List Table → Type 0
-HasNewest count target_size rs ts =
+-- there are eight newest files, or more, that may be gathered
+abbrev pub HasEight : ℕ → List Reserved → List Table → Type 0
+HasEight target_size rs ts =
     (t : Table) × Has ts t × AllMayGather target_size rs ts t.number
-    × (count ≤ length (newest t.number ts))
-
--- eight newest files; or four, where level 0 is crowded: it has ten files, the inputs of live jobs
--- counted
-abbrev pub HasEnough : (target_size : ℕ) → List Reserved → List Table → Type 0
-HasEnough target_size rs ts = HasNewest 8 target_size rs ts
-    ⊎ ((10 ≤ length ts) × HasNewest 4 target_size rs ts)
+    × (8 ≤ length (newest t.number ts))
 
 -- At most one file is newer; or the newer ones together are below half the target size, and the
 -- file has at most one and a half times their bytes.
@@ -53,9 +47,9 @@ pub record CanGather (target_size : ℕ) (rs : List Reserved) (ts : List Table) 
   pub worth : (t : Table) → Has ts t → oldest.number ≤ t.number → IsWorthAdding target_size ts t
   pub two : 2 ≤ length (newest oldest.number ts)
 
--- As many of the newest files as can be, where enough may be; said by the number of the oldest.
+-- As many of the newest files as can be, where eight may be; said by the number of the oldest.
 pub record IsToGather (v : Levels) (rs : List Reserved) (target_size number : ℕ) : Type 0 where
-  pub enough : HasEnough target_size rs (level_in v.tables 0)
+  pub eight : HasEight target_size rs (level_in v.tables 0)
   pub oldest : Table
   pub here : Has (level_in v.tables 0) oldest
   pub its : oldest.number ≡ number
@@ -63,9 +57,9 @@ pub record IsToGather (v : Levels) (rs : List Reserved) (target_size number : �
   pub least : (t : Table) → Has (level_in v.tables 0) t
       → CanGather target_size rs (level_in v.tables 0) t → number ≤ t.number
 
--- not enough may be gathered, or no file is such an oldest one
+-- eight may not be gathered, or no file is such an oldest one
 abbrev pub HasNoneToGather : Levels → List Reserved → ℕ → Type 0
-HasNoneToGather v rs target_size = HasEnough target_size rs (level_in v.tables 0)
+HasNoneToGather v rs target_size = HasEight target_size rs (level_in v.tables 0)
     → (t : Table) → Has (level_in v.tables 0) t
     → CanGather target_size rs (level_in v.tables 0) t → ⊥
 
@@ -75,13 +69,13 @@ HasNoneToGather v rs target_size = HasEnough target_size rs (level_in v.tables 0
 abbrev pub is_large : ℕ → List Reserved → Table → Bool
 is_large target_size rs t = not (is_small target_size t) && not (is_taken rs t)
 
--- Level 0 has four files that are not small; or eleven files, of which not enough may be gathered.
+-- Level 0 has four files that are not small; or eleven files, of which no eight may be gathered.
 -- The inputs of live jobs are not counted.
 abbrev pub IsReady : Levels → List Reserved → ℕ → Type 0
 IsReady v rs target_size =
     (4 ≤ length (filter (is_large target_size rs) (level_in v.tables 0)))
     ⊎ ((11 ≤ length (free_tables rs (level_in v.tables 0)))
-    × (HasEnough target_size rs (level_in v.tables 0) → ⊥))
+    × (HasEight target_size rs (level_in v.tables 0) → ⊥))
 
 -- ---- how the code looks for the oldest
 

@@ -1,7 +1,7 @@
 -- Which files below level 0 are joined, so that small ones become larger (this project's rule).
-use Rattle.std.specs.Prelude.{◌≡◌, ℕ, suc, ◌+◌, ◌*◌, ◌<◌, ◌≤◌, ◌⊎◌, false, List, Some, length}
+use Rattle.std.specs.Prelude.{◌≡◌, ℕ, ◌+◌, ◌-◌, ◌*◌, ◌<◌, ◌≤◌, ◌⊎◌, List, Some, length}
 use Rattle.std.specs.Prelude.{slice_get, slice_range}
-use Rattle.lsm_codec.specs.Keys.{UserKey, user_le}
+use Rattle.lsm_codec.specs.Keys.{UserKey}
 use Rattle.lsm_table.specs.Registry.{Table, bytes_of}
 use Rattle.lsm_version.specs.Versions.{Levels, level_in, user_of}
 
@@ -37,26 +37,25 @@ pub record IsOverRun (ts : List Table) (at : ℕ) (from to : UserKey) : Type 0 w
   pub first : (t : Table) × (slice_get ts at ≡ Some t) × (from ≡ user_of t.smallest)
   pub last : (t : Table) × (slice_get ts (at + 11) ≡ Some t) × (to ≡ user_of t.largest)
 
--- A level falls: its first file begins before that of the next level, as where new keys are below
--- all others.
-pub record Falls (ts below : List Table) : Type 0 where
+-- A level falls: its first file is newer than its last one, as where new keys are below all others.
+pub record Falls (ts : List Table) : Type 0 where
   pub first : Table
   pub is_first : slice_get ts 0 ≡ Some first
-  pub next : Table
-  pub is_next : slice_get below 0 ≡ Some next
-  pub before : user_le (user_of next.smallest) (user_of first.smallest) ≡ false
+  pub last : Table
+  pub is_last : slice_get ts (length ts - 1) ≡ Some last
+  pub newer : last.number < first.number
 
 -- the last run of a level that falls, the first one of any other
-pub record IsInnermost (target_size : ℕ) (ts below : List Table) (at : ℕ) : Type 0 where
+pub record IsInnermost (target_size : ℕ) (ts : List Table) (at : ℕ) : Type 0 where
   pub run : IsRun target_size ts at
-  pub innermost : (Falls ts below × NoRunBehind target_size ts at)
-      ⊎ ((Falls ts below → ⊥) × NoRunBefore target_size ts at)
+  pub innermost : (Falls ts × NoRunBehind target_size ts at)
+      ⊎ ((Falls ts → ⊥) × NoRunBefore target_size ts at)
 
 -- the range of the innermost run
-pub record IsOverInnermostRun (target_size : ℕ) (ts below : List Table) (from to : UserKey)
+pub record IsOverInnermostRun (target_size : ℕ) (ts : List Table) (from to : UserKey)
     : Type 0 where
   pub at : ℕ
-  pub innermost : IsInnermost target_size ts below at
+  pub innermost : IsInnermost target_size ts at
   pub over : IsOverRun ts at from to
 
 -- What is joined: the range of the innermost run of the first level, 1 to 5, that has one.
@@ -64,8 +63,7 @@ pub record IsJoined (v : Levels) (target_size : ℕ) (s : Span) : Type 0 where
   pub below : 1 ≤ s.level
   pub inside : s.level ≤ 5
   pub none_above : NoRunAbove target_size v s.level
-  pub over : IsOverInnermostRun target_size (level_in v.tables s.level)
-      (level_in v.tables (suc s.level)) s.from s.to
+  pub over : IsOverInnermostRun target_size (level_in v.tables s.level) s.from s.to
 
 -- none of these levels has a run
 abbrev pub IsSettled : Levels → ℕ → Type 0

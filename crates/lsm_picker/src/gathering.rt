@@ -3,7 +3,7 @@
 ghost use Rattle.std.specs.Prelude.{◌≡◌, ◌<◌, ◌≤◌, ◌^◌, ◌*◌, ◌↔◌, IsTrue, MatchOption, length};
 ghost use Rattle.lsm_table.specs.Registry.{bytes_of};
 ghost use Rattle.std.specs.List.{filter};
-ghost use Rattle.lsm_picker.specs.Gathering.{AllMayGather, HasEnough, HasNewest, HasNoneToGather};
+ghost use Rattle.lsm_picker.specs.Gathering.{AllMayGather, HasEight, HasNoneToGather};
 ghost use Rattle.lsm_picker.specs.Gathering.{IsFirstAbove, IsGreater, IsLastToStay, IsLesser};
 ghost use Rattle.lsm_picker.specs.Gathering.{IsReady, IsToGather, IsWorthAdding, Joins};
 ghost use Rattle.lsm_picker.specs.Gathering.{is_large, is_small, may_gather, newest};
@@ -94,38 +94,24 @@ fn all_may_gather<N: Naming, S: Shelf>(
     true
 }
 
-/// Whether so many newest tables, or more, may be gathered.
-fn has_newest<N: Naming, S: Shelf>(
+/// Whether eight newest tables, or more, may be gathered.
+fn has_eight<N: Naming, S: Shelf>(
     registry: &Registry<N, S>,
     tables: &[TableRef<N, S>],
     live: &[Reservation],
-    count: u128,
     target_size: u64,
 ) -> bool
-    ensures { IsTrue result ↔ HasNewest count target_size live.now tables.now }
+    ensures { IsTrue result ↔ HasEight target_size live.now tables.now }
 {
     for table in tables {
         let number = registry.record(table).number();
-        if newest_count(registry, tables, u128::from(number)) >= count
+        if newest_count(registry, tables, u128::from(number)) >= 8
             && all_may_gather(registry, tables, live, number, target_size)
         {
             return true;
         }
     }
     false
-}
-
-/// Whether eight newest tables, or more, may be gathered; or four of ten tables or more.
-fn has_enough<N: Naming, S: Shelf>(
-    registry: &Registry<N, S>,
-    tables: &[TableRef<N, S>],
-    live: &[Reservation],
-    target_size: u64,
-) -> bool
-    ensures { IsTrue result ↔ HasEnough target_size live.now tables.now }
-{
-    has_newest(registry, tables, live, 8, target_size)
-        || (tables.len() >= 10 && has_newest(registry, tables, live, 4, target_size))
 }
 
 /// Whether a table is worth adding to the newer ones.
@@ -238,10 +224,9 @@ fn large_count<N: Naming, S: Shelf>(
 /// answers; none where there is nothing to gather.
 ///
 /// A file is small below half the target size. Where eight newest files of level 0, or more, are
-/// small and inputs of no live job, or four of ten files or more (inputs of live jobs counted), the
-/// two newest are gathered, and then one older file after another, as long as it is small and no
-/// such input, the newer ones together are below half the target size, and it has at most one and a
-/// half times their bytes.
+/// small and inputs of no live job, the two newest are gathered, and then one older file after
+/// another, as long as it is small and no such input, the newer ones together are below half the
+/// target size, and it has at most one and a half times their bytes.
 pub fn to_gather<N: Naming, S: Shelf>(
     registry: &Registry<N, S>,
     version: &Version<N, S>,
@@ -253,7 +238,7 @@ pub fn to_gather<N: Naming, S: Shelf>(
         IsToGather version.now live.now target_size n) }
 {
     let tables = version.level(0);
-    if !has_enough(registry, tables, live, target_size) {
+    if !has_eight(registry, tables, live, target_size) {
         return None;
     }
     let last = last_to_stay(registry, tables, live, target_size);
@@ -264,10 +249,9 @@ pub fn to_gather<N: Naming, S: Shelf>(
     Some(oldest)
 }
 
-/// Whether level 0 itself may be compacted: it has four files at least that are not small, or
-/// eleven files at least, and not enough to gather, as `to_gather` has both; the inputs of live
-/// jobs are not counted. (Batches that come in while a worker asks for nothing to gather, and then
-/// for this, may fill level 0 with small files in between.)
+/// Whether level 0 itself may be compacted: it has four files at least that are not small, as
+/// `to_gather` has it, or eleven files at least and nothing to gather, the inputs of live jobs not
+/// counted.
 pub fn level_zero_is_ready<N: Naming, S: Shelf>(
     registry: &Registry<N, S>,
     version: &Version<N, S>,
@@ -280,5 +264,5 @@ pub fn level_zero_is_ready<N: Naming, S: Shelf>(
     let tables = version.level(0);
     large_count(registry, tables, live, target_size) >= 4
         || (free_count(registry, tables, live) >= 11
-            && !has_enough(registry, tables, live, target_size))
+            && !has_eight(registry, tables, live, target_size))
 }

@@ -7,7 +7,6 @@ ghost use Rattle.lsm_picker.specs.Joining.{IsOverInnermostRun, IsRun, IsSettled,
 ghost use Rattle.lsm_picker.specs.Joining.{NoRunBehind};
 
 use crate::span::Span;
-use lsm_model::is_at_most;
 use lsm_table::{Naming, Registry, Shelf, TableReceipt, TableRef};
 use lsm_version::{Version, high_of, low_of};
 
@@ -74,16 +73,14 @@ fn last_run<N: Naming, S: Shelf>(
     None
 }
 
-/// Whether a level's first file begins before that of the next level.
-fn falls<N: Naming, S: Shelf>(
-    registry: &Registry<N, S>,
-    tables: &[TableRef<N, S>],
-    below: &[TableRef<N, S>],
-) -> bool
-    ensures { IsTrue result ↔ Falls tables.now below.now }
+/// Whether a level's first file is newer than its last one.
+fn falls<N: Naming, S: Shelf>(registry: &Registry<N, S>, tables: &[TableRef<N, S>]) -> bool
+    ensures { IsTrue result ↔ Falls tables.now }
 {
-    match (tables.first(), below.first()) {
-        (Some(first), Some(next)) => !is_at_most(low_of(registry, next), low_of(registry, first)),
+    match (tables.first(), tables.last()) {
+        (Some(first), Some(last)) => {
+            registry.record(first).number() > registry.record(last).number()
+        }
         _ => false,
     }
 }
@@ -93,13 +90,12 @@ fn falls<N: Naming, S: Shelf>(
 fn innermost_run<N: Naming, S: Shelf>(
     registry: &Registry<N, S>,
     tables: &[TableRef<N, S>],
-    below: &[TableRef<N, S>],
     target_size: u64,
 ) -> Option<usize>
     ensures { MatchOption result (HasNoRun target_size tables.now) (λ at.
-        IsInnermost target_size tables.now below.now at) }
+        IsInnermost target_size tables.now at) }
 {
-    if falls(registry, tables, below) {
+    if falls(registry, tables) {
         last_run(registry, tables, target_size)
     } else {
         first_run(registry, tables, target_size)
@@ -110,13 +106,12 @@ fn innermost_run<N: Naming, S: Shelf>(
 fn over_innermost_run<'a, N: Naming, S: Shelf>(
     registry: &'a Registry<N, S>,
     tables: &[TableRef<N, S>],
-    below: &[TableRef<N, S>],
     target_size: u64,
 ) -> Option<(&'a [u8], &'a [u8])>
     ensures { MatchOption result (HasNoRun target_size tables.now) (λ r.
-        IsOverInnermostRun target_size tables.now below.now r.0.now r.1.now) }
+        IsOverInnermostRun target_size tables.now r.0.now r.1.now) }
 {
-    let at = innermost_run(registry, tables, below, target_size)?;
+    let at = innermost_run(registry, tables, target_size)?;
     let from = low_of(registry, &tables[at]);
     let to = high_of(registry, &tables[at + (RUN - 1)]);
     Some((from, to))
@@ -125,11 +120,10 @@ fn over_innermost_run<'a, N: Naming, S: Shelf>(
 /// The files that are joined next, so that small files become larger ones; none where no file wants
 /// to be joined: the range of the innermost run, twelve neighbours with at most three target sizes
 /// of bytes together, of the first level from 1 to 5 that has one. Innermost is the last run of a
-/// level that falls, whose first file begins before that of the next level, and the first run of
-/// any other.
+/// level that falls, whose first file is newer than its last one, and the first run of any other.
 ///
 /// Where keys only fall, the newest files of a level are its first ones, where they only rise its
-/// last ones: what is joined lies next to the deeper files, so that levels can stay the stairs that
+/// last ones: what is joined lies next to the deeper files, so that levels stay the stairs that
 /// `outermost_span` asks for.
 ///
 /// Live jobs are not looked at: a plan that conflicts with one has to wait.
@@ -144,8 +138,7 @@ pub fn span_to_join<'a, N: Naming, S: Shelf>(
 {
     for level in 1..6u8 {
         let tables = version.level(usize::from(level));
-        let below = version.level(usize::from(level) + 1);
-        if let Some((from, to)) = over_innermost_run(registry, tables, below, target_size) {
+        if let Some((from, to)) = over_innermost_run(registry, tables, target_size) {
             return Some(Span { level, from, to });
         }
     }

@@ -31,7 +31,8 @@ use Rattle.lsm_state.specs.Held.{HasInputs, Held, IsLawfulState, plain}
 use Rattle.lsm_state.specs.Reserving.{HasOrderedInputs, IsChosen, IsClosedPlan, IsOfMoment}
 use Rattle.lsm_state.specs.Reserving.{IsPlanAt, IsRangePlan, IsRangeRefusal, IsReserveRefusal}
 use Rattle.lsm_state.specs.Reserving.{IsReserving, plan_in, reserved, GoesBefore, HasNoneAtOnce}
-use Rattle.lsm_state.specs.Reserving.{HasNoNext, IsReady, NoneGoesBefore, WaitsForOthers, IsNext}
+use Rattle.lsm_state.specs.Reserving.{HasNoJoining, HasNoNext, IsJoining, IsReady, NoneGoesBefore}
+use Rattle.lsm_state.specs.Reserving.{NoneGoesDown, WaitsForOthers, IsNext}
 use Rattle.lsm_state.specs.Reserving.{IsNextRefusal, IsPlanRefusal}
 use Rattle.lsm_state.specs.declared.state_fault.StateFault.{StateFault}
 use Rattle.lsm_state.specs.declared.state_fault.StateFault.TheVariants.{OutOfMemory, Shelf, Read, BadLevel, EmptyBatch, KeyOrder, TooLarge, LevelZeroFull, SequencesSpent, Halted, UnknownSnapshot, Conflict, UnknownTicket, NumbersSpent, Stale, SlotsHeld, VersionsSpent, PinsSpent}
@@ -275,6 +276,13 @@ pub next_unchosen : (h : Held) (o : Option TablePlan)
     → MatchOption o (HasNoNext h) (λ p. IsNext h p)
 next_unchosen h None none m = (m.0, m.1, inl none)
 next_unchosen h (Some p) none m = before_next h p (inl none) m
+
+-- where no file goes down, what is joined goes before the choice
+pub joined_before : (h : Held) (o : Option TablePlan) → NoneGoesDown h
+    → MatchOption o (HasNoJoining h) (λ p. IsJoining h p)
+    → MatchOption o (NoneGoesBefore h) (λ p. GoesBefore h p)
+joined_before h None none m = (none, m)
+joined_before h (Some p) none m = inr (none, m)
 
 pub match_none : {A : Type 0} (o : Option A) (P : Type 0) (Q : A → Type 0) → ((x : A) → o ≡ Some x → ⊥) → MatchOption o P Q → P
 match_none None P Q f m = m

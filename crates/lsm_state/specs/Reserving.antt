@@ -166,8 +166,7 @@ abbrev pub HasNoJoining : Held → Type 0
 HasNoJoining h = IsSettled h.slots.version h.options.target_size
     ⊎ ((s : Span) × IsJoined h.slots.version h.options.target_size s × HasToWait h s)
 
--- level 0 is compacted: it has four files that are not small, or eleven of which not enough may be
--- gathered
+-- level 0 is compacted: it has four files that are not small, or eleven of which none are gathered
 abbrev pub IsReady : Held → Type 0
 IsReady h = picker.IsReady h.slots.version (reserved_jobs h.live) h.options.target_size
 

@@ -87,6 +87,7 @@ impl<N: Boarded, S: Shelf> State<N, S> {
     }
 
     // The plan that goes before a choice which has to wait; none where there is none.
+    #[tactic(auto, using(crate::proofs::ReserveLaws::joined_before))]
     fn plan_before(&self, alloc: Global) -> Result<Option<Plan<N, S>>, StateFault>
         requires open { self.now.halted ≡ false }
         ensures before { S.honest → IfOk result (λ r.
