@@ -1,5 +1,5 @@
 -- A copy that is made step by step.
-use Rattle.std.proofs.Common.{◌≡◌, ℕ, List, ap, ◌∙◌, arith}
+use Rattle.std.proofs.Common.{◌≡◌, ℕ, List, ap, arith}
 use Rattle.lsm_shelf.specs.Told.{Told}
 use Rattle.lsm_manifest.specs.Shape.{Form}
 use Rattle.lsm_wal.specs.declared.write_batch.WriteBatch.{WriteBatch}

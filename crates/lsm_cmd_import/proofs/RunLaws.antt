@@ -1,10 +1,10 @@
 -- One run, from its steps.
-use Rattle.std.proofs.Common.{◌≡◌, ℕ, List, [], ◌∷◌, ap, subst, sym, ◌∙◌, inl, inr, refl}
+use Rattle.std.proofs.Common.{◌≡◌, ℕ, List, [], ◌∷◌, subst, sym, inl, inr, refl}
 use Rattle.lsm_folder.specs.Calls.{Call, opened}
 use Rattle.lsm_folder.specs.declared.folder_calls.FolderCalls.{Ghosts}
 use Rattle.lsm_shelf.specs.Place.{IsAtPath, Place}
 use Rattle.lsm_shelf.specs.Told.{Becomes, Told, finding}
-use Rattle.lsm_shelf.proofs.CallerLemmas.{becomes_same, becomes_then}
+use Rattle.lsm_shelf.proofs.CallerLemmas.{becomes_then}
 use Rattle.lsm_manifest.specs.Shape.{Form}
 use Rattle.lsm_directory.specs.Folders.{IsFolderAt}
 use Rattle.lsm_directory.specs.declared.folder.folder_file.FolderFile.{FolderFile}

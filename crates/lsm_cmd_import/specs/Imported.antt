@@ -116,16 +116,16 @@ module _ {C M : Type 0} (folders : Ghosts C M) where
   IsReadyTarget path target = (start : Start) × (logs : List FolderFile)
       × IsShelfAt folders path (IsPrepared plainly start logs) target × IsUntaken start logs
 
-  -- The lock of the folder at the first path was held, shared, and these files were found beside its
-  -- tables. The one at the second path is ready. A shelf is on each.
+  -- The lock of the folder at the first path was held, shared, and these files were found beside
+  -- its tables. The one at the second path is ready. A shelf is on each.
   pub record AreReady (line : ImportLine) (files : List FolderFile) (folder : C)
       (source target : FileShelf C M) : Type 0 where
     pub opened : IsFolderAt folders line.source.now (TellsBeside files) folder
     pub reading : told_by folders source ≡ fresh (folders.place folder)
     pub target_ready : IsReadyTarget line.target.now target
 
-  -- In the folder at this path there can be no copy: it was not opened, or not locked and looked at;
-  -- or it is taken.
+  -- In the folder at this path there can be no copy: it was not opened, or not locked and looked
+  -- at; or it is taken.
   abbrev pub IsNoTarget : List ℕ → CopyFault → Type 0
   IsNoTarget path fault =
       ((e : DirectoryFault) × (fault ≡ Target (Directory e)) × IsFolderFault e)

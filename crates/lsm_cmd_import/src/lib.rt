@@ -2,9 +2,9 @@
 //! commands may not read, in another folder.
 //!
 //! Stands on `lsm_import` for the copy, on `lsm_log_files` for the source's manifest and logs, on
-//! `lsm_verify` for the judgment, and on `lsm_directory` and `lsm_opening` for the two folders. Its contract: `run_import` makes a
-//! database that answers as the one that it read, with its logs; or says why not, and then the folder
-//! of the copy has none.
+//! `lsm_verify` for the judgment, and on `lsm_directory` and `lsm_opening` for the two folders. Its
+//! contract: `run_import` makes a database that answers as the one that it read, with its logs; or
+//! says why not, and then the folder of the copy has none.
 #![tactic(auto)]
 
 // Why there is no copy.

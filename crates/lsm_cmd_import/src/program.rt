@@ -24,7 +24,8 @@ use lsm_storage::FileShelf;
 use std::io::Write;
 use std::sync::Wait;
 
-/// Opens the folder that is copied. Its lock is held, shared, and these files are beside its tables.
+/// Opens the folder that is copied. Its lock is held, shared, and these files are beside its
+/// tables.
 fn open_source<C: FolderCalls, P: Paths<C>, R: Wait>(
     rt: &R,
     paths: &P,
@@ -82,8 +83,8 @@ fn open_target<C: FolderCalls, P: Paths<C>, R: Wait>(
     Ok(FileShelf::over(folder))
 }
 
-/// Opens both folders of a copy: the source's, whose lock it holds, the files beside its tables, and
-/// a shelf on each.
+/// Opens both folders of a copy: the source's, whose lock it holds, the files beside its tables,
+/// and a shelf on each.
 fn open_folders<C: FolderCalls, P: Paths<C>, R: Wait>(
     rt: &R,
     paths: &P,
@@ -132,18 +133,19 @@ where
     }
 }
 
-/// Copies the database in the folder at a path, with the logs that are not flushed, to the folder at
-/// another, writes `tables T logs L entries E rest B`, and answers the exit status: 0 where it is
-/// done, and 1 where it is refused. A fault is one line on `err`, and may have more behind it.
+/// Copies the database in the folder at a path, with the logs that are not flushed, to the folder
+/// at another, writes `tables T logs L entries E rest B`, and answers the exit status: 0 where it
+/// is done, and 1 where it is refused. A fault is one line on `err`, and may have more behind it.
 ///
 /// The tables become plain ones, under their numbers and at their levels; of each key that the logs
-/// write, the last write comes in as one table more, at level 0; the manifest comes last. The source
-/// is only read. A log that is damaged, or begins below the end of the one before, is refused.
+/// write, the last write comes in as one table more, at level 0; the manifest comes last. The
+/// source is only read. A log that is damaged, or begins below the end of the one before, is
+/// refused.
 ///
-/// `Locked` where another program has one of the folders open; the refusals of opening and looking at
-/// them; `IsThere` where the target has a database, and `UnflushedLog` where it has a log that
-/// LevelDB would read. After each refusal but `Write` the target has no database, but for one of the
-/// device while the manifest is begun: then it has this one or none.
+/// `Locked` where another program has one of the folders open; the refusals of opening and looking
+/// at them; `IsThere` where the target has a database, and `UnflushedLog` where it has a log that
+/// LevelDB would read. After each refusal but `Write` the target has no database, but for one of
+/// the device while the manifest is begun: then it has this one or none.
 pub fn run_import<C: FolderCalls + Send + Sync, P: Paths<C>, R: Wait, O: Write, E: Write>(
     rt: &R,
     paths: &P,

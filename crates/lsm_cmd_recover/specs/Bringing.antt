@@ -44,7 +44,8 @@ abbrev pub AreGiven : (ℕ → List ℕ → Type 0) → Levels → Type 0
 AreGiven Into version = All (All (λ t. Into t.number t.image)) version.tables
 
 -- The tables were read from the shelf: they are a version, sound over an honest shelf.
-pub record IsJudged (Into : ℕ → List ℕ → Type 0) (Honest : Type 0) (standing : Copied) : Type 0 where
+pub record IsJudged (Into : ℕ → List ℕ → Type 0) (Honest : Type 0) (standing : Copied)
+    : Type 0 where
   pub shape : Form
   pub replayed : IsReplayed (standing.edit ∷ []) shape
   pub version : Levels
@@ -69,9 +70,9 @@ pub record IsBroughtIn (Into : ℕ → List ℕ → Type 0) (Honest : Type 0) (b
   pub begun : IsBegun whole was is
 
 -- So it was with the database of the shape, whose tables stay as they were. The log number of the
--- manifest is above the logs among these files, and above each table that the shelf listed; it has no
--- previous log. So none of the files is a log to read from then on. At its last sequence the database
--- answers of each key what LevelDB reads of the tables with the logs.
+-- manifest is above the logs among these files, and above each table that the shelf listed; it has
+-- no previous log. So none of the files is a log to read from then on. At its last sequence the
+-- database answers of each key what LevelDB reads of the tables with the logs.
 pub record BringsIn (Into : ℕ → List ℕ → Type 0) (Honest : Type 0) (files : List FolderFile)
     (shape : Form) (batches : List WriteBatch) (count : ℕ) (was is : Told) : Type 0 where
   pub logs : List ℕ
@@ -125,20 +126,22 @@ IsUnbrought Into Denied Honest batches standing fault =
     IsUnfilled Into Denied Honest batches standing fault
     ⊎ ((whole : Copied) × HasLogs Into batches standing whole × IsUnbegun Denied whole fault)
 
--- A log would still be read by a manifest of this log number, and the first of them has this number:
--- no previous log is told by the number 0, so it is that of a `000000.log`, which LevelDB never makes.
+-- A log would still be read by a manifest of this log number, and the first of them has this
+-- number: no previous log is told by the number 0, so it is that of a `000000.log`, which LevelDB
+-- never makes.
 abbrev pub StaysUnread : List FolderFile → ℕ → BringFault → Type 0
 StaysUnread files log fault =
     (n : ℕ) × (fault ≡ Folder (UnflushedLog n)) × IsFirstUnread log 0 files n
 
--- No number is left above the logs and the tables; or one is, and a log would still be read, or what
--- follows.
+-- No number is left above the logs and the tables; or one is, and a log would still be read, or
+-- what follows.
 abbrev pub IsUnstanding : (ℕ → List ℕ → Type 0) → (Asked → ShelfFault → Type 0) → Type 0
     → List FolderFile → Form → List ℕ → List WriteBatch → BringFault → Type 0
 IsUnstanding Into Denied Honest files shape numbers batches fault =
     ((e : ImportFault) × (fault ≡ Bring e) × IsNotStanding shape numbers e)
     ⊎ ((standing : Copied) × IsStanding shape numbers standing
-    × (StaysUnread files standing.next fault ⊎ IsUnbrought Into Denied Honest batches standing fault))
+    × (StaysUnread files standing.next fault
+    ⊎ IsUnbrought Into Denied Honest batches standing fault))
 
 -- What keeps the writes out: the tables are not listed; or they are, and what follows. Memory may
 -- run out.

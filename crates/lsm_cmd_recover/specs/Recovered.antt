@@ -78,8 +78,8 @@ IsKeptOut Into Denied Honest files fault before later =
     × IsSource files shape batches count rest before.calls later.calls before.told mid
     × BringsNone Into Denied Honest files shape batches mid fault))
 
--- Why the writes did not come in. The shelf got a table at most, and no manifest of it was begun: the
--- database is as it was, and the logs are still to be read.
+-- Why the writes did not come in. The shelf got tables at most, and began no manifest: no call that
+-- it answered with Ok changed the database, and the logs are still to be read.
 pub record IsUnrecovered (Into : ℕ → List ℕ → Type 0) (Denied : Asked → ShelfFault → Type 0)
     (Honest : Type 0) (files : List FolderFile) (fault : BringFault) (before later : Moment)
     : Type 0 where
@@ -94,8 +94,8 @@ module _ {C M : Type 0} (folders : Ghosts C M) where
   abbrev pub moment : C → FileShelf C M → Moment
   moment folder shelf = moment_of (folders.calls folder) (told_by folders shelf)
 
-  -- The lock of the folder at this path was held alone, and these files of it may be logs. A shelf is
-  -- on it.
+  -- The lock of the folder at this path was held alone, and these files of it may be logs. A shelf
+  -- is on it.
   pub record IsReady (path : List ℕ) (files : List FolderFile) (folder : C) (shelf : FileShelf C M)
       : Type 0 where
     pub start : Start
@@ -142,8 +142,8 @@ module _ {C M : Type 0} (folders : Ghosts C M) (marks : mark.Ghosts M) where
         (AreHonest folders.calls) files fault (moment folders folder shelf)
         (moment folders left_folder left_shelf)
 
-  -- The folder was not opened, or the writes did not come in, and nothing was written on the output;
-  -- or they came in, and the line of it was not written.
+  -- The folder was not opened, or the writes did not come in, and nothing was written on the
+  -- output; or they came in, and the line of it was not written.
   abbrev pub FailsToRecover : List ℕ → BringFault → (old new : Option (List ℕ)) → Type 0
   FailsToRecover path fault old new =
       (Keeps old new × (IsUnready folders path fault ⊎ FailsAt path fault))

@@ -72,6 +72,10 @@ impl Exit for BringFault {
 
     fn explain<E: Write>(&self, err: &mut E, _writes: &[KeyWrite]) -> io::Result<()> {
         match self {
+            BringFault::Folder(WriterFault::UnflushedLog(number)) => writeln!(
+                err,
+                "each manifest reads {number:06}.log: lsm import DIR NEW copies what it holds too"
+            ),
             BringFault::Folder(fault) => fault.explain(err, &[]),
             BringFault::Read(fault) => fault.explain(err, &[]),
             BringFault::Tables(CheckFault::Read(_, fault)) => {

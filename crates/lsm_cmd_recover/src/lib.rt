@@ -2,9 +2,10 @@
 //! its database, in place.
 //!
 //! Stands on `lsm_log_files` for the manifest and the logs, on `lsm_verify` for the judgment of the
-//! tables, on `lsm_import` for the table of the logs and the new manifest, and on `lsm_directory` and
-//! `lsm_opening` for the folder. Its contract: behind `run_recover` the database answers as it did
-//! with its logs, and none of them is one to read; or it says why not, and no manifest was begun.
+//! tables, on `lsm_import` for the table of the logs and the new manifest, and on `lsm_directory`
+//! and `lsm_opening` for the folder. Its contract: behind `run_recover` the database answers as it
+//! did with its logs, and none of them is one to read; or it says why not, and no manifest was
+//! begun.
 #![tactic(auto)]
 
 // Why the writes do not come in.

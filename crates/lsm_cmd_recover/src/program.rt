@@ -74,9 +74,10 @@ where
 /// done, and 1 where it is refused. A fault is one line on `err`, and may have more behind it.
 ///
 /// Of each key that the logs write, the last write comes in as one table more, at level 0; then a
-/// new manifest names it and the tables that are there, and reads none of the logs. They stay in the
-/// folder. Where none is to be read, nothing is written. A log that is damaged, or begins below the
-/// end of the one before, is refused.
+/// new manifest names it and the tables that are there, and reads none of the logs. They stay in
+/// the folder. Where none is to be read, nothing is written; where each is empty, what a crash left
+/// of other manifests is removed first, as by each command that writes. A log that is damaged, or
+/// begins below the end of the one before, is refused.
 ///
 /// `Locked` where another program has the folder open; the refusals of opening and looking at it,
 /// and of its tables. After each refusal but `Write` the database is as it was, but for one of the

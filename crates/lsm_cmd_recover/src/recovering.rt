@@ -15,8 +15,8 @@ use std::alloc::Global;
 use std::marker::Brand;
 use std::sync::Wait;
 
-/// Brings the logs among these files in the folder into the database of a shelf on it. Where none is
-/// to be read, nothing is written.
+/// Brings the logs among these files in the folder into the database of a shelf on it. Where none
+/// is to be read, nothing is written.
 fn recover_named<C: FolderCalls, N: Naming, S: Shelf, R: Wait>(
     rt: &R,
     alloc: Global,

@@ -6,8 +6,8 @@ ghost use Rattle.lsm_cmd_recover.specs.Recovered.{brought_text};
 
 use std::io::{self, Write};
 
-/// What came in: the writes of how many logs; as how many entries; and how many bytes at the ends of
-/// the manifest and of the logs hold no whole record, and were not read.
+/// What came in: the writes of how many logs; as how many entries; and how many bytes at the ends
+/// of the manifest and of the logs hold no whole record, and were not read.
 #[derive(Clone, Copy, Debug)]
 pub struct Brought {
     pub logs: u64,

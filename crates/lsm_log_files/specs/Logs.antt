@@ -16,8 +16,8 @@ use Rattle.lsm_wal.specs.WriteLogs.{IsReadRefusal}
 use Rattle.lsm_wal.specs.declared.write_batch.WriteBatch.{WriteBatch}
 use Rattle.lsm_wal.specs.declared.write_log_fault.WriteLogFault.{WriteLogFault}
 use Rattle.lsm_log_files.specs.declared.source_fault.SourceFault.{SourceFault}
-use Rattle.lsm_log_files.specs.declared.source_fault.SourceFault.TheVariants.{OutOfMemory, UnreadLog}
-use Rattle.lsm_log_files.specs.declared.source_fault.SourceFault.TheVariants.{BadLog}
+use Rattle.lsm_log_files.specs.declared.source_fault.SourceFault.TheVariants.{OutOfMemory}
+use Rattle.lsm_log_files.specs.declared.source_fault.SourceFault.TheVariants.{UnreadLog, BadLog}
 
 -- the file is the log of this number, is not empty, and LevelDB reads it
 abbrev pub IsLogOf : (log prev : ℕ) → FolderFile → ℕ → Type 0

@@ -1,5 +1,4 @@
--- What is read of a database beside its tables (LevelDB's `doc/impl.md`,
--- "Recovery").
+-- What is read of a database beside its tables (LevelDB's `doc/impl.md`, "Recovery").
 use Rattle.std.specs.Prelude.{◌≡◌, ◌⊎◌, ℕ, ◌+◌, List, length}
 use Rattle.lsm_folder.specs.Calls.{Call}
 use Rattle.lsm_shelf.specs.Asked.{Asked}
@@ -31,8 +30,8 @@ abbrev pub ReadsManifest : Told → Told → Type 0
 ReadsManifest was is =
     Becomes was is ⊎ ((number : ℕ) × (bytes : List ℕ) × Becomes (finding number bytes was) is)
 
--- The manifest came to this shape. Of the files beside its tables the logs that LevelDB reads are so
--- many; these are their batches, and so many bytes at the ends hold no whole record.
+-- The manifest came to this shape. Of the files beside its tables the logs that LevelDB reads are
+-- so many; these are their batches, and so many bytes at the ends hold no whole record.
 pub record IsSource (files : List FolderFile) (shape : Form) (batches : List WriteBatch)
     (count rest : ℕ) (old new : List Call) (was is : Told) : Type 0 where
   pub torn : ℕ

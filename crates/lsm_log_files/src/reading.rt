@@ -7,8 +7,8 @@ ghost use Rattle.lsm_manifest.specs.WholeEdit.{FitsShape};
 ghost use Rattle.lsm_journal.specs.Recovering.{IsRecoverRefusal};
 ghost use Rattle.lsm_journal.specs.declared.recover_fault.RecoverFault.{RecoverFault};
 ghost use Rattle.lsm_opening.specs.Tidying.{OnlyReads};
-ghost use Rattle.lsm_log_files.specs.Logs.{AreLogs, AreRead, AreUnread, IsGiven, IsLogStop, IsUngiven};
-ghost use Rattle.lsm_log_files.specs.Logs.{ReadsNext};
+ghost use Rattle.lsm_log_files.specs.Logs.{AreLogs, AreRead, AreUnread, IsGiven, IsLogStop};
+ghost use Rattle.lsm_log_files.specs.Logs.{IsUngiven, ReadsNext};
 ghost use Rattle.lsm_log_files.specs.Source.{HasShape, IsNoSource, IsSource, ReadsManifest};
 ghost use Rattle.lsm_log_files.specs.declared.source_fault.SourceFault.TheVariants.{Manifest};
 
@@ -88,8 +88,8 @@ fn sum_of(rest: u64, more: u64) -> Result<u64, AllocError>
     }
 }
 
-/// Reads the log of a number behind those before, and answers how many bytes at the ends of all hold
-/// no whole record.
+/// Reads the log of a number behind those before, and answers how many bytes at the ends of all
+/// hold no whole record.
 fn read_next<C: FolderCalls, R: Wait>(
     rt: &R,
     alloc: Global,
@@ -155,9 +155,9 @@ fn read_shape<N: Naming, S: Shelf, R: Wait>(
     }
 }
 
-/// What is read of a database beside its tables: what its manifest comes to; the numbers of the logs
-/// that LevelDB reads, ascending; what these logs say; and how many bytes at the ends of the manifest
-/// and of the logs hold no whole record.
+/// What is read of a database beside its tables: what its manifest comes to; the numbers of the
+/// logs that LevelDB reads, ascending; what these logs say; and how many bytes at the ends of the
+/// manifest and of the logs hold no whole record.
 #[derive(Debug, Drop)]
 pub struct SourceRead {
     pub shape: Shape,
@@ -170,8 +170,8 @@ pub struct SourceRead {
 /// written.
 ///
 /// # Errors
-/// `Manifest`; then, log by log, `UnreadLog` where the folder does not give it, and `BadLog` where it
-/// is damaged, or begins below the end of the one before. `OutOfMemory` on the way.
+/// `Manifest`; then, log by log, `UnreadLog` where the folder does not give it, and `BadLog` where
+/// it is damaged, or begins below the end of the one before. `OutOfMemory` on the way.
 pub fn read_source<C: FolderCalls, N: Naming, S: Shelf, R: Wait>(
     rt: &R,
     alloc: Global,

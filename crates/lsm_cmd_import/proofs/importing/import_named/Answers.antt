@@ -1,4 +1,4 @@
-use Rattle.std.proofs.Common.{inl, inr, length, refl}
+use Rattle.std.proofs.Common.{◌∙◌, inl, inr, length, refl}
 use Rattle.std.proofs.lemmas.Result.{err_from_is_err_and}
 use Rattle.lsm_import.proofs.CallerLemmas.{puts_none}
 use Rattle.lsm_cmd_import.proofs.RunLaws.{reads_later, source_later}
@@ -30,3 +30,16 @@ returns-in_err-tables-clause-refused g c =
       puts = c.in_err-tables.ensures.none;
       left = record { folder = c.read_source.ensures.reads; shelf = reads_later _ _ _ c.read_source.ensures.left c.copy.ensures.read };
     })
+
+pub returns-clause-done : goal.returns-clause-done
+returns-clause-done g c =
+    let r = c.in_ok-shape.field-0 in
+    record {
+      shape = r.shape;
+      batches = r.logs;
+      source =
+          rw (c.len.ensures ∙ r.numbers.ok.0)
+          (source_later c.args.files.now r.shape r.logs (length r.numbers.items) r.rest _ _ _ _ _ c.in_ok-shape.ensures.read c.copy.ensures.read);
+      copy = c.in_ok-tables.ensures.made;
+      left = record { folder = c.read_source.ensures.reads; shelf = reads_later _ _ _ c.read_source.ensures.left c.copy.ensures.read };
+    }
