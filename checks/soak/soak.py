@@ -32,7 +32,7 @@ SLOW, LOADED, PAUSE = 500, 200000, 0.03
 # keys the first files that go down have one compaction.
 MOST = {
     "ascending": {1: 10, 10: 8, 1000: 8},
-    "descending": {1: 16, 10: 8, 1000: 8},
+    "descending": {1: 10, 10: 8, 1000: 8},
     "random": {1: 24, 10: 17, 1000: 14},
     "overwriting": {1: 24, 10: 17, 1000: 14},
     "streams": {1: 24, 10: 17, 1000: 14},
