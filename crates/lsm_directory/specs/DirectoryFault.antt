@@ -220,7 +220,7 @@ meaning_of (Read fault) = read_meaning fault
 meaning_of NumbersSpent = []
 meaning_of Locked = codes "another program has the folder open\n"
 meaning_of (UnflushedLog number) =
-    codes "the log is read by lsm import alone, which copies: lsm import DIR NEW\n"
+    codes "lsm recover DIR brings the log in; lsm import DIR NEW copies the folder with it\n"
 meaning_of (TornManifest rest) =
     codes "the manifest's cut end may name tables; --accept-rest, or no --strict, lets them go\n"
 meaning_of (LaterManifest number) =

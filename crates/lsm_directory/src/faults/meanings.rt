@@ -126,7 +126,7 @@ pub(crate) fn meaning_of(fault: &DirectoryFault) -> &'static str
         DirectoryFault::Read(fault) => of_read(*fault),
         DirectoryFault::Locked => "another program has the folder open\n",
         DirectoryFault::UnflushedLog(_) => {
-            "the log is read by lsm import alone, which copies: lsm import DIR NEW\n"
+            "lsm recover DIR brings the log in; lsm import DIR NEW copies the folder with it\n"
         }
         DirectoryFault::TornManifest(_) => {
             "the manifest's cut end may name tables; --accept-rest, or no --strict, lets them go\n"

@@ -168,7 +168,7 @@ impl Exit for WriterFault {
             WriterFault::LostCurrent(highest) => write_cure(err, *highest),
             WriterFault::UnflushedLog(number) => writeln!(
                 err,
-                "{number:06}.log is not flushed: lsm import DIR NEW copies the folder with what is in it; --beside-log goes on all the same"
+                "{number:06}.log is not flushed: lsm recover DIR brings it in, lsm import DIR NEW copies the folder with it; --beside-log goes on all the same"
             ),
             WriterFault::Directory(fault) => fault.explain(err, writes),
             WriterFault::State(fault) => explain_state(err, *fault, writes),
