@@ -105,8 +105,8 @@ pub record TellsLogs (files : List FolderFile) (old new : List Call) : Type 0 wh
   pub ascending : IsSorted (slice_cmp nat_cmp) ordered
   pub sizes : AsksSizes ordered files (listed (Ok names) ∷ old) new
 
--- What a command that only reads asks of a folder before its tables: it holds the lock, and then
--- looks for logs.
+-- What a command that reads the logs of a folder asks before its tables: it holds the lock, and
+-- then looks for logs.
 abbrev pub TellsBeside : List FolderFile → List Call → List Call → Type 0
 TellsBeside files old new = (mid : List Call) × IsHeld Shared old mid × TellsLogs files mid new
 

@@ -147,7 +147,7 @@ pub fn log_files<C: FolderCalls, R: Wait>(
     logs_among(rt, alloc, folder, names)
 }
 
-/// What a command that only reads asks of a folder before its tables: it holds the lock of the
+/// What a command that reads the logs of a folder asks before its tables: it holds the lock of the
 /// folder, shared, and looks for logs, as `log_files` does.
 ///
 /// The refusals of `hold`, and then those of `log_files`, as `Shelf`.

@@ -1,4 +1,5 @@
-//! What is told of what lies beside the tables: notes, or a refusal where nothing is to be left out.
+//! What is told of what lies beside the tables: notes; or a refusal, where nothing is to be left
+//! out.
 
 ghost use Rattle.std.specs.Prelude.{◌≡◌, ◌++◌, IfErr, IsTrue, OnOk};
 ghost use Rattle.lsm_storage.specs.FileNames.{manifest_name};
