@@ -28,6 +28,8 @@ number_of_directory directory.NumbersSpent = 46
 number_of_directory directory.Locked = 52
 number_of_directory (directory.UnflushedLog number) = 51
 number_of_directory (directory.TornManifest rest) = 61
+number_of_directory (directory.LaterManifest number) = 62
+number_of_directory directory.RocksDbFiles = 63
 number_of_directory directory.Absent = 1
 
 -- No file of writes is read here.
@@ -60,6 +62,8 @@ name_of_directory directory.NumbersSpent = codes "NumbersSpent"
 name_of_directory directory.Locked = codes "Locked"
 name_of_directory (directory.UnflushedLog number) = codes "UnflushedLog"
 name_of_directory (directory.TornManifest rest) = codes "TornManifest"
+name_of_directory (directory.LaterManifest number) = codes "LaterManifest"
+name_of_directory directory.RocksDbFiles = codes "RocksDbFiles"
 name_of_directory directory.Absent = codes "OutOfMemory"
 
 abbrev pub name_of_folder : WriterFault → List ℕ

@@ -35,6 +35,8 @@ fn of_directory(fault: &DirectoryFault) -> (u8, &'static str)
         DirectoryFault::Locked => (52, "Locked"),
         DirectoryFault::UnflushedLog(_) => (51, "UnflushedLog"),
         DirectoryFault::TornManifest(_) => (61, "TornManifest"),
+        DirectoryFault::LaterManifest(_) => (62, "LaterManifest"),
+        DirectoryFault::RocksDbFiles => (63, "RocksDbFiles"),
         DirectoryFault::OutOfMemory | DirectoryFault::Write | DirectoryFault::Absent => {
             (1, "OutOfMemory")
         }

@@ -8,7 +8,7 @@ use Rattle.lsm_folder.specs.declared.lock_kind.LockKind.TheVariants.{Exclusive}
 use Rattle.lsm_directory.specs.Holding.{IsHeld, IsUnheld}
 use Rattle.lsm_directory.specs.Looking.{IsLook, LooksStopped, OnlyLooks}
 use Rattle.lsm_directory.specs.declared.faults.directory_fault.DirectoryFault.{DirectoryFault}
-use Rattle.lsm_directory.specs.declared.faults.directory_fault.DirectoryFault.TheVariants.{OutOfMemory, Write, Shelf, Manifest, Tables, Read, NumbersSpent, Locked, UnflushedLog, TornManifest, Absent}
+use Rattle.lsm_directory.specs.declared.faults.directory_fault.DirectoryFault.TheVariants.{OutOfMemory, Write, Shelf, Manifest, Tables, Read, NumbersSpent, Locked, UnflushedLog, TornManifest, LaterManifest, RocksDbFiles, Absent}
 use Rattle.lsm_opening.specs.Preparing.{OnlyLocks}
 use Rattle.lsm_opening.specs.Tidying.{OnlyReads}
 
@@ -41,6 +41,8 @@ locks_alone (Read fault) old new is = absurd is
 locks_alone NumbersSpent old new is = absurd is
 locks_alone (UnflushedLog number) old new is = absurd is
 locks_alone (TornManifest rest) old new is = absurd is
+locks_alone (LaterManifest number) old new is = absurd is
+locks_alone RocksDbFiles old new is = absurd is
 locks_alone Absent old new is = absurd is
 
 pub locks_then : (old held new : List Call) → IsHeld Exclusive old held → OnlyReads held new → OnlyLocks old new
