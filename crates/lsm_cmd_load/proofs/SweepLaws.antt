@@ -30,7 +30,6 @@ still_idle was is looked rest idle =
     let live : is.live ≡ was.live = ap (λ (h : Held). h.live) rest in
     let options : is.options ≡ was.options = ap (λ (h : Held). h.options) rest in
     let version : is.slots.version ≡ was.slots.version = looked.version in (
-      rw (live, version) idle.0,
-      rw (live, version, options) idle.1,
-      none_ready was is version live options idle.2,
+      rw (live, version, options) idle.0,
+      (rw (live, version) idle.1.0, rw (live, version, options) idle.1.1, none_ready was is version live options idle.1.2),
     )
