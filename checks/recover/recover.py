@@ -194,7 +194,7 @@ def main():
     sources = [source for source in sources if any(path.stat().st_size > 0 for path in source[0].glob("*.log"))]
     refused, same, rest = damaged(sources)
     stopped = killed(sources)
-    print(f"{counted(len(kinds), 'kind')} of folders recovered: LevelDB and lsm read the same pairs; of {FLIPS} with"
+    print(f"{counted(len(kinds), 'kind')} of folders recovered: the same pairs by LevelDB and by lsm; of {FLIPS} with"
           f" damage {refused} refused, {same} the same, {rest} as LevelDB reads a cut log; of {KILLS} that were killed"
           f" {stopped} in time, nothing was lost (seed {SEED})")
 
