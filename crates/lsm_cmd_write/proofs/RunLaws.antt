@@ -42,8 +42,8 @@ module _ {C M : Type 0} (folders : Ghosts C M) where
   -- ---- what its database needs
 
   pub needs : {E : Type 0} (r : Result Kept E) (place : Place) (was : Told) (shelf : FileShelf C M) → was ≡ fresh place
-      → IfOk r (λ k. IsKept (AreHonest folders.calls) k.manifest k.rest k.tables.items was (told_by folders shelf)) → IfOk r (λ k. Needs folders place k.manifest k.rest k.tables.items)
-  needs (Ok k) place was shelf new kept = (shelf, subst (λ (t : Told). IsKept (AreHonest folders.calls) k.manifest k.rest k.tables.items t (told_by folders shelf)) new kept)
+      → IfOk r (λ k. IsKept (AreHonest folders.calls) k.journal k.rest k.tables.items was (told_by folders shelf)) → IfOk r (λ k. Needs folders place k.journal k.rest k.tables.items)
+  needs (Ok k) place was shelf new kept = (shelf, subst (λ (t : Told). IsKept (AreHonest folders.calls) k.journal k.rest k.tables.items t (told_by folders shelf)) new kept)
   needs (Err e) place was shelf new kept = tt
 
 module _ {C M : Type 0} (folders : Ghosts C M) (marks : mark.Ghosts M) where

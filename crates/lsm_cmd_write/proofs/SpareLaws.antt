@@ -7,6 +7,7 @@ use Rattle.std.proofs.lemmas.Grind.{flat_map-append}
 use Rattle.std.proofs.lemmas.List.{drop_more, map-append, map_push, reverse-append}
 use Rattle.lsm_folder.specs.Calls.{Call, removed}
 use Rattle.lsm_directory.specs.Logs.{AreThose}
+use Rattle.lsm_journal.specs.HeldManifest.{HeldManifest}
 use Rattle.lsm_cmd_write.specs.Cleaning.{AreRemoved, IsSpare, Removes, lines, removals}
 
 those_append : {X : Type 0} (P : X → Type 0) (xs ys zs : List X) (x : X) → AreThose P xs ys → AreThose P (x ∷ []) zs → AreThose P (xs ++ x ∷ []) (ys ++ zs)
@@ -23,11 +24,11 @@ lines_more : (names : List (List ℕ)) (name : List ℕ) → lines (names ++ nam
 lines_more names name =
     flat_map-append (λ (n : List ℕ). n ++ 10 ∷ []) names (name ∷ []) ∙ ap (λ (t : List ℕ). lines names ++ t) (append-nil (name ++ 10 ∷ []))
 
-pub removed_none : (manifest : ℕ) (tables : List ℕ) (old : List Call) (before : Option (List ℕ)) → AreRemoved manifest tables [] old old before before
+pub removed_none : (manifest : HeldManifest) (tables : List ℕ) (old : List Call) (before : Option (List ℕ)) → AreRemoved manifest tables [] old old before before
 removed_none manifest tables old before = record { spares = []; those = refl; calls = refl; printed = Appends-nil before }
 
 -- one name more
-pub removed_more : (manifest : ℕ) (tables : List ℕ) (front : List (List ℕ)) (name : List ℕ) (old mid new : List Call) (before between after : Option (List ℕ))
+pub removed_more : (manifest : HeldManifest) (tables : List ℕ) (front : List (List ℕ)) (name : List ℕ) (old mid new : List Call) (before between after : Option (List ℕ))
     → AreRemoved manifest tables front old mid before between → Removes manifest tables name mid new between after
     → AreRemoved manifest tables (front ++ name ∷ []) old new before after
 removed_more manifest tables front name old mid new before between after r (inl (spare, call, line)) = record {

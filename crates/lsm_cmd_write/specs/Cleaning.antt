@@ -27,13 +27,16 @@ use Rattle.lsm_journal.specs.declared.open_fault.OpenFault.{OpenFault}
 use Rattle.lsm_directory.specs.FileNames.{IsFileName}
 use Rattle.lsm_directory.specs.Folders.{stored_at, told_by}
 use Rattle.lsm_directory.specs.Holding.{IsHeld, IsUnheld}
-use Rattle.lsm_directory.specs.Logs.{AreThose}
+use Rattle.lsm_directory.specs.Logs.{AreThose, IsReached}
 use Rattle.lsm_directory.specs.Looking.{LooksStopped}
 use Rattle.lsm_requests.specs.declared.clean_options.CleanOptions.{CleanOptions}
 use Rattle.lsm_directory.specs.declared.faults.directory_fault.DirectoryFault.{DirectoryFault}
 use Rattle.lsm_directory.specs.declared.faults.directory_fault.DirectoryFault.TheVariants.{TornManifest}
-use Rattle.lsm_directory.specs.declared.folder.file_kind.FileKind.TheVariants.{Table, Manifest}
-use Rattle.lsm_directory.specs.declared.folder.file_kind.FileKind.TheVariants.{Temporary}
+use Rattle.lsm_directory.specs.declared.folder.file_kind.FileKind.{FileKind}
+use Rattle.lsm_directory.specs.declared.folder.file_kind.FileKind.TheVariants.{Table, OldTable}
+use Rattle.lsm_directory.specs.declared.folder.file_kind.FileKind.TheVariants.{Manifest, Temporary}
+use Rattle.lsm_directory.specs.declared.folder.file_kind.FileKind.TheVariants.{Log, Current, Lock}
+use Rattle.lsm_directory.specs.declared.folder.file_kind.FileKind.TheVariants.{Other}
 use Rattle.lsm_opening.specs.WriterFault.{of_open, of_shelf}
 use Rattle.lsm_opening.specs.declared.faults.writer_fault.WriterFault.{WriterFault}
 use Rattle.lsm_opening.specs.declared.faults.writer_fault.WriterFault.TheVariants.{OutOfMemory}
@@ -42,15 +45,13 @@ use Rattle.lsm_opening.specs.declared.faults.writer_fault.WriterFault.TheVariant
 
 -- ---- what a database needs
 
--- A database was found, whose manifest has this number, and so many bytes at its end that hold no
--- whole record, and whose version has just these tables.
-pub record IsKept (Honest : Type 0) (manifest rest : ℕ) (tables : List ℕ) (was is : Told)
-    : Type 0 where
-  pub held : HeldManifest
+-- A database was found, whose manifest is this one, with its log numbers and so many bytes at its
+-- end that hold no whole record, and whose version has just these tables.
+pub record IsKept (Honest : Type 0) (manifest : HeldManifest) (rest : ℕ) (tables : List ℕ)
+    (was is : Told) : Type 0 where
   pub version : Levels
   pub next : ℕ
-  pub found : IsFound Honest (2 ^ 64 - 1) held version rest next was is
-  pub its : manifest ≡ held.number
+  pub found : IsFound Honest (2 ^ 64 - 1) manifest version rest next was is
   pub all : (n : ℕ) → Has tables n ↔ Has (numbers_in version) n
 
 -- memory ran out, or there was none to be found
@@ -70,12 +71,23 @@ abbrev pub IsTorn : CleanOptions → ℕ → WriterFault → Type 0
 IsTorn options rest e =
     (0 < rest) × IsFalse options.accepts_rest × (e ≡ Directory (TornManifest rest))
 
--- The name is of another manifest, of a temporary file, or of a table that is none of these.
-abbrev pub IsSpare : ℕ → List ℕ → List ℕ → Type 0
+-- A database of this manifest and these tables does not need a file of this kind: it is another
+-- manifest, another table, a temporary file, or a log that LevelDB does not read, since its number
+-- is below the manifest's log number and is not the previous log's.
+abbrev pub IsUnneeded : HeldManifest → List ℕ → FileKind → Type 0
+IsUnneeded manifest tables (Manifest n) = n ≢ manifest.number
+IsUnneeded manifest tables (Table n) = Has tables n → ⊥
+IsUnneeded manifest tables (Temporary n) = Unit {0}
+IsUnneeded manifest tables (Log n) = IsReached manifest.log manifest.prev_log n → ⊥
+IsUnneeded manifest tables (OldTable n) = ⊥
+IsUnneeded manifest tables Current = ⊥
+IsUnneeded manifest tables Lock = ⊥
+IsUnneeded manifest tables Other = ⊥
+
+-- the name is of a file that it does not need
+abbrev pub IsSpare : HeldManifest → List ℕ → List ℕ → Type 0
 IsSpare manifest tables name =
-    ((n : ℕ) × IsFileName name (Manifest n) × (n ≢ manifest))
-    ⊎ (((n : ℕ) × IsFileName name (Temporary n))
-    ⊎ ((n : ℕ) × IsFileName name (Table n) × (Has tables n → ⊥)))
+    (kind : FileKind) × IsFileName name kind × IsUnneeded manifest tables kind
 
 -- ---- removals
 
@@ -88,8 +100,8 @@ abbrev pub lines : List (List ℕ) → List ℕ
 lines names = flat_map (λ name. name ++ 10 ∷ []) names
 
 -- Of these names just the spare ones were removed and printed, in their order.
-pub record AreRemoved (manifest : ℕ) (tables : List ℕ) (names : List (List ℕ)) (old new : List Call)
-    (before after : Option (List ℕ)) : Type 0 where
+pub record AreRemoved (manifest : HeldManifest) (tables : List ℕ) (names : List (List ℕ))
+    (old new : List Call) (before after : Option (List ℕ)) : Type 0 where
   pub spares : List (List ℕ)
   pub those : AreThose (IsSpare manifest tables) names spares
   pub calls : new ≡ removals spares old
@@ -106,16 +118,16 @@ IsUnremoved name e old new before after =
 
 -- The file of this name was removed and printed if it is a spare one, and else nothing was asked
 -- for.
-abbrev pub Removes : ℕ → List ℕ → List ℕ → List Call → List Call → Option (List ℕ) → Option (List ℕ)
-    → Type 0
+abbrev pub Removes : HeldManifest → List ℕ → List ℕ → List Call → List Call → Option (List ℕ)
+    → Option (List ℕ) → Type 0
 Removes manifest tables name old new before after =
     (IsSpare manifest tables name × (new ≡ removed name (Ok tt) ∷ old)
     × Appends before after (name ++ 10 ∷ []))
     ⊎ ((IsSpare manifest tables name → ⊥) × (new ≡ old) × (after ≡ before))
 
 -- Just the spare ones before this one were removed and printed.
-pub record StopsRemoving (manifest : ℕ) (tables : List ℕ) (names : List (List ℕ)) (e : WriterFault)
-    (old new : List Call) (before after : Option (List ℕ)) : Type 0 where
+pub record StopsRemoving (manifest : HeldManifest) (tables : List ℕ) (names : List (List ℕ))
+    (e : WriterFault) (old new : List Call) (before after : Option (List ℕ)) : Type 0 where
   pub front : List (List ℕ)
   pub name : List ℕ
   pub back : List (List ℕ)
@@ -128,7 +140,7 @@ pub record StopsRemoving (manifest : ℕ) (tables : List ℕ) (names : List (Lis
 
 -- The folder told its names, and just the spare ones were removed and printed, in the order of
 -- names.
-pub record IsTidied (manifest : ℕ) (tables : List ℕ) (old new : List Call)
+pub record IsTidied (manifest : HeldManifest) (tables : List ℕ) (old new : List Call)
     (before after : Option (List ℕ)) : Type 0 where
   pub names : List (List ℕ)
   pub ordered : List (List ℕ)
@@ -137,8 +149,8 @@ pub record IsTidied (manifest : ℕ) (tables : List ℕ) (old new : List Call)
   pub removed : AreRemoved manifest tables ordered (listed (Ok names) ∷ old) new before after
 
 -- The folder told its names, and a removal or a line of one stopped it.
-pub record IsHalfTidied (manifest : ℕ) (tables : List ℕ) (e : WriterFault) (old new : List Call)
-    (before after : Option (List ℕ)) : Type 0 where
+pub record IsHalfTidied (manifest : HeldManifest) (tables : List ℕ) (e : WriterFault)
+    (old new : List Call) (before after : Option (List ℕ)) : Type 0 where
   pub names : List (List ℕ)
   pub ordered : List (List ℕ)
   pub same : IsPermutation names ordered
@@ -147,8 +159,8 @@ pub record IsHalfTidied (manifest : ℕ) (tables : List ℕ) (e : WriterFault) (
 
 -- Why it is not tidied: a look was refused; a removal or a line; or all was done, and the lines
 -- were not written out.
-abbrev pub IsUntidied : ℕ → List ℕ → WriterFault → List Call → List Call → Option (List ℕ)
-    → Option (List ℕ) → Type 0
+abbrev pub IsUntidied : HeldManifest → List ℕ → WriterFault → List Call → List Call
+    → Option (List ℕ) → Option (List ℕ) → Type 0
 IsUntidied manifest tables e old new before after =
     ((fault : ShelfFault) × (e ≡ of_shelf fault) × LooksStopped fault old new × Keeps before after)
     ⊎ (IsHalfTidied manifest tables e old new before after
@@ -158,32 +170,32 @@ IsUntidied manifest tables e old new before after =
 
 -- The manifest of this number was synced, and then the folder's names.
 abbrev pub IsDurable : ℕ → List Call → List Call → Type 0
-IsDurable manifest old new = new
-    ≡ folder_synced (Ok tt) ∷ synced (manifest_name manifest) (Ok tt) ∷ old
+IsDurable number old new = new
+    ≡ folder_synced (Ok tt) ∷ synced (manifest_name number) (Ok tt) ∷ old
 
 -- Memory ran out before either was asked for; or the folder refused the one or the other.
 abbrev pub IsUndurable : ℕ → WriterFault → List Call → List Call → Type 0
-IsUndurable manifest e old new =
+IsUndurable number e old new =
     ((e ≡ OutOfMemory) × (new ≡ old))
     ⊎ ((fault : FolderFault)
     × (e ≡ of_shelf (device_of fault))
-    × ((new ≡ synced (manifest_name manifest) (Err fault) ∷ old)
-    ⊎ (new ≡ folder_synced (Err fault) ∷ synced (manifest_name manifest) (Ok tt) ∷ old)))
+    × ((new ≡ synced (manifest_name number) (Err fault) ∷ old)
+    ⊎ (new ≡ folder_synced (Err fault) ∷ synced (manifest_name number) (Ok tt) ∷ old)))
 
 -- The manifest and the folder's names were made durable, and then just the spare files were
 -- removed.
-abbrev pub IsCleared : ℕ → List ℕ → List Call → List Call → Option (List ℕ) → Option (List ℕ)
-    → Type 0
+abbrev pub IsCleared : HeldManifest → List ℕ → List Call → List Call → Option (List ℕ)
+    → Option (List ℕ) → Type 0
 IsCleared manifest tables old new before after =
-    (durable : List Call) × IsDurable manifest old durable
+    (durable : List Call) × IsDurable manifest.number old durable
     × IsTidied manifest tables durable new before after
 
 -- They were not made durable, and no file was removed; or it was not tidied behind that.
-abbrev pub IsUncleared : ℕ → List ℕ → WriterFault → List Call → List Call → Option (List ℕ)
-    → Option (List ℕ) → Type 0
+abbrev pub IsUncleared : HeldManifest → List ℕ → WriterFault → List Call → List Call
+    → Option (List ℕ) → Option (List ℕ) → Type 0
 IsUncleared manifest tables e old new before after =
-    (IsUndurable manifest e old new × Keeps before after)
-    ⊎ ((durable : List Call) × IsDurable manifest old durable
+    (IsUndurable manifest.number e old new × Keeps before after)
+    ⊎ ((durable : List Call) × IsDurable manifest.number old durable
     × IsUntidied manifest tables e durable new before after)
 
 -- ---- a clean
@@ -191,7 +203,7 @@ IsUncleared manifest tables e old new before after =
 module _ {C M : Type 0} (folders : Ghosts C M) where
   -- On a shelf of the folder of this place a database was found, which needs this manifest and
   -- these tables; so many bytes at the manifest's end hold no whole record.
-  abbrev pub Needs : Place → (manifest rest : ℕ) → (tables : List ℕ) → Type 0
+  abbrev pub Needs : Place → (manifest : HeldManifest) → (rest : ℕ) → (tables : List ℕ) → Type 0
   Needs place manifest rest tables = (shelf : FileShelf C M)
       × IsKept (AreHonest folders.calls) manifest rest tables (fresh place) (told_by folders shelf)
 
@@ -200,7 +212,7 @@ module _ {C M : Type 0} (folders : Ghosts C M) where
   abbrev pub AreSparesGone : CleanOptions → Place → List Call → List Call → Option (List ℕ)
       → Option (List ℕ) → Type 0
   AreSparesGone options place old new before after =
-      (manifest : ℕ) × (rest : ℕ) × (tables : List ℕ) × Needs place manifest rest tables
+      (manifest : HeldManifest) × (rest : ℕ) × (tables : List ℕ) × Needs place manifest rest tables
       × IsAccepted options rest × IsCleared manifest tables old new before after
 
   -- The lock was held, and then this was done.
@@ -219,8 +231,9 @@ module _ {C M : Type 0} (folders : Ghosts C M) (marks : mark.Ghosts M) where
 
   -- What a database was found for that needs these: its manifest's end is not accepted, and nothing
   -- was asked for; or it is, and what the database does not need was not removed.
-  abbrev pub StopsClearing : CleanOptions → (manifest rest : ℕ) → (tables : List ℕ) → WriterFault
-      → List Call → List Call → Option (List ℕ) → Option (List ℕ) → Type 0
+  abbrev pub StopsClearing : CleanOptions → (manifest : HeldManifest) → (rest : ℕ)
+      → (tables : List ℕ) → WriterFault → List Call → List Call → Option (List ℕ)
+      → Option (List ℕ) → Type 0
   StopsClearing options manifest rest tables e old new before after =
       (IsTorn options rest e × (new ≡ old) × Keeps before after)
       ⊎ (IsAccepted options rest × IsUncleared manifest tables e old new before after)
@@ -231,7 +244,7 @@ module _ {C M : Type 0} (folders : Ghosts C M) (marks : mark.Ghosts M) where
       → Option (List ℕ) → Option (List ℕ) → Type 0
   StopsCleaning options place e old new before after =
       (HasNone place e × (new ≡ old) × Keeps before after)
-      ⊎ ((manifest : ℕ) × (rest : ℕ) × (tables : List ℕ)
+      ⊎ ((manifest : HeldManifest) × (rest : ℕ) × (tables : List ℕ)
       × Needs folders place manifest rest tables
       × StopsClearing options manifest rest tables e old new before after)
 

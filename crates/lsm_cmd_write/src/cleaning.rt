@@ -80,9 +80,9 @@ fn remove_spare<C: FolderCalls, R: Wait, O: Write>(
     name: &str,
     out: &mut O,
 ) -> Result<(), WriterFault>
-    ensures removed { OnOk result (Removes kept.now.manifest kept.now.tables.items name.now
+    ensures removed { OnOk result (Removes kept.now.journal kept.now.tables.items name.now
         (C.calls folder.old) (C.calls folder.new) (O.contents out.old) (O.contents out.new)) }
-    ensures spare { IfErr result (λ _. IsSpare kept.now.manifest kept.now.tables.items name.now) }
+    ensures spare { IfErr result (λ _. IsSpare kept.now.journal kept.now.tables.items name.now) }
     ensures refused { IfErr result (λ e. IsUnremoved name.now e (C.calls folder.old)
         (C.calls folder.new) (O.contents out.old) (O.contents out.new)) }
     ensures place { C.place folder.new ≡ C.place folder.old }
@@ -106,10 +106,10 @@ fn remove_spares<C: FolderCalls, R: Wait, O: Write>(
     out: &mut O,
 ) -> Result<(), WriterFault>
     ensures removed { OnOk result
-        (AreRemoved kept.now.manifest kept.now.tables.items (map string_bytes names.now)
+        (AreRemoved kept.now.journal kept.now.tables.items (map string_bytes names.now)
         (C.calls folder.old) (C.calls folder.new) (O.contents out.old) (O.contents out.new)) }
     ensures refused { IfErr result (λ e.
-        StopsRemoving kept.now.manifest kept.now.tables.items (map string_bytes names.now) e
+        StopsRemoving kept.now.journal kept.now.tables.items (map string_bytes names.now) e
         (C.calls folder.old) (C.calls folder.new) (O.contents out.old) (O.contents out.new)) }
     ensures place { C.place folder.new ≡ C.place folder.old }
 {
@@ -128,9 +128,9 @@ fn tidy<C: FolderCalls, R: Wait, O: Write>(
     kept: &Kept,
     out: &mut O,
 ) -> Result<(), WriterFault>
-    ensures tidied { OnOk result (IsTidied kept.now.manifest kept.now.tables.items
+    ensures tidied { OnOk result (IsTidied kept.now.journal kept.now.tables.items
         (C.calls folder.old) (C.calls folder.new) (O.contents out.old) (O.contents out.new)) }
-    ensures refused { IfErr result (λ e. IsUntidied kept.now.manifest kept.now.tables.items e
+    ensures refused { IfErr result (λ e. IsUntidied kept.now.journal kept.now.tables.items e
         (C.calls folder.old) (C.calls folder.new) (O.contents out.old) (O.contents out.new)) }
     ensures place { C.place folder.new ≡ C.place folder.old }
 {
@@ -150,13 +150,13 @@ fn clear<C: FolderCalls, R: Wait, O: Write>(
     kept: &Kept,
     out: &mut O,
 ) -> Result<(), WriterFault>
-    ensures cleared { OnOk result (IsCleared kept.now.manifest kept.now.tables.items
+    ensures cleared { OnOk result (IsCleared kept.now.journal kept.now.tables.items
         (C.calls folder.old) (C.calls folder.new) (O.contents out.old) (O.contents out.new)) }
-    ensures refused { IfErr result (λ e. IsUncleared kept.now.manifest kept.now.tables.items e
+    ensures refused { IfErr result (λ e. IsUncleared kept.now.journal kept.now.tables.items e
         (C.calls folder.old) (C.calls folder.new) (O.contents out.old) (O.contents out.new)) }
     ensures place { C.place folder.new ≡ C.place folder.old }
 {
-    make_durable(rt, alloc, folder, kept.manifest)?;
+    make_durable(rt, alloc, folder, kept.journal.number())?;
     tidy(rt, alloc, folder, kept, out)
 }
 

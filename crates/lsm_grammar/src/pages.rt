@@ -48,10 +48,10 @@ share it where it is there. Where another program holds it, also a LevelDB, it i
 the system has the file /proc/locks; it does not notice `lsm`: do not open DIR
 while `lsm` writes there.
 
-No command reads a write-ahead log (`N.log`). Of each one that LevelDB has not
-flushed, `list`, `get` and `scan` say on standard error how many bytes are not
-read, and `check` prints a line. `ingest`, `put`, `delete`, `load` and `shell`
-are `refused 51 UnflushedLog N` beside it.
+No command but `import` and `recover` reads a write-ahead log (`N.log`). Of each
+one that LevelDB has not flushed, `list`, `get` and `scan` say on standard error
+how many bytes are not read, and `check` prints a line. `ingest`, `put`,
+`delete`, `load` and `shell` are `refused 51 UnflushedLog N` beside it.
 
 Where DIR has a later manifest than the one that CURRENT names, or files of
 RocksDB, `check`, `list`, `get` and `scan` say so on standard error; with
@@ -512,8 +512,8 @@ hold no whole record, as a kill may leave them. Those bytes are left out.
 
 Of each key in the logs the last write comes in, as one table more at level 0;
 then a new manifest names it and the tables that are there, and reads none of
-the logs. They stay in the folder until LevelDB opens it. Where no log is to be
-read, nothing is written, and L is 0.
+the logs. They stay in the folder until `lsm clean`, or until LevelDB opens it.
+Where no log is to be read, nothing is written, and L is 0.
 
 The tables are read and checked before. A table or a log that is damaged is
 refused, and named. Compressed tables are `refused 16 Compressed`: `lsm import`
@@ -576,12 +576,14 @@ const CLEAN: Page = Page {
     about: "Removes old files that a folder does not need",
     text: "Removes the files of the LevelDB folder DIR that no reader of it needs: the
 manifests (`MANIFEST-N`) that CURRENT does not name, what a stopped program left
-(`N.dbtmp`), and the tables (`N.ldb`) that the database does not list. Prints
-the name of each file that was removed, a line each, ascending.
+(`N.dbtmp`), the tables (`N.ldb`) that the database does not list, and the
+write-ahead logs (`N.log`) that LevelDB would not read. Prints the name of each
+file that was removed, a line each, ascending.
 
-DIR is read first: where that is refused nothing is removed. Logs (`N.log`),
-`N.sst` and all other files stay. A removal that is refused ends it with
-`refused 9 Device`. Another program that has DIR open is `refused 52 Locked`.
+DIR is read first: where that is refused nothing is removed. Logs that are not
+flushed, `N.sst` and all other files stay. A removal that is refused ends it
+with `refused 9 Device`. Another program that has DIR open is `refused 52
+Locked`.
 
 Where the last B bytes of the manifest are no whole record, it is `refused 61
 TornManifest B`, and nothing is removed: was the manifest cut behind a change

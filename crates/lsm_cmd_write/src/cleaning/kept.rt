@@ -3,12 +3,15 @@
 ghost use Rattle.std.specs.Prelude.{◌≡◌, ◌↔◌, ℕ, IfErr, IfOk, MatchBool};
 ghost use Rattle.std.specs.List.Sorted.{IsStrictlyIncreasing};
 ghost use Rattle.lsm_codec.specs.Lists.{Has};
-ghost use Rattle.lsm_cmd_write.specs.Cleaning.{HasNone, IsKept, IsSpare, IsUnkept, Needs};
+ghost use Rattle.lsm_cmd_write.specs.Cleaning.{HasNone, IsKept, IsSpare, IsUnkept, IsUnneeded};
+ghost use Rattle.lsm_cmd_write.specs.Cleaning.{Needs};
+ghost use Rattle.lsm_directory.specs.Logs.{IsReached};
 ghost use Rattle.lsm_shelf.specs.Stored.{Stored};
 
+use lsm_directory::FileKind;
 use lsm_folder::FolderCalls;
-use lsm_journal::Found;
-use lsm_opening::{WriterFault, is_temporary, manifest_in, table_in};
+use lsm_journal::{Found, Journal};
+use lsm_opening::WriterFault;
 use lsm_storage::FileShelf;
 use lsm_table::{NamedShelf, Naming, Records, Registry, Shelf};
 use std::alloc::{AllocError, Global};
@@ -33,30 +36,48 @@ fn is_among(numbers: &[u64], number: u64) -> bool
     numbers.binary_search(&number).is_ok()
 }
 
-/// The number of the manifest that `CURRENT` names, how many bytes at its end hold no whole record,
-/// and the numbers of its version's tables, ascending.
+/// The manifest that `CURRENT` names, how many bytes at its end hold no whole record, and the
+/// numbers of its version's tables, ascending.
 #[derive(Debug, Drop)]
 pub(crate) struct Kept {
-    pub(crate) manifest: u64,
+    pub(crate) journal: Journal,
     pub(crate) rest: u64,
     pub(crate) tables: Vec<u64>,
     ghost ascending: { IsStrictlyIncreasing tables.items },
 }
 
 impl Kept {
-    /// Whether no version needs the file of this name: it is another manifest, a table that the
-    /// version does not have, or a temporary file.
-    pub(crate) fn spares(&self, name: &str) -> bool
-        ensures { MatchBool result (IsSpare self.now.manifest self.now.tables.items name.now)
-            (IsSpare self.now.manifest self.now.tables.items name.now → ⊥) }
+    /// Whether LevelDB reads the log of this number when it opens the folder: the manifest's log
+    /// number is not above it, or it is the previous log's.
+    fn reads(&self, number: u64) -> bool
+        ensures { MatchBool result
+            (IsReached self.now.journal.log self.now.journal.prev_log number)
+            (IsReached self.now.journal.log self.now.journal.prev_log number → ⊥) }
     {
-        if let Some(number) = manifest_in(name) {
-            return number != self.manifest;
+        self.journal.log() <= number || number == self.journal.prev_log()
+    }
+
+    /// Whether the database does not need a file of this kind: it is another manifest, a table that
+    /// the version does not have, a temporary file, or a log that LevelDB does not read.
+    fn spares_kind(&self, kind: FileKind) -> bool
+        ensures { MatchBool result (IsUnneeded self.now.journal self.now.tables.items kind)
+            (IsUnneeded self.now.journal self.now.tables.items kind → ⊥) }
+    {
+        match kind {
+            FileKind::Manifest(number) => number != self.journal.number(),
+            FileKind::Table(number) => !is_among(&self.tables, number),
+            FileKind::Temporary(_) => true,
+            FileKind::Log(number) => !self.reads(number),
+            FileKind::OldTable(_) | FileKind::Current | FileKind::Lock | FileKind::Other => false,
         }
-        if let Some(number) = table_in(name) {
-            return !is_among(&self.tables, number);
-        }
-        is_temporary(name)
+    }
+
+    /// Whether the database does not need the file of this name.
+    pub(crate) fn spares(&self, name: &str) -> bool
+        ensures { MatchBool result (IsSpare self.now.journal self.now.tables.items name.now)
+            (IsSpare self.now.journal self.now.tables.items name.now → ⊥) }
+    {
+        self.spares_kind(FileKind::of(name))
     }
 }
 
@@ -69,7 +90,7 @@ fn find_kept<N: Naming, S: Shelf, R: Wait>(
 ) -> Result<Kept, WriterFault>
     requires named { records ≡ N.registry }
     ensures kept { IfOk result (λ k.
-        IsKept S.honest k.manifest k.rest k.tables.items shelf.old shelf.new) }
+        IsKept S.honest k.journal k.rest k.tables.items shelf.old shelf.new) }
     ensures refused { IfErr result (λ e.
         IsUnkept (Stored S.Receipt (S.is_of N.place) S.Receipt.number S.Receipt.image)
         (S.refuses N.place) S.honest e shelf.old shelf.new) }
@@ -81,7 +102,7 @@ fn find_kept<N: Naming, S: Shelf, R: Wait>(
     found.version.push_numbers(&mut numbers)?;
     let tables = ascending(numbers)?;
     Ok(Kept {
-        manifest: found.journal.number(),
+        journal: found.journal,
         rest: found.rest,
         tables,
     })
@@ -97,7 +118,7 @@ fn find_kept_as<N: Naming, S: Shelf, R: Wait>(
     requires records { records ≡ N.registry }
     requires shelf { (S.told shelf).place ≡ N.place }
     ensures kept { IfOk result.0 (λ k.
-        IsKept S.honest k.manifest k.rest k.tables.items (S.told shelf) (S.told result.1)) }
+        IsKept S.honest k.journal k.rest k.tables.items (S.told shelf) (S.told result.1)) }
     ensures refused { IfErr result.0 (λ e.
         IsUnkept (Stored S.Receipt (S.is_of N.place) S.Receipt.number S.Receipt.image)
         (S.refuses N.place) S.honest e (S.told shelf) (S.told result.1)) }
@@ -116,7 +137,7 @@ pub(crate) fn kept_in<C: FolderCalls + Send + Sync, R: Wait>(
 where
     C::Mark: Send + Sync,
     ensures kept { IfOk result (λ k.
-        Needs C.FolderCalls (C.place folder.now) k.manifest k.rest k.tables.items) }
+        Needs C.FolderCalls (C.place folder.now) k.journal k.rest k.tables.items) }
     ensures refused { IfErr result (λ e.
         HasNone C.FolderCalls C.Mark.Mark (C.place folder.now) e) }
 {

@@ -15,10 +15,11 @@ use std::alloc::Global;
 use std::io::Write;
 use std::sync::Wait;
 
-/// Takes the lock of a folder, opens its database to read, removes the files that no version needs
-/// any more, and answers the exit status: manifests other than the one that `CURRENT` names,
-/// temporary files, and tables that the version does not have. The name of each is written as a
-/// line, in the order of names. A fault is one line on `err`, and may have more behind it.
+/// Takes the lock of a folder, opens its database to read, removes the files that it does not need,
+/// and answers the exit status: manifests other than the one that `CURRENT` names, temporary files,
+/// tables that the version does not have, and logs that LevelDB does not read when it opens the
+/// folder. The name of each is written as a line, in the order of names. A fault is one line on
+/// `err`, and may have more behind it.
 ///
 /// `Locked` where another program has the folder open; the refusals of opening it, and
 /// `TornManifest` where the manifest ends with bytes that hold no whole record, unless that is

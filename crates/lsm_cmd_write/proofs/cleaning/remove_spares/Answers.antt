@@ -11,7 +11,7 @@ loop-name-init g c = record { removed = removed_none _ _ _ _; place = refl }
 pub loop-name-preserved : goal.loop-name-preserved
 loop-name-preserved g c = record {
   removed =
-      subst (λ ns. AreRemoved c.args.kept.now.manifest c.args.kept.now.tables.items ns (g.C.FolderCalls.calls c.args.folder.now) (g.C.FolderCalls.calls c.remove_spare.new.folder)
+      subst (λ ns. AreRemoved c.args.kept.now.journal c.args.kept.now.tables.items ns (g.C.FolderCalls.calls c.args.folder.now) (g.C.FolderCalls.calls c.remove_spare.new.folder)
       (g.O.Write.contents c.args.out.now) (g.O.Write.contents c.remove_spare.new.out))
       (next_name string_bytes c.args.names.now c.loop-name.name-index c.name-item.result c.as_str.result.now c.loop-name-test.true c.name-item.is c.as_str.ensures.value)
       (removed_more _ _ _ _ _ _ _ _ _ _ c.loop-name.invariant.removed c.in_ok-remove_spare.ensures.removed);
@@ -35,6 +35,6 @@ returns-in_err-remove_spare-clause-refused g c =
 
 pub returns-clause-removed : goal.returns-clause-removed
 returns-clause-removed g c =
-    subst (λ ns. AreRemoved c.args.kept.now.manifest c.args.kept.now.tables.items ns (g.C.FolderCalls.calls c.args.folder.now) (g.C.FolderCalls.calls c.loop-name.folder)
+    subst (λ ns. AreRemoved c.args.kept.now.journal c.args.kept.now.tables.items ns (g.C.FolderCalls.calls c.args.folder.now) (g.C.FolderCalls.calls c.loop-name.folder)
     (g.O.Write.contents c.args.out.now) (g.O.Write.contents c.loop-name.out))
     (all_names string_bytes c.args.names.now c.loop-name.name-index c.loop-name-test.false) c.loop-name.invariant.removed

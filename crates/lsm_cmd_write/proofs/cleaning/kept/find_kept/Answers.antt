@@ -8,10 +8,8 @@ pub returns-clause-kept : goal.returns-clause-kept
 returns-clause-kept g c =
     let numbers : c.push_numbers.new.numbers.items ≡ numbers_in c.in_ok-found.found.version = search rules in
     record {
-      held = _;
       version = c.in_ok-found.found.version;
       next = _;
       found = c.in_ok-found.ensures.found;
-      its = search rules;
       all = subst (λ (ns : List ℕ). (n : ℕ) → Has c.in_ok-tables.tables.items n ↔ Has ns n) numbers c.in_ok-tables.ensures.all;
     }
