@@ -6,6 +6,7 @@ mod OneMistake
 mod BadLines
 mod PairLaws
 mod ScanTalk
+mod SpeechLaws
 mod Sums
 mod RoundLaws
 mod BatchLaws

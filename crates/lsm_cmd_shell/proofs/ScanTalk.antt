@@ -14,9 +14,8 @@ use Rattle.lsm_state.specs.Held.{Held}
 use Rattle.lsm_requests.specs.declared.key_bounds.KeyBounds.{KeyBounds}
 use Rattle.lsm_script.specs.Steps.{OnDesk, stage}
 use Rattle.lsm_script.specs.declared.command_fault.CommandFault.TheVariants.{State}
-use Rattle.lsm_script.specs.declared.reply.Reply.TheVariants.{Refused}
 use Rattle.lsm_cmd_shell.specs.Pairs.{IsScanFault, IsWrite, PrintsVersion, pairs_text, shown}
-use Rattle.lsm_cmd_shell.specs.Batching.{no_memory, reply_said}
+use Rattle.lsm_cmd_shell.specs.Batching.{SaysRefusal, no_memory}
 use Rattle.lsm_cmd_shell.specs.Said.{IsTold, Said, done, saying}
 use Rattle.lsm_cmd_shell.specs.declared.outcome.Outcome.{Outcome}
 use Rattle.lsm_cmd_shell.specs.Talk.{IsScanned, ShowsAll, ShowsSome, StopsScan}
@@ -79,6 +78,6 @@ said_none honest form bounds limit h d was is told = (
 )
 
 pub read_stops : (honest : Type 0) (form : Form) (last : Said) (was is : Told) (fault : ReadFault) → IsScanFault honest was is (Read fault)
-    → (last ≡ reply_said form (Refused (State (ReadRefused fault)))) ⊎ (last ≡ no_memory) → StopsScan honest form last was is
+    → SaysRefusal form (State (ReadRefused fault)) last ⊎ (last ≡ no_memory) → StopsScan honest form last was is
 read_stops honest form last was is fault f (inl e) = inr (fault, e, f.0, f.1)
 read_stops honest form last was is fault f (inr e) = inl e

@@ -1,14 +1,15 @@
 -- A batch of several lines (this project's rule): the writes between `begin` and `commit`.
-use Rattle.std.specs.Prelude.{◌≡◌, ◌⊎◌, List, [], ◌∷◌, ◌++◌, codes, Option, Some, None}
+use Rattle.std.specs.Prelude.{◌≡◌, ◌⊎◌, ℕ, List, [], ◌∷◌, ◌++◌, codes, Option, Some, None}
 use Rattle.lsm_batch.specs.Batches.{IsTooLarge}
 use Rattle.lsm_batch.specs.declared.write.Write.{Write}
 use Rattle.lsm_lines.specs.LastWrites.{KeepsLast}
 use Rattle.lsm_text.specs.declared.form.Form.{Form}
-use Rattle.lsm_script.specs.ReplyText.{reply_text}
 use Rattle.lsm_script.specs.Steps.{IsStep, Stage}
 use Rattle.lsm_script.specs.declared.command.Command.TheVariants.{Ingest}
+use Rattle.lsm_script.specs.declared.command_fault.CommandFault.{CommandFault}
 use Rattle.lsm_script.specs.declared.reply.Reply.{Reply}
 use Rattle.lsm_script.specs.declared.reply.Reply.TheVariants.{Refused}
+use Rattle.lsm_cmd_shell.specs.Reasoned.{IsTextOf}
 use Rattle.lsm_cmd_shell.specs.Said.{Said, done, failed, saying}
 use Rattle.lsm_cmd_shell.specs.declared.outcome.Outcome.{Outcome}
 use Rattle.lsm_cmd_shell.specs.declared.outcome.Outcome.TheVariants.{Done, Failed}
@@ -40,8 +41,16 @@ abbrev pub outcome_of_reply : Reply → Outcome
 outcome_of_reply (Refused fault) = Failed
 outcome_of_reply reply = Done
 
-abbrev pub reply_said : Form → Reply → Said
-reply_said form reply = saying (reply_text form reply) (outcome_of_reply reply)
+-- this refusal was said
+abbrev pub SaysRefusal : Form → CommandFault → Said → Type 0
+SaysRefusal form fault said =
+    (text : List ℕ) × IsTextOf form (Refused fault) text × (said ≡ failed text)
+
+-- this reply was said, or that there is no memory for it
+abbrev pub SaysReply : Form → Reply → Said → Type 0
+SaysReply form reply said =
+    ((text : List ℕ) × IsTextOf form reply text × (said ≡ saying text (outcome_of_reply reply)))
+    ⊎ (said ≡ unsaid)
 
 -- this was said of what was done, or that there is no memory for it
 abbrev pub Says : Said → Said → Type 0
@@ -80,7 +89,7 @@ IsQueued w old new said =
 abbrev pub IsIngested : Type 0 → Form → (List Write → Type 0) → Said → Stage → Stage → Type 0
 IsIngested honest form IsIt said s t =
     ((batch : List Write) × (r : Reply) × IsIt batch × IsStep honest (Ingest batch) r s t
-    × Says (reply_said form r) said)
+    × SaysReply form r said)
     ⊎ ((said ≡ no_memory) × (t ≡ s))
 
 -- `put` and `delete`: a batch of this write, or one more write of the batch that is begun

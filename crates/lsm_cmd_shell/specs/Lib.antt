@@ -4,6 +4,7 @@ pub mod Mistakes
 pub mod MistakeText
 pub mod Pairs
 pub mod Said
+pub mod Reasoned
 pub mod Batching
 pub mod Rounds
 pub mod Statistics

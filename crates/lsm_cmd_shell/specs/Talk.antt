@@ -24,7 +24,7 @@ use Rattle.lsm_script.specs.declared.reply.Reply.TheVariants.{Refused}
 use Rattle.lsm_opening.specs.Compactions.{installed_text}
 use Rattle.lsm_cmd_shell.specs.Asks.{IsAsk}
 use Rattle.lsm_cmd_shell.specs.Batching.{IsAbort, IsBegin, IsCommitReply, IsPutReply, Says}
-use Rattle.lsm_cmd_shell.specs.Batching.{Standing, no_memory, reply_said, standing}
+use Rattle.lsm_cmd_shell.specs.Batching.{SaysRefusal, SaysReply, Standing, no_memory, standing}
 use Rattle.lsm_cmd_shell.specs.MistakeText.{mistake_text}
 use Rattle.lsm_cmd_shell.specs.Mistakes.{IsMistake}
 use Rattle.lsm_cmd_shell.specs.Pairs.{pairs_text, shown}
@@ -67,7 +67,7 @@ long_line = failed (codes "bad line: it has more than 8388608 bytes\n")
 abbrev pub StopsScan : Type 0 → Form → Said → Told → Told → Type 0
 StopsScan honest form last was is =
     (last ≡ no_memory)
-    ⊎ ((fault : ReadFault) × (last ≡ reply_said form (Refused (State (ReadRefused fault))))
+    ⊎ ((fault : ReadFault) × SaysRefusal form (State (ReadRefused fault)) last
     × (honest → IsMemoryOrShelf fault) × ReadCounted fault was is)
 
 -- Of the keys of the version that have a value at its last sequence those that are asked for are
@@ -103,7 +103,7 @@ pub record IsScanned (honest : Type 0) (form : Form) (bounds : KeyBounds) (limit
 abbrev pub IsCompactReply : Type 0 → Form → Said → Stage → Stage → Type 0
 IsCompactReply honest form said s t =
     ((n : ℕ) × IsCompacted honest n s t × Says (done (installed_text n)) said)
-    ⊎ ((e : CommandFault) × IsUncompacted honest e s t × Says (reply_said form (Refused e)) said)
+    ⊎ ((e : CommandFault) × IsUncompacted honest e s t × SaysReply form (Refused e) said)
 
 -- ---- one line
 
@@ -111,7 +111,7 @@ IsCompactReply honest form said s t =
 abbrev pub Obeys : Type 0 → Form → Ask → Said → Standing → Standing → Type 0
 Obeys honest form (Do c) said s t =
     (t.begun ≡ s.begun) × ((r : Reply) × IsStep honest c r s.stage t.stage
-    × Says (reply_said form r) said)
+    × SaysReply form r said)
 Obeys honest form (Put w) said s t = IsPutReply honest form w s.begun said s t
 Obeys honest form (Scan bounds limit) said s t =
     (t.begun ≡ s.begun) × IsScanned honest form bounds limit said s.stage t.stage

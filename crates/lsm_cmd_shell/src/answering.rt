@@ -3,11 +3,12 @@
 ghost use Rattle.std.specs.Prelude.{IfOk};
 ghost use Rattle.lsm_script.specs.Steps.{IsStep, stage};
 ghost use Rattle.lsm_script.specs.declared.reply.Reply.{Reply};
-ghost use Rattle.lsm_cmd_shell.specs.Batching.{Says, reply_said};
+ghost use Rattle.lsm_cmd_shell.specs.Batching.{SaysReply};
 ghost use Rattle.lsm_cmd_shell.specs.Said.{IsTold, Said};
 
 use crate::outcome::Outcome;
 use crate::saying::{Unsaid, say_reply};
+use crate::speech::Speech;
 use lsm_script::{Command, Desk};
 use lsm_slots::Boarded;
 use lsm_state::State;
@@ -17,7 +18,7 @@ use std::alloc::Global;
 use std::io::Write;
 use std::sync::Wait;
 
-/// Does a command, and says its reply. `text` is memory for it.
+/// Does a command, and says its reply. `speech` is memory for it.
 pub(crate) fn answer<N: Boarded, S: Shelf, R: Wait, O: Write>(
     rt: &R,
     alloc: Global,
@@ -26,14 +27,14 @@ pub(crate) fn answer<N: Boarded, S: Shelf, R: Wait, O: Write>(
     shelf: &mut NamedShelf<N, S>,
     form: Form,
     command: &Command,
-    text: &mut Vec<u8>,
+    speech: &mut Speech<'_>,
     out: &mut O,
 ) -> Result<Outcome, Unsaid>
     ensures { (said : Said) × (r : Reply) × IsStep S.honest command.now r
         (stage state.old desk.old shelf.old) (stage state.new desk.new shelf.new)
-        × Says (reply_said form r) said
+        × SaysReply form r said
         × IfOk result (IsTold said (O.contents out.old) (O.contents out.new)) }
 {
     let reply = desk.answer(rt, alloc, state, shelf, command);
-    say_reply(text, form, &reply, out)
+    say_reply(speech, form, &reply, out)
 }

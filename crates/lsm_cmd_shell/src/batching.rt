@@ -9,6 +9,7 @@ ghost use Rattle.lsm_cmd_shell.specs.Said.{IsTold, Said};
 use crate::answering::answer;
 use crate::outcome::Outcome;
 use crate::saying::{Unsaid, say, say_failed};
+use crate::speech::Speech;
 use lsm_batch::{Batch, Write as KeyWrite};
 use lsm_lines::{PutFault, WriteBuffer};
 use lsm_script::{Command, Desk};
@@ -91,7 +92,7 @@ pub(crate) fn put<N: Boarded, S: Shelf, R: Wait, O: Write>(
     shelf: &mut NamedShelf<N, S>,
     form: Form,
     write: KeyWrite,
-    text: &mut Vec<u8>,
+    speech: &mut Speech<'_>,
     out: &mut O,
 ) -> Result<Outcome, Unsaid>
     ensures { (said : Said) × IsPutReply S.honest form write begun.old said
@@ -106,7 +107,7 @@ pub(crate) fn put<N: Boarded, S: Shelf, R: Wait, O: Write>(
         return say_failed(out, b"refused 1 OutOfMemory\n");
     };
     let command = Command::Ingest(batch);
-    answer(rt, alloc, state, desk, shelf, form, &command, text, out)
+    answer(rt, alloc, state, desk, shelf, form, &command, speech, out)
 }
 
 /// `commit`: brings in, of each key that was written, the last write, as one batch. None is begun
@@ -119,7 +120,7 @@ pub(crate) fn commit<N: Boarded, S: Shelf, R: Wait, O: Write>(
     begun: &mut Option<WriteBuffer>,
     shelf: &mut NamedShelf<N, S>,
     form: Form,
-    text: &mut Vec<u8>,
+    speech: &mut Speech<'_>,
     out: &mut O,
 ) -> Result<Outcome, Unsaid>
     ensures { (said : Said) × IsCommitReply S.honest form begun.old said
@@ -134,5 +135,5 @@ pub(crate) fn commit<N: Boarded, S: Shelf, R: Wait, O: Write>(
         return say_failed(out, b"refused 1 OutOfMemory\n");
     };
     let command = Command::Ingest(batch);
-    answer(rt, alloc, state, desk, shelf, form, &command, text, out)
+    answer(rt, alloc, state, desk, shelf, form, &command, speech, out)
 }

@@ -10,8 +10,10 @@ ghost use Rattle.lsm_cmd_shell.specs.Talk.{IsHeld, IsLineOf, IsReplied, IsTurnOf
 
 use crate::outcome::Outcome;
 use crate::saying::Unsaid;
+use crate::speech::Speech;
 use crate::talk_fault::TalkFault;
 use crate::talking::{answered, judge, next_line, reply_next};
+use lsm_folder::Reasons;
 use lsm_history::Memory;
 use lsm_lines::{LineReader, NextLine, WriteBuffer};
 use lsm_script::Desk;
@@ -51,7 +53,7 @@ fn reply_lent<N: Boarded, S: Shelf, R: Wait, I: Read + Drop, O: Write>(
     form: Form,
     next: NextLine,
     lines: &LineReader<I>,
-    text: &mut Vec<u8>,
+    speech: &mut Speech<'_>,
     out: &mut O,
 ) -> Result<Outcome, Unsaid>
     requires { IsHeld next lines.now.line }
@@ -65,7 +67,7 @@ fn reply_lent<N: Boarded, S: Shelf, R: Wait, I: Read + Drop, O: Write>(
 {
     catch_up(state, memory);
     let said = reply_next(
-        rt, alloc, state, desk, begun, shelf, form, next, lines, text, out,
+        rt, alloc, state, desk, begun, shelf, form, next, lines, speech, out,
     );
     *memory = state.remember();
     said
@@ -83,7 +85,7 @@ fn reply_under_lock<N: Boarded, S: Shelf, K: Invariant, R: Wait, I: Read + Drop,
     form: Form,
     next: NextLine,
     lines: &LineReader<I>,
-    text: &mut Vec<u8>,
+    speech: &mut Speech<'_>,
     out: &mut O,
 ) -> Result<Outcome, Unsaid>
     requires held { IsHeld next lines.now.line }
@@ -106,7 +108,7 @@ fn reply_under_lock<N: Boarded, S: Shelf, K: Invariant, R: Wait, I: Read + Drop,
         form,
         next,
         lines,
-        text,
+        speech,
         out,
     )
 }
@@ -123,7 +125,7 @@ fn take_turn<N: Boarded, S: Shelf, K: Invariant, R: Wait, I: Read + Drop, O: Wri
     shelf: &mut NamedShelf<N, S>,
     form: Form,
     lines: &mut LineReader<I>,
-    text: &mut Vec<u8>,
+    speech: &mut Speech<'_>,
     out: &mut O,
 ) -> Result<Option<Outcome>, TalkFault>
     requires kept { IsKeptByNext S.honest form lines.old.left begun.old K.keeps }
@@ -135,7 +137,7 @@ fn take_turn<N: Boarded, S: Shelf, K: Invariant, R: Wait, I: Read + Drop, O: Wri
     match next_line(lines) {
         Ok(Some(next)) => {
             let said = reply_under_lock(
-                rt, alloc, store, memory, desk, begun, shelf, form, next, lines, text, out,
+                rt, alloc, store, memory, desk, begun, shelf, form, next, lines, speech, out,
             );
             answered(said)
         }
@@ -161,6 +163,7 @@ pub fn talk_beside<N: Boarded, S: Shelf, K: Invariant, R: Wait, I: Read + Drop, 
     shelf: &mut NamedShelf<N, S>,
     form: Form,
     bails: bool,
+    reasons: Option<&Reasons>,
     lines: &mut LineReader<I>,
     out: &mut O,
 ) -> Result<(), TalkFault>
@@ -170,11 +173,21 @@ pub fn talk_beside<N: Boarded, S: Shelf, K: Invariant, R: Wait, I: Read + Drop, 
         (O.contents out.old) (O.contents out.new) }
 {
     let mut begun = None;
-    let mut text = Vec::new(alloc);
+    let mut speech = Speech::new(alloc, reasons);
     let mut outcome = Outcome::Done;
     for _turn in 0..u64::MAX {
         let turn = take_turn(
-            rt, alloc, store, memory, desk, &mut begun, shelf, form, lines, &mut text, out,
+            rt,
+            alloc,
+            store,
+            memory,
+            desk,
+            &mut begun,
+            shelf,
+            form,
+            lines,
+            &mut speech,
+            out,
         );
         background.wake(rt);
         if let Some(end) = judge(bails, &begun, turn, &mut outcome) {

@@ -10,6 +10,7 @@ ghost use Rattle.lsm_cmd_shell.specs.Talk.{IsCompactReply};
 use crate::outcome::Outcome;
 use crate::rounds::compact_all;
 use crate::saying::{Unsaid, say, say_reply, say_unsaid};
+use crate::speech::Speech;
 use lsm_script::{Desk, Reply};
 use lsm_slots::Boarded;
 use lsm_state::State;
@@ -30,18 +31,22 @@ fn push_installed(out: &mut Vec<u8>, count: u64) -> Result<(), AllocError>
 }
 
 /// Says how many results were installed.
-fn say_installed<O: Write>(text: &mut Vec<u8>, count: u64, out: &mut O) -> Result<Outcome, Unsaid>
+fn say_installed<O: Write>(
+    speech: &mut Speech<'_>,
+    count: u64,
+    out: &mut O,
+) -> Result<Outcome, Unsaid>
     ensures { (said : Said) × Says (done (installed_text count)) said
         × IfOk result (IsTold said (O.contents out.old) (O.contents out.new)) }
 {
-    text.clear();
-    match push_installed(text, count) {
-        Ok(()) => say(out, text.as_slice()),
+    speech.text.clear();
+    match push_installed(&mut speech.text, count) {
+        Ok(()) => say(out, speech.text.as_slice()),
         Err(_) => say_unsaid(out),
     }
 }
 
-/// Compacts all that is due, and says how much that was, or why it ended before that. `text` is
+/// Compacts all that is due, and says how much that was, or why it ended before that. `speech` is
 /// memory for it.
 pub(crate) fn compact<N: Boarded, S: Shelf, R: Wait, O: Write>(
     rt: &R,
@@ -50,7 +55,7 @@ pub(crate) fn compact<N: Boarded, S: Shelf, R: Wait, O: Write>(
     desk: &mut Desk<N, S>,
     shelf: &mut NamedShelf<N, S>,
     form: Form,
-    text: &mut Vec<u8>,
+    speech: &mut Speech<'_>,
     out: &mut O,
 ) -> Result<Outcome, Unsaid>
     ensures { (said : Said) × IsCompactReply S.honest form said
@@ -58,7 +63,7 @@ pub(crate) fn compact<N: Boarded, S: Shelf, R: Wait, O: Write>(
         × IfOk result (IsTold said (O.contents out.old) (O.contents out.new)) }
 {
     match compact_all(rt, alloc, state, desk, shelf) {
-        Ok(count) => say_installed(text, count, out),
-        Err(fault) => say_reply(text, form, &Reply::Refused(fault), out),
+        Ok(count) => say_installed(speech, count, out),
+        Err(fault) => say_reply(speech, form, &Reply::Refused(fault), out),
     }
 }

@@ -7,6 +7,7 @@ ghost use Rattle.lsm_opening.specs.Parts.{AreOf, usual};
 
 use crate::shell_fault::ShellFault;
 use crate::talking::talk;
+use lsm_folder::Reasons;
 use lsm_lines::LineReader;
 use lsm_opening::{NewParts, Prepared, WriterFault, start};
 use lsm_script::Desk;
@@ -28,6 +29,7 @@ fn converse_named<N: Boarded, S: Shelf, R: Wait, I: Read + Drop, O: Write>(
     parts: NewParts<S>,
     form: Form,
     bails: bool,
+    reasons: Option<&Reasons>,
     lines: &mut LineReader<I>,
     out: &mut O,
 ) -> Result<(), ShellFault>
@@ -49,7 +51,7 @@ fn converse_named<N: Boarded, S: Shelf, R: Wait, I: Read + Drop, O: Write>(
         Err(_) => return Err(ShellFault::of_writer(WriterFault::OutOfMemory)),
     };
     match talk(
-        rt, alloc, &mut state, &mut desk, shelf, form, bails, lines, out,
+        rt, alloc, &mut state, &mut desk, shelf, form, bails, reasons, lines, out,
     ) {
         Ok(()) => Ok(()),
         Err(fault) => Err(ShellFault::of_talk(fault)),
@@ -65,6 +67,7 @@ fn converse_as<N: Boarded, S: Shelf, R: Wait, I: Read + Drop, O: Write>(
     parts: NewParts<S>,
     form: Form,
     bails: bool,
+    reasons: Option<&Reasons>,
     lines: &mut LineReader<I>,
     out: &mut O,
 ) -> (Result<(), ShellFault>, S)
@@ -80,7 +83,7 @@ fn converse_as<N: Boarded, S: Shelf, R: Wait, I: Read + Drop, O: Write>(
 {
     let mut shelf: NamedShelf<N, S> = NamedShelf::of(shelf);
     let done = converse_named(
-        rt, alloc, &mut shelf, prepared, parts, form, bails, lines, out,
+        rt, alloc, &mut shelf, prepared, parts, form, bails, reasons, lines, out,
     );
     (done, shelf.into_shelf())
 }
@@ -98,6 +101,7 @@ pub fn converse<S: Shelf, R: Wait, I: Read + Drop, O: Write>(
     prepared: &Prepared,
     form: Form,
     bails: bool,
+    reasons: Option<&Reasons>,
     input: I,
     out: &mut O,
 ) -> (Result<(), ShellFault>, S)
@@ -119,6 +123,6 @@ pub fn converse<S: Shelf, R: Wait, I: Read + Drop, O: Write>(
         Err(_) => return (Err(ShellFault::of_writer(WriterFault::OutOfMemory)), shelf),
     };
     converse_as::<Brand, S, R, I, O>(
-        rt, alloc, shelf, prepared, parts, form, bails, &mut lines, out,
+        rt, alloc, shelf, prepared, parts, form, bails, reasons, &mut lines, out,
     )
 }

@@ -18,6 +18,7 @@ ghost use Rattle.lsm_cmd_shell.specs.Keeping.{IsKeptByReplies};
 use crate::beside::talk_beside;
 use crate::shell_fault::ShellFault;
 use crate::talk_fault::TalkFault;
+use lsm_folder::Reasons;
 use lsm_history::Memory;
 use lsm_lines::LineReader;
 use lsm_opening::{CompactFault, Crew, NewParts, Prepared, WriterFault, start};
@@ -52,6 +53,7 @@ fn talk_in_store<N, S, K, R, I, O>(
     own: NamedShelf<N, S>,
     form: Form,
     bails: bool,
+    reasons: Option<&Reasons>,
     lines: LineReader<I>,
     out: &mut O,
 ) -> Option<Ended>
@@ -95,6 +97,7 @@ where
                 &mut own,
                 form,
                 bails,
+                reasons,
                 &mut lines,
                 told,
             )
@@ -168,6 +171,7 @@ fn converse_on<N, S, K, R, I, O>(
     form: Form,
     bails: bool,
     workers: usize,
+    reasons: Option<&Reasons>,
     lines: LineReader<I>,
     out: &mut O,
 ) -> Result<(Ended, State<N, S>), ShellFault>
@@ -203,7 +207,7 @@ where
         own,
     } = made;
     match talk_in_store(
-        rt, alloc, &store, shelves, memory, desk, own, form, bails, lines, out,
+        rt, alloc, &store, shelves, memory, desk, own, form, bails, reasons, lines, out,
     ) {
         Some(ended) => Ok((ended, store.into_state())),
         None => Err(ShellFault::of_writer(WriterFault::OutOfMemory)),
@@ -221,6 +225,7 @@ fn converse_named<N, S, R, I, O>(
     form: Form,
     bails: bool,
     workers: usize,
+    reasons: Option<&Reasons>,
     lines: LineReader<I>,
     out: &mut O,
 ) -> Result<(), ShellFault>
@@ -248,7 +253,7 @@ where
         Err(_) => return Err(ShellFault::of_writer(WriterFault::OutOfMemory)),
     };
     match converse_on::<N, S, Brand, R, I, O>(
-        rt, alloc, state, desk, shelf, form, bails, workers, lines, out,
+        rt, alloc, state, desk, shelf, form, bails, workers, reasons, lines, out,
     ) {
         Ok((ended, _left)) => {
             let (talked, ends) = ended;
@@ -268,6 +273,7 @@ fn converse_as<N, S, R, I, O>(
     form: Form,
     bails: bool,
     workers: usize,
+    reasons: Option<&Reasons>,
     lines: LineReader<I>,
     out: &mut O,
 ) -> (Result<(), ShellFault>, S)
@@ -289,7 +295,7 @@ where
 {
     let mut shelf: NamedShelf<N, S> = NamedShelf::of(shelf);
     let done = converse_named(
-        rt, alloc, &mut shelf, prepared, parts, form, bails, workers, lines, out,
+        rt, alloc, &mut shelf, prepared, parts, form, bails, workers, reasons, lines, out,
     );
     (done, shelf.into_shelf())
 }
@@ -304,6 +310,7 @@ pub fn converse_beside<S, R, I, O>(
     form: Form,
     bails: bool,
     workers: usize,
+    reasons: Option<&Reasons>,
     input: I,
     out: &mut O,
 ) -> (Result<(), ShellFault>, S)
@@ -330,6 +337,6 @@ where
         Err(_) => return (Err(ShellFault::of_writer(WriterFault::OutOfMemory)), shelf),
     };
     converse_as::<Brand, S, R, I, O>(
-        rt, alloc, shelf, prepared, parts, form, bails, workers, lines, out,
+        rt, alloc, shelf, prepared, parts, form, bails, workers, reasons, lines, out,
     )
 }

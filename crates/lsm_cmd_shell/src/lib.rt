@@ -31,6 +31,7 @@ mod pairs;
 mod replying;
 mod rounds;
 mod saying;
+mod speech;
 mod statistics;
 
 // The conversation.

@@ -30,6 +30,7 @@ fn converse_with<S, R, I, O>(
     form: Form,
     workers: Option<usize>,
     bails: bool,
+    reasons: &Reasons,
     input: I,
     out: &mut O,
 ) -> (Result<(), ShellFault>, S)
@@ -48,10 +49,29 @@ where
         (O.contents out.old) (O.contents out.new)) }
 {
     match workers {
-        Some(workers) => {
-            converse_beside(rt, alloc, shelf, prepared, form, bails, workers, input, out)
-        }
-        None => converse(rt, alloc, shelf, prepared, form, bails, input, out),
+        Some(workers) => converse_beside(
+            rt,
+            alloc,
+            shelf,
+            prepared,
+            form,
+            bails,
+            workers,
+            Some(reasons),
+            input,
+            out,
+        ),
+        None => converse(
+            rt,
+            alloc,
+            shelf,
+            prepared,
+            form,
+            bails,
+            Some(reasons),
+            input,
+            out,
+        ),
     }
 }
 
@@ -93,6 +113,7 @@ where
         options.form,
         workers,
         bails,
+        reasons,
         input,
         out,
     );

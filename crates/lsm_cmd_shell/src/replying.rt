@@ -3,8 +3,7 @@
 ghost use Rattle.std.specs.Prelude.{◌≡◌, ◌≢◌, ◌⊎◌, IfOk, codes};
 ghost use Rattle.lsm_script.specs.Steps.{OnDesk, stage};
 ghost use Rattle.lsm_script.specs.declared.command_fault.CommandFault.TheVariants.{State as StateRefusal};
-ghost use Rattle.lsm_script.specs.declared.reply.Reply.TheVariants.{Refused};
-ghost use Rattle.lsm_cmd_shell.specs.Batching.{no_memory, reply_said, standing};
+ghost use Rattle.lsm_cmd_shell.specs.Batching.{SaysRefusal, no_memory, standing};
 ghost use Rattle.lsm_cmd_shell.specs.MistakeText.{mistake_text};
 ghost use Rattle.lsm_cmd_shell.specs.Said.{IsTold, Said, done, failed};
 ghost use Rattle.lsm_cmd_shell.specs.Statistics.{statistics_text};
@@ -21,11 +20,12 @@ use crate::mistake_text::push_mistake;
 use crate::outcome::Outcome;
 use crate::pairs::{ScanFault, print_version};
 use crate::saying::{Unsaid, say, say_failed};
+use crate::speech::Speech;
 use crate::statistics::push_statistics;
 use crate::wrong_line::mistake_in;
 use lsm_lines::WriteBuffer;
 use lsm_requests::KeyBounds;
-use lsm_script::{CommandFault, Desk, Reply, push_reply};
+use lsm_script::{CommandFault, Desk, Reply};
 use lsm_slots::Boarded;
 use lsm_state::{State, StateFault};
 use lsm_table::{NamedShelf, Shelf};
@@ -34,20 +34,19 @@ use std::alloc::Global;
 use std::io::Write;
 use std::sync::Wait;
 
-/// Says why a scan was stopped. `text` is memory for it.
+/// Says why a scan was stopped. `speech` is memory for it.
 fn say_stopped<O: Write>(
-    text: &mut Vec<u8>,
+    speech: &mut Speech<'_>,
     form: Form,
     fault: StateFault,
     out: &mut O,
 ) -> Result<Outcome, Unsaid>
-    ensures { (said : Said) × ((said ≡ reply_said form (Refused (StateRefusal fault)))
-        ⊎ (said ≡ no_memory))
+    ensures { (said : Said) × (SaysRefusal form (StateRefusal fault) said ⊎ (said ≡ no_memory))
         × IfOk result (IsTold said (O.contents out.old) (O.contents out.new)) }
 {
-    text.clear();
-    match push_reply(text, form, &Reply::Refused(CommandFault::State(fault))) {
-        Ok(()) => say_failed(out, text.as_slice()),
+    speech.text.clear();
+    match speech.push(form, &Reply::Refused(CommandFault::State(fault))) {
+        Ok(()) => say_failed(out, speech.text.as_slice()),
         Err(_) => say_failed(out, b"refused 1 OutOfMemory\n"),
     }
 }
@@ -60,7 +59,7 @@ fn say_scan<N: Boarded, S: Shelf, O: Write>(
     form: Form,
     bounds: &KeyBounds,
     limit: Option<u64>,
-    text: &mut Vec<u8>,
+    speech: &mut Speech<'_>,
     out: &mut O,
 ) -> Result<Outcome, Unsaid>
     ensures { (desk : OnDesk) → (said : Said) × IsScanned S.honest form bounds.now limit said
@@ -72,27 +71,27 @@ fn say_scan<N: Boarded, S: Shelf, O: Write>(
         Ok(()) => say(out, b"end\n"),
         Err(ScanFault::Write) => Err(Unsaid),
         Err(ScanFault::NoMemory) => say_failed(out, b"refused 1 OutOfMemory\n"),
-        Err(ScanFault::Read(fault)) => say_stopped(text, form, StateFault::Read(fault), out),
+        Err(ScanFault::Read(fault)) => say_stopped(speech, form, StateFault::Read(fault), out),
     }
 }
 
-/// Says how much a state has. `text` is memory for it.
+/// Says how much a state has. `speech` is memory for it.
 fn say_statistics<N: Boarded, S: Shelf, O: Write>(
     state: &State<N, S>,
-    text: &mut Vec<u8>,
+    speech: &mut Speech<'_>,
     out: &mut O,
 ) -> Result<Outcome, Unsaid>
     ensures { (said : Said) × ((said ≡ done (statistics_text state.now)) ⊎ (said ≡ no_memory))
         × IfOk result (IsTold said (O.contents out.old) (O.contents out.new)) }
 {
-    text.clear();
-    match push_statistics(text, state) {
-        Ok(()) => say(out, text.as_slice()),
+    speech.text.clear();
+    match push_statistics(&mut speech.text, state) {
+        Ok(()) => say(out, speech.text.as_slice()),
         Err(_) => say_failed(out, b"refused 1 OutOfMemory\n"),
     }
 }
 
-/// Does what is asked, and says what that gives. `text` is memory for it.
+/// Does what is asked, and says what that gives. `speech` is memory for it.
 fn obey<N: Boarded, S: Shelf, R: Wait, O: Write>(
     rt: &R,
     alloc: Global,
@@ -102,7 +101,7 @@ fn obey<N: Boarded, S: Shelf, R: Wait, O: Write>(
     shelf: &mut NamedShelf<N, S>,
     form: Form,
     ask: Ask,
-    text: &mut Vec<u8>,
+    speech: &mut Speech<'_>,
     out: &mut O,
 ) -> Result<Outcome, Unsaid>
     ensures { (said : Said) × Obeys S.honest form ask said
@@ -111,55 +110,57 @@ fn obey<N: Boarded, S: Shelf, R: Wait, O: Write>(
         × IfOk result (IsTold said (O.contents out.old) (O.contents out.new)) }
 {
     match ask {
-        Ask::Do(command) => answer(rt, alloc, state, desk, shelf, form, &command, text, out),
-        Ask::Put(write) => put(rt, alloc, state, desk, begun, shelf, form, write, text, out),
+        Ask::Do(command) => answer(rt, alloc, state, desk, shelf, form, &command, speech, out),
+        Ask::Put(write) => put(
+            rt, alloc, state, desk, begun, shelf, form, write, speech, out,
+        ),
         Ask::Scan(bounds, limit) => {
-            say_scan(alloc, state, shelf, form, &bounds, limit, text, out)
+            say_scan(alloc, state, shelf, form, &bounds, limit, speech, out)
         }
         Ask::Begin => begin(alloc, begun, out),
-        Ask::Commit => commit(rt, alloc, state, desk, begun, shelf, form, text, out),
+        Ask::Commit => commit(rt, alloc, state, desk, begun, shelf, form, speech, out),
         Ask::Abort => abort(begun, out),
-        Ask::Compact => compact(rt, alloc, state, desk, shelf, form, text, out),
-        Ask::Stats => say_statistics(state, text, out),
+        Ask::Compact => compact(rt, alloc, state, desk, shelf, form, speech, out),
+        Ask::Stats => say_statistics(state, speech, out),
         Ask::Help => say(out, HELP),
     }
 }
 
-/// Says that a line has this mistake. `text` is memory for it.
+/// Says that a line has this mistake. `speech` is memory for it.
 fn say_mistake<O: Write>(
     mistake: Mistake,
-    text: &mut Vec<u8>,
+    speech: &mut Speech<'_>,
     out: &mut O,
 ) -> Result<Outcome, Unsaid>
     ensures { (said : Said) × ((said ≡ failed (mistake_text mistake)) ⊎ (said ≡ no_memory))
         × IfOk result (IsTold said (O.contents out.old) (O.contents out.new)) }
 {
-    text.clear();
-    match push_mistake(text, mistake) {
-        Ok(()) => say_failed(out, text.as_slice()),
+    speech.text.clear();
+    match push_mistake(&mut speech.text, mistake) {
+        Ok(()) => say_failed(out, speech.text.as_slice()),
         Err(_) => say_failed(out, b"refused 1 OutOfMemory\n"),
     }
 }
 
-/// Says what is wrong with a line that asks for nothing. `text` is memory for it.
+/// Says what is wrong with a line that asks for nothing. `speech` is memory for it.
 fn say_bad<O: Write>(
     alloc: Global,
     form: Form,
     line: &[u8],
-    text: &mut Vec<u8>,
+    speech: &mut Speech<'_>,
     out: &mut O,
 ) -> Result<Outcome, Unsaid>
     ensures { (said : Said) × (IsBadLine form line.now said ⊎ (said ≡ no_memory))
         × IfOk result (IsTold said (O.contents out.old) (O.contents out.new)) }
 {
     match mistake_in(alloc, form, line) {
-        Ok(Some(mistake)) => say_mistake(mistake, text, out),
+        Ok(Some(mistake)) => say_mistake(mistake, speech, out),
         Ok(None) => say_failed(out, b"bad line: help tells what lines there are\n"),
         Err(_) => say_failed(out, b"refused 1 OutOfMemory\n"),
     }
 }
 
-/// Replies to a line: does what it asks for, and says what that gives. `text` is memory for it.
+/// Replies to a line: does what it asks for, and says what that gives. `speech` is memory for it.
 pub(crate) fn reply_to<N: Boarded, S: Shelf, R: Wait, O: Write>(
     rt: &R,
     alloc: Global,
@@ -169,7 +170,7 @@ pub(crate) fn reply_to<N: Boarded, S: Shelf, R: Wait, O: Write>(
     shelf: &mut NamedShelf<N, S>,
     form: Form,
     line: &[u8],
-    text: &mut Vec<u8>,
+    speech: &mut Speech<'_>,
     out: &mut O,
 ) -> Result<Outcome, Unsaid>
     requires { line.now ≢ codes "quit" }
@@ -178,9 +179,10 @@ pub(crate) fn reply_to<N: Boarded, S: Shelf, R: Wait, O: Write>(
         (standing (stage state.new desk.new shelf.new) begun.new)
         × IfOk result (IsTold said (O.contents out.old) (O.contents out.new)) }
 {
+    speech.forget();
     match ask_in(alloc, form, line) {
-        Ok(Some(ask)) => obey(rt, alloc, state, desk, begun, shelf, form, ask, text, out),
-        Ok(None) => say_bad(alloc, form, line, text, out),
+        Ok(Some(ask)) => obey(rt, alloc, state, desk, begun, shelf, form, ask, speech, out),
+        Ok(None) => say_bad(alloc, form, line, speech, out),
         Err(_) => say_failed(out, b"refused 1 OutOfMemory\n"),
     }
 }

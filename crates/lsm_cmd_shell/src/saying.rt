@@ -1,11 +1,12 @@
 //! Replies are written.
 
 ghost use Rattle.std.specs.Prelude.{◌≡◌, IfOk};
-ghost use Rattle.lsm_cmd_shell.specs.Batching.{Says, outcome_of_reply, reply_said, unsaid};
+ghost use Rattle.lsm_cmd_shell.specs.Batching.{SaysReply, outcome_of_reply, unsaid};
 ghost use Rattle.lsm_cmd_shell.specs.Said.{IsTold, Said, done, failed, saying};
 
 use crate::outcome::Outcome;
-use lsm_script::{Reply, push_reply};
+use crate::speech::Speech;
+use lsm_script::Reply;
 use lsm_text::{Form, write_output};
 use std::io::Write;
 
@@ -55,19 +56,20 @@ fn outcome_of(reply: &Reply) -> Outcome
     }
 }
 
-/// Writes the reply of a command, or that there is no memory for its text. `text` is memory for it.
+/// Writes the reply of a command, or that there is no memory for its text. `speech` is memory for
+/// it.
 pub(crate) fn say_reply<O: Write>(
-    text: &mut Vec<u8>,
+    speech: &mut Speech<'_>,
     form: Form,
     reply: &Reply,
     out: &mut O,
 ) -> Result<Outcome, Unsaid>
-    ensures { (said : Said) × Says (reply_said form reply.now) said
+    ensures { (said : Said) × SaysReply form reply.now said
         × IfOk result (IsTold said (O.contents out.old) (O.contents out.new)) }
 {
-    text.clear();
-    match push_reply(text, form, reply) {
-        Ok(()) => say_as(out, text.as_slice(), outcome_of(reply)),
+    speech.text.clear();
+    match speech.push(form, reply) {
+        Ok(()) => say_as(out, speech.text.as_slice(), outcome_of(reply)),
         Err(_) => say_unsaid(out),
     }
 }

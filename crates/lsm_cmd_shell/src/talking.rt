@@ -15,7 +15,9 @@ ghost use Rattle.lsm_cmd_shell.specs.declared.talk_fault.TalkFault.TheVariants.{
 use crate::outcome::Outcome;
 use crate::replying::reply_to;
 use crate::saying::{Unsaid, say_failed};
+use crate::speech::Speech;
 use crate::talk_fault::TalkFault;
+use lsm_folder::Reasons;
 use lsm_lines::{LineReader, NextLine, WriteBuffer};
 use lsm_script::Desk;
 use lsm_slots::Boarded;
@@ -101,7 +103,7 @@ pub(crate) fn reply_next<N: Boarded, S: Shelf, R: Wait, I: Read + Drop, O: Write
     form: Form,
     next: NextLine,
     lines: &LineReader<I>,
-    text: &mut Vec<u8>,
+    speech: &mut Speech<'_>,
     out: &mut O,
 ) -> Result<Outcome, Unsaid>
     requires { IsHeld next lines.now.line }
@@ -121,7 +123,7 @@ pub(crate) fn reply_next<N: Boarded, S: Shelf, R: Wait, I: Read + Drop, O: Write
             shelf,
             form,
             lines.line(),
-            text,
+            speech,
             out,
         ),
         NextLine::TooLong => say_failed(out, b"bad line: it has more than 8388608 bytes\n"),
@@ -141,7 +143,7 @@ fn take_turn<N: Boarded, S: Shelf, R: Wait, I: Read + Drop, O: Write>(
     shelf: &mut NamedShelf<N, S>,
     form: Form,
     lines: &mut LineReader<I>,
-    text: &mut Vec<u8>,
+    speech: &mut Speech<'_>,
     out: &mut O,
 ) -> Result<Option<Outcome>, TalkFault>
     ensures turn { IsTurnOf (IsReplied S.honest form) result lines.old lines.new
@@ -152,7 +154,7 @@ fn take_turn<N: Boarded, S: Shelf, R: Wait, I: Read + Drop, O: Write>(
     match next_line(lines) {
         Ok(Some(next)) => {
             let said = reply_next(
-                rt, alloc, state, desk, begun, shelf, form, next, lines, text, out,
+                rt, alloc, state, desk, begun, shelf, form, next, lines, speech, out,
             );
             answered(said)
         }
@@ -164,7 +166,7 @@ fn take_turn<N: Boarded, S: Shelf, R: Wait, I: Read + Drop, O: Write>(
 /// Replies to lines, one after another, up to `quit` or the end of the input. Each reply is flushed
 /// before the next line is read. A refusal is a reply, also for want of memory; if it bails the
 /// conversation ends behind the first one, and behind the first bad line. A batch that is begun at
-/// the end is let go.
+/// the end is let go. A refusal that comes from the system tells what is noted in `reasons` then.
 ///
 /// # Errors
 /// `Read` where the input can't be read, `Write` where a reply can't be written, `LineFailed` where
@@ -178,6 +180,7 @@ pub fn talk<N: Boarded, S: Shelf, R: Wait, I: Read + Drop, O: Write>(
     shelf: &mut NamedShelf<N, S>,
     form: Form,
     bails: bool,
+    reasons: Option<&Reasons>,
     lines: &mut LineReader<I>,
     out: &mut O,
 ) -> Result<(), TalkFault>
@@ -186,11 +189,20 @@ pub fn talk<N: Boarded, S: Shelf, R: Wait, I: Read + Drop, O: Write>(
         (O.contents out.old) (O.contents out.new) }
 {
     let mut begun = None;
-    let mut text = Vec::new(alloc);
+    let mut speech = Speech::new(alloc, reasons);
     let mut outcome = Outcome::Done;
     for _turn in 0..u64::MAX {
         let turn = take_turn(
-            rt, alloc, state, desk, &mut begun, shelf, form, lines, &mut text, out,
+            rt,
+            alloc,
+            state,
+            desk,
+            &mut begun,
+            shelf,
+            form,
+            lines,
+            &mut speech,
+            out,
         );
         if let Some(end) = judge(bails, &begun, turn, &mut outcome) {
             return end;
