@@ -90,6 +90,21 @@ def beside_orphans(source, wanted, kind):
         sys.exit(f"{kind}: beside orphans it has other pairs, or they are gone")
 
 
+def cleaned(source, wanted, kind):
+    """`clean` leaves the logs that are not flushed, and removes those that were brought in."""
+    folder = copied(source, "cleaned")
+    run(LSM, "clean", folder)
+    if pairs_by_leveldb(folder) != wanted:
+        sys.exit(f"{kind}: cleaned before it is recovered it has other pairs")
+    folder = copied(source, "cleaned")
+    brought = told_by(run(LSM, "recover", folder, status=None), kind)[0]
+    run(LSM, "clean", folder)
+    if brought and list(folder.glob("*.log")):
+        sys.exit(f"{kind}: a log that was brought in is not removed")
+    if pairs_of(folder) != wanted or pairs_by_leveldb(folder) != wanted:
+        sys.exit(f"{kind}: cleaned behind its recovery it has other pairs")
+
+
 def whole(kind, reuse):
     source = fresh(f"whole_{kind}{'_reused' if reuse else ''}")
     run(LEVELDB, "make", source, kind, reuse=reuse)
@@ -109,6 +124,7 @@ def whole(kind, reuse):
         sys.exit(f"{kind}: it has other pairs")
     again(folder, kind)
     beside_orphans(source, wanted, kind)
+    cleaned(source, wanted, kind)
     print(f"{kind}: {done.stdout.decode().strip()}, {counted(wanted.count(10), 'pair')}, the same", flush=True)
     return source, wanted
 
