@@ -222,10 +222,10 @@ ended old mid new found was now p q form l t = (t.ends.0, on old mid new t.ends.
 
 -- the next line is no write of a batch
 stops_behind : (old mid new : Pending) (found was now : Marked) (p q : Progress) (fault : WriteLineFault) → SameForm mid old → Loads old mid.left mid.held found was p
-    → (t : TakesBatch mid new was now p q (Stopped fault)) → (left : Option (List ℕ)) → Gathers mid left [] t.ws → Stops mid.form left fault
-    → (left : Option (List ℕ)) × Loads old left [] found now q × Stops old.form left fault
+    → (t : TakesBatch mid new was now p q (Stopped fault)) → (left : Option (List ℕ)) → Gathers mid left [] t.ws → Stops mid.form mid.last left fault
+    → (left : Option (List ℕ)) × Loads old left [] found now q × Stops old.form old.last left fault
 stops_behind old mid new found was now p q fault form l t left g s =
-    (left, on old mid new left [] found was now p q (Stopped fault) form l t g, subst (λ (f : Form). Stops f left fault) form.0 s)
+    (left, on old mid new left [] found was now p q (Stopped fault) form l t g, subst (λ (b : Bool). Stops old.form b left fault) form.1 (subst (λ (f : Form). Stops f mid.last left fault) form.0 s))
 
 pub stopped_behind : (old mid new : Pending) (found was now : Marked) (p q : Progress) (fault : WriteLineFault) → SameForm mid old → Loads old mid.left mid.held found was p
     → TakesBatch mid new was now p q (Stopped fault) → StopsBehind old found now q fault

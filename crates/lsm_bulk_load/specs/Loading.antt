@@ -102,7 +102,8 @@ SomeAreInToo old found now p =
 abbrev pub StopsBehind : Pending → (found now : Marked) → Progress → WriteLineFault → Type 0
 StopsBehind old found now p lines.OutOfMemory = SomeAreIn old found now p
 StopsBehind old found now p fault =
-    (left : Option (List ℕ)) × Loads old left [] found now p × Stops old.form left fault
+    (left : Option (List ℕ)) × Loads old left [] found now p
+    × Stops old.form old.last left fault
 
 -- The store refused the batch of the lines behind those that are in.
 abbrev pub KeepsNextOut : (Asked → ShelfFault → Type 0) → (Held → Type 0) → Pending

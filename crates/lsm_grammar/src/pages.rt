@@ -513,7 +513,7 @@ hold no whole record, as a kill may leave them. Those bytes are left out.
 Of each key in the logs the last write comes in, as one table more at level 0;
 then a new manifest names it and the tables that are there, and reads none of
 the logs. They stay in the folder until `lsm clean`, or until LevelDB opens it.
-Where no log is to be read, nothing is written, and L is 0.
+Where no log is to be read, nothing comes in, and L is 0.
 
 The tables are read and checked before. A table or a log that is damaged is
 refused, and named. Compressed tables are `refused 16 Compressed`: `lsm import`

@@ -1,5 +1,5 @@
 -- Lines that are taken, and their writes.
-use Rattle.std.proofs.Common.{◌≡◌, ℕ, Bool, List, [], ◌∷◌, ◌++◌, Option, Some, None, refl, sym, ap, ◌∙◌, subst, append_assoc, append-nil, inl, inr}
+use Rattle.std.proofs.Common.{◌≡◌, ℕ, Bool, IsFalse, List, [], ◌∷◌, ◌++◌, Option, Some, None, refl, sym, ap, ◌∙◌, subst, append_assoc, append-nil, inl, inr}
 use Rattle.lsm_text.specs.EntryList.{lines_of}
 use Rattle.lsm_text.specs.BatchText.{AreWriteLines, IsWriteLine}
 use Rattle.lsm_text.specs.declared.form.Form.{Form}
@@ -19,19 +19,19 @@ takes_begins line None new t = tt
 takes_begins line (Some xs) None t = absurd t
 takes_begins line (Some xs) (Some ys) t = (lines_of ys, t)
 
-pub stops_at : (form : Form) (line : List ℕ) (old new : Option (List ℕ)) (fault : WriteLineFault) → TakesLine line old new → IsNoWrite form line fault → Stops form old fault
-stops_at form line old new (BadLine place) t none = (line, takes_begins line old new t, none)
-stops_at form line old new OutOfMemory t none = tt
-stops_at form line old new LongLine t none = absurd none
-stops_at form line old new LargeWrite t none = absurd none
-stops_at form line old new NoNewline t none = absurd none
-stops_at form line old new Read t none = absurd none
+pub stops_at : (form : Form) (last : Bool) (line : List ℕ) (old new : Option (List ℕ)) (fault : WriteLineFault) → TakesLine line old new → IsNoWrite form line fault → Stops form last old fault
+stops_at form last line old new (BadLine place) t none = (line, takes_begins line old new t, none)
+stops_at form last line old new OutOfMemory t none = tt
+stops_at form last line old new LongLine t none = absurd none
+stops_at form last line old new LargeWrite t none = absurd none
+stops_at form last line old new NoNewline t none = absurd none
+stops_at form last line old new Read t none = absurd none
 
-pub stops_unended : (form : Form) (old new : Lined) → IsNextHeld old new held.Last → Stops form old.left NoNewline
-stops_unended form old new i = (new.line, takes_begins new.line old.left new.left i.1, i.2)
+pub stops_unended : (form : Form) (last : Bool) (old new : Lined) → IsFalse last → IsNextHeld old new held.Last → Stops form last old.left NoNewline
+stops_unended form last old new not i = (not, (new.line, takes_begins new.line old.left new.left i.1, i.2))
 
-pub stops_long : (form : Form) (old new : Lined) → IsNextHeld old new held.TooLong → Stops form old.left LongLine
-stops_long form old new i = (i.0, i.2, i.1)
+pub stops_long : (form : Form) (last : Bool) (old new : Lined) → IsNextHeld old new held.TooLong → Stops form last old.left LongLine
+stops_long form last old new i = (i.0, i.2, i.1)
 
 -- ---- lines, one after another
 
@@ -123,7 +123,7 @@ pub gathered_none : (form : Form) (last : Bool) (old : Option (List ℕ)) (kept 
 gathered_none form last old kept after none = ([], reads_none form old, append-nil kept ∙ ap (λ (l : List Write). l ++ kept) (sym none), ended_none last old)
 
 pub stopped : (old : Pending) (ws before : List Write) (left : Option (List ℕ)) (fault : WriteLineFault) → before ≡ old.held → Fills old.form old.last old.left left before ws
-    → Stops old.form left fault → StopsBy old ws fault
+    → Stops old.form old.last left fault → StopsBy old ws fault
 stopped old ws before left (BadLine place) same f s = (left, gathered_all old.form old.last old.left left before old.held ws same f, s)
 stopped old ws before left LongLine same f s = (left, gathered_all old.form old.last old.left left before old.held ws same f, s)
 stopped old ws before left LargeWrite same f s = (left, gathered_all old.form old.last old.left left before old.held ws same f, s)
@@ -133,5 +133,5 @@ stopped old ws before left OutOfMemory same f s = (left, [], gathered_all old.fo
 
 -- the same, as the reader's fields give it
 pub stopped_of : (v old : Pending) → v ≡ old → (ws before : List Write) (left : Option (List ℕ)) (fault : WriteLineFault) → before ≡ v.held → Fills v.form v.last v.left left before ws
-    → Stops v.form left fault → StopsBy old ws fault
+    → Stops v.form v.last left fault → StopsBy old ws fault
 stopped_of v old is ws before left fault same f s = subst (λ (p : Pending). StopsBy p ws fault) is (stopped v ws before left fault same f s)

@@ -38,4 +38,5 @@ IsFilled form last old new before after Enough = Fills form last old new before 
 IsFilled form last old new before after End =
     (left : Option (List ℕ)) × Fills form last old left before after × IsAtEnd left
 IsFilled form last old new before after (Stopped fault) =
-    (left : Option (List ℕ)) × Fills form last old left before after × Stops form left fault
+    (left : Option (List ℕ)) × Fills form last old left before after
+    × Stops form last left fault

@@ -32,17 +32,19 @@ pub record Reads (form : Form) (old new : Option (List ℕ)) (writes : List Writ
   pub taken : TakesLines lines old new
   pub spelled : AreWriteLines form lines writes
 
--- Why the first line of what is left is no write that a batch may have. A failed read, and want of
--- memory, say nothing of it.
-abbrev pub Stops : Form → Option (List ℕ) → WriteLineFault → Type 0
-Stops form left (BadLine fault) =
+-- Why the first line of what is left is no write that a batch may have, where the last one may lack
+-- its newline, or not. A failed read, and want of memory, say nothing of it.
+abbrev pub Stops : Form → (last : Bool) → Option (List ℕ) → WriteLineFault → Type 0
+Stops form last left (BadLine fault) =
     (line : List ℕ) × BeginsWith line left × ((w : Write) → IsWriteLine form line w → ⊥)
-Stops form left LongLine = (line : List ℕ) × BeginsWith line left × (most_of_line < length line)
-Stops form left LargeWrite = (line : List ℕ) × BeginsWith line left
+Stops form last left LongLine =
+    (line : List ℕ) × BeginsWith line left × (most_of_line < length line)
+Stops form last left LargeWrite = (line : List ℕ) × BeginsWith line left
     × ((w : Write) × IsWriteLine form line w × IsLarge w)
-Stops form left NoNewline = (line : List ℕ) × BeginsWith line left × IsUnended line left
-Stops form left Read = ⊤
-Stops form left OutOfMemory = ⊤
+Stops form last left NoNewline =
+    IsFalse last × ((line : List ℕ) × BeginsWith line left × IsUnended line left)
+Stops form last left Read = ⊤
+Stops form last left OutOfMemory = ⊤
 
 -- ---- batches
 
@@ -73,7 +75,8 @@ Gathers old left held ws = (writes : List Write) × Reads old.form old.left left
 abbrev pub StopsBy : Pending → List Write → WriteLineFault → Type 0
 StopsBy old ws OutOfMemory = (left : Option (List ℕ)) × (held : List Write)
     × Gathers old left held ws
-StopsBy old ws fault = (left : Option (List ℕ)) × Gathers old left [] ws × Stops old.form left fault
+StopsBy old ws fault = (left : Option (List ℕ)) × Gathers old left [] ws
+    × Stops old.form old.last left fault
 
 -- What ended the batch of these writes: its limits; the input's end; or the line that comes next.
 abbrev pub EndsBy : Pending → Pending → List Write → BatchEnd → Type 0

@@ -56,7 +56,7 @@ fn next_line<I: Read + Drop>(last: bool, lines: &mut LineReader<I>) -> Result<bo
         → TakesLine lines.new.line lines.old.left lines.new.left
         × AreEnded last lines.old.left lines.new.left) }
     ensures none { IfOk result (λ more. more ≡ false → IsAtEnd lines.old.left) }
-    ensures stops { IfErr result (λ e. (form : Form) → Stops form lines.old.left e) }
+    ensures stops { IfErr result (λ e. (form : Form) → Stops form last lines.old.left e) }
 {
     match lines.next_held() {
         Ok(HeldLine::Line) => Ok(true),
@@ -84,7 +84,7 @@ fn next_write<I: Read + Drop>(
         × TakesLine line lines.old.left lines.new.left × IsWriteLine form line w
         × AreEnded last lines.old.left lines.new.left)) }
     ensures none { IfOk result (λ o. IfNone o (IsAtEnd lines.old.left)) }
-    ensures stops { IfErr result (Stops form lines.old.left) }
+    ensures stops { IfErr result (Stops form last lines.old.left) }
 {
     match next_line(last, lines) {
         Ok(true) => match write_of(alloc, form, lines.line()) {

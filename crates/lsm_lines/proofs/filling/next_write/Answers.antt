@@ -12,7 +12,7 @@ returns-in-Ok-clause-some g c =
 pub returns-in-Err-write_of-clause-stops : goal.returns-in-Err-write_of-clause-stops
 returns-in-Err-write_of-clause-stops g c =
     let taken = c.in-Ok-true.ensures.line c.in-Ok-true.field-0-test in
-    stops_at c.args.form c.next_line.new.lines.line c.args.lines.now.left c.next_line.new.lines.left c.in-Err-write_of.fault taken.0
+    stops_at c.args.form c.args.last c.next_line.new.lines.line c.args.lines.now.left c.next_line.new.lines.left c.in-Err-write_of.fault taken.0
     (subst (λ l. IsNoWrite c.args.form l c.in-Err-write_of.fault) c.line.ensures c.in-Err-write_of.ensures.bad)
 
 pub returns-in-Err-clause-stops : goal.returns-in-Err-clause-stops
