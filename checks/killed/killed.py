@@ -177,7 +177,9 @@ class Killer:
         words = ["compact", self.path, "--workers", str(self.rng.randrange(1, 9)), "--accept-rest"]
         status, out, err = self.run(words, kills)
         self.counts["compactions"] += 1
-        if status in (1, None) and err.startswith("refused 10 Missing\n") and not self.is_begun:
+        # A kill may come within the line.
+        is_missing = err.startswith("refused 10 Missing\n") or (status is None and "refused 10 Missing\n".startswith(err))
+        if status in (1, None) and is_missing and not self.is_begun:
             return status is None  # killed behind its refusal, or not
         if status not in (0, None) or err or (status == 0 and not re.fullmatch(r"installed \d+\n", out)):
             self.stop(f"lsm compact {' '.join(words[2:])}: status {status}, answers {out[:100]!r}, says: {err[:300]}")
