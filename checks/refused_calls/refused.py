@@ -147,7 +147,7 @@ class Refuser:
         if command == "ingest" and status == 1:
             self.counts["whole batch in all the same"] += found is self.after
         # it goes on, and LevelDB too
-        self.done(*(["ingest", self.db, self.batch] if command == "ingest" else ["compact", self.db]))
+        self.done(*(["ingest", self.db, self.batch] if command == "ingest" else ["compact", self.db, "--accept-rest"]))
         self.look(after)
         self.look_by_leveldb(after)
 
