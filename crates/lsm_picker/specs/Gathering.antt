@@ -32,6 +32,10 @@ HasEight target_size rs ts =
     (t : Table) × Has ts t × AllMayGather target_size rs ts t.number
     × (8 ≤ length (newest t.number ts))
 
+-- there are eleven files, or more, and eight newest ones of them, or more, may be gathered
+abbrev pub IsCrowded : ℕ → List Reserved → List Table → Type 0
+IsCrowded target_size rs ts = (11 ≤ length ts) × HasEight target_size rs ts
+
 -- At most one file is newer; or the newer ones together are below half the target size, and the
 -- file has at most one and a half times their bytes.
 abbrev pub IsWorthAdding : ℕ → List Table → Table → Type 0
@@ -47,9 +51,9 @@ pub record CanGather (target_size : ℕ) (rs : List Reserved) (ts : List Table) 
   pub worth : (t : Table) → Has ts t → oldest.number ≤ t.number → IsWorthAdding target_size ts t
   pub two : 2 ≤ length (newest oldest.number ts)
 
--- As many of the newest files as can be, where eight may be; said by the number of the oldest.
+-- As many of the newest files as can be, where level 0 is crowded, by the number of the oldest.
 pub record IsToGather (v : Levels) (rs : List Reserved) (target_size number : ℕ) : Type 0 where
-  pub eight : HasEight target_size rs (level_in v.tables 0)
+  pub crowded : IsCrowded target_size rs (level_in v.tables 0)
   pub oldest : Table
   pub here : Has (level_in v.tables 0) oldest
   pub its : oldest.number ≡ number
@@ -57,9 +61,9 @@ pub record IsToGather (v : Levels) (rs : List Reserved) (target_size number : �
   pub least : (t : Table) → Has (level_in v.tables 0) t
       → CanGather target_size rs (level_in v.tables 0) t → number ≤ t.number
 
--- eight may not be gathered, or no file is such an oldest one
+-- level 0 is not crowded, or no file is such an oldest one
 abbrev pub HasNoneToGather : Levels → List Reserved → ℕ → Type 0
-HasNoneToGather v rs target_size = HasEight target_size rs (level_in v.tables 0)
+HasNoneToGather v rs target_size = IsCrowded target_size rs (level_in v.tables 0)
     → (t : Table) → Has (level_in v.tables 0) t
     → CanGather target_size rs (level_in v.tables 0) t → ⊥
 

@@ -4,6 +4,7 @@ ghost use Rattle.std.specs.Prelude.{◌≡◌, ◌<◌, ◌≤◌, ◌^◌, ◌*
 ghost use Rattle.lsm_table.specs.Registry.{bytes_of};
 ghost use Rattle.std.specs.List.{filter};
 ghost use Rattle.lsm_picker.specs.Gathering.{AllMayGather, HasEight, HasNoneToGather};
+ghost use Rattle.lsm_picker.specs.Gathering.{IsCrowded};
 ghost use Rattle.lsm_picker.specs.Gathering.{IsFirstAbove, IsGreater, IsLastToStay, IsLesser};
 ghost use Rattle.lsm_picker.specs.Gathering.{IsReady, IsToGather, IsWorthAdding, Joins};
 ghost use Rattle.lsm_picker.specs.Gathering.{is_large, is_small, may_gather, newest};
@@ -112,6 +113,18 @@ fn has_eight<N: Naming, S: Shelf>(
         }
     }
     false
+}
+
+/// Whether there are eleven tables, or more, and eight newest of them, or more, may be gathered.
+fn is_crowded<N: Naming, S: Shelf>(
+    registry: &Registry<N, S>,
+    tables: &[TableRef<N, S>],
+    live: &[Reservation],
+    target_size: u64,
+) -> bool
+    ensures { IsTrue result ↔ IsCrowded target_size live.now tables.now }
+{
+    tables.len() >= 11 && has_eight(registry, tables, live, target_size)
 }
 
 /// Whether a table is worth adding to the newer ones.
@@ -223,10 +236,10 @@ fn large_count<N: Naming, S: Shelf>(
 /// The newest files of level 0 that are to become one, all those from the number on that it
 /// answers; none where there is nothing to gather.
 ///
-/// A file is small below half the target size. Where eight newest files of level 0, or more, are
-/// small and inputs of no live job, the two newest are gathered, and then one older file after
-/// another, as long as it is small and no such input, the newer ones together are below half the
-/// target size, and it has at most one and a half times their bytes.
+/// A file is small below half the target size. Where level 0 has eleven files, or more, and eight
+/// newest of them, or more, are small and inputs of no live job, the two newest are gathered, and
+/// then one older file after another, as long as it is small and no such input, the newer ones
+/// together are below half the target size, and it has at most one and a half times their bytes.
 pub fn to_gather<N: Naming, S: Shelf>(
     registry: &Registry<N, S>,
     version: &Version<N, S>,
@@ -238,7 +251,7 @@ pub fn to_gather<N: Naming, S: Shelf>(
         IsToGather version.now live.now target_size n) }
 {
     let tables = version.level(0);
-    if !has_eight(registry, tables, live, target_size) {
+    if !is_crowded(registry, tables, live, target_size) {
         return None;
     }
     let last = last_to_stay(registry, tables, live, target_size);
