@@ -1,7 +1,7 @@
 -- What a worker does with its shelf, and what its shelf was told when it ends (this project's
 -- rule).
 use Rattle.std.specs.Prelude.{◌≡◌, ℕ, suc, ◌-◌, ◌^◌, ◌≤◌, min, ◌⊎◌, List, [], ◌∷◌, ◌++◌, map}
-use Rattle.std.specs.Prelude.{Bool, true, Option, None, Some}
+use Rattle.std.specs.Prelude.{Bool, true, false, Option, None, Some}
 use Rattle.lsm_codec.specs.Lists.{Has}
 use Rattle.lsm_shelf.specs.Asked.{Asked, Put, StartManifest, AppendManifest}
 use Rattle.lsm_shelf.specs.Told.{Told, Becomes, Counted}
@@ -27,6 +27,7 @@ use Rattle.lsm_store.specs.Picking.{DoesGather, IsBooked, IsPicked, IsPickedUnde
 use Rattle.lsm_store.specs.WorkerFault.{of_gather}
 use Rattle.lsm_store.specs.Workers.{IsOfReserving}
 use Rattle.lsm_store.specs.declared.picks.Picks.{Picks}
+use Rattle.lsm_store.specs.declared.picks.Picks.TheVariants.{Gathering, Joining}
 use Rattle.lsm_store.specs.declared.look.Look.{Look}
 use Rattle.lsm_store.specs.declared.look.Look.TheVariants as look
 use Rattle.lsm_store.specs.declared.turn.Turn.{Turn}
@@ -207,12 +208,12 @@ IsStoppedBy Honest Refused keeps picks e was is = IsUndone Honest Refused keeps 
     ⊎ ((fault : GatherFault) × (e ≡ of_gather fault)
     × FailsToGather Honest Refused keeps picks fault was is)
 
--- A look was refused: the state has no reservation, and the shelf was asked for nothing; or files
--- were not gathered.
+-- A look was refused: a reservation, and the state was left and the shelf asked for nothing; or
+-- files were not gathered.
 abbrev pub IsLookRefused : Type 0 → (Asked → ShelfFault → Type 0) → Picks → Held → Held
     → WorkerFault → Told → Told → Type 0
 IsLookRefused Honest Refused picks old new e was is =
-    ((fault : StateFault) × (e ≡ State fault) × IsOfReserving fault × (is ≡ was))
+    ((fault : StateFault) × (e ≡ State fault) × IsOfReserving fault × (new ≡ old) × (is ≡ was))
     ⊎ ((fault : GatherFault) × (e ≡ of_gather fault) × DoesGather picks
     × IsGatherRefusal Honest old new fault was is × GatherRefused Refused old fault)
 
@@ -256,6 +257,23 @@ abbrev pub HaveEnded : Type 0 → (Asked → ShelfFault → Type 0) → (Held �
     → List WorkerEnd → Type 0
 HaveEnded Honest Refused keeps given ends = (returned : List (WorkerEnd × Option Told))
     × (ends ≡ map (λ r. r.0) returned) × AreReturned Honest Refused keeps given returned
+
+-- none where no worker only gathered; else the end of the one that did, which was given this shelf
+abbrev pub HasGathered : Type 0 → (Asked → ShelfFault → Type 0) → (Held → Type 0) → Told
+    → List WorkerEnd → Type 0
+HasGathered Honest Refused keeps shelf [] = Unit {0}
+HasGathered Honest Refused keeps shelf (e ∷ []) =
+    (back : Told) × IsWorked Honest Refused keeps (given_one Gathering false shelf) e back
+HasGathered Honest Refused keeps shelf (e ∷ f ∷ ends) = ⊥
+
+-- the ends of workers that gather and join, over these shelves, and behind them that of the one
+-- that only gathered, over a fork
+abbrev pub HaveEndedBeside : Type 0 → (Asked → ShelfFault → Type 0) → (Held → Type 0) → List Told
+    → Told → List WorkerEnd → Type 0
+HaveEndedBeside Honest Refused keeps shelves fork ends =
+    (each : List WorkerEnd) × (gathered : List WorkerEnd) × (ends ≡ each ++ gathered)
+    × HaveEnded Honest Refused keeps (given_each Joining false shelves) each
+    × HasGathered Honest Refused keeps fork gathered
 
 -- ---- what follows
 

@@ -1,19 +1,27 @@
 //! What a program has of the workers beside it.
 
-ghost use Rattle.std.specs.Prelude.{◌≡◌, IfErr, IfOk, false};
+ghost use Rattle.std.specs.Prelude.{◌≡◌, All, IfErr, IfOk, false, true, vec_len};
 ghost use Rattle.lsm_store.specs.Background.{BringsIn, IsBroughtIn, IsIngestStep, IsKeptByIngest};
 ghost use Rattle.lsm_store.specs.Background.{IsKeptOut, KeepsOut};
+ghost use Rattle.lsm_store.specs.Compacting.{IsKeptByCompaction};
+ghost use Rattle.lsm_store.specs.Workers.{IsWorkersEnd};
+ghost use Rattle.lsm_store.specs.Working.{AreReturned, given_each};
 
 use crate::bell::Bell;
 use crate::invariant::Invariant;
+use crate::picks::Picks;
+use crate::ringing::Ringing;
 use crate::store::Store;
+use crate::worker_thread::Returned;
+use crate::workers::run_workers_by;
 use lsm_batch::Batch;
 use lsm_history::Memory;
 use lsm_slots::Boarded;
 use lsm_state::{Ingested, State, StateFault};
 use lsm_table::{NamedShelf, Shelf};
-use std::alloc::Global;
+use std::alloc::{AllocFailed, Global};
 use std::sync::Wait;
+use std::thread::Threads;
 
 /// Brings the batch into the state, and remembers the history with it. Where it came in the bell is
 /// rung, so that nobody who sees the batch has missed the ring.
@@ -97,8 +105,8 @@ impl Background {
     /// (`State::recall`) at any later one, whose history goes on from it.
     ///
     /// The refusals are those of `State::ingest`. `LevelZeroFull` only where no worker can make
-    /// room: each has ended, or found nothing to do, as where a job of the caller's own holds the
-    /// files of level 0.
+    /// room: each has ended, or found nothing to do, and nobody is within `compact`; as where a job
+    /// of the caller's own holds the files of level 0.
     #[tactic(auto, using(crate::proofs::BackgroundLaws::full_asks_nothing))]
     pub fn ingest<N: Boarded, S: Shelf, K: Invariant, R: Wait>(
         &self,
@@ -117,6 +125,32 @@ impl Background {
             Err(StateFault::LevelZeroFull) => self.ingest_stalled(rt, alloc, store, shelf, batch),
             came => came,
         }
+    }
+
+    /// Compacts what is picked with workers of the caller's own, one for each shelf, as
+    /// `run_workers_by` does, while these work on. Until its end they count among the workers that
+    /// may make room at level 0: a writer that found it full waits for them too, and tries again
+    /// before each of their merges and once they have ended.
+    pub fn compact<N: Boarded, S: Shelf, K: Invariant, R: Threads + Wait + Sync>(
+        &self,
+        rt: &R,
+        alloc: Global,
+        store: &Store<N, S, K>,
+        shelves: Vec<NamedShelf<N, S>>,
+        picks: &Picks,
+    ) -> Result<Vec<Returned<N, S>>, AllocFailed<Vec<NamedShelf<N, S>>>>
+        requires kept { IsKeptByCompaction S.honest K.keeps }
+        ensures len { IfOk result (λ v. vec_len v ≡ vec_len shelves) }
+        ensures ends { IfOk result (λ v. All (λ r. IsWorkersEnd S.honest r.0) v.items) }
+        ensures returned { IfOk result (λ v. AreReturned S.honest (S.refuses N.place) K.keeps
+            (given_each picks.now true shelves.items) v.items) }
+        ensures back { IfErr result (λ e. e.value ≡ shelves) }
+    {
+        let bell = &self.bell;
+        bell.enter(rt);
+        let returned = run_workers_by(rt, alloc, store, shelves, &Ringing { rt, bell }, picks);
+        bell.leave(rt);
+        returned
     }
 
     // Tries again each time that the bell has rung. It is rung here first: workers look again, also

@@ -1,13 +1,14 @@
 //! Workers that compact in the background of a program.
 
-ghost use Rattle.std.specs.Prelude.{◌≡◌, ◌≤◌, List, [], All, IfErr, IfOk, IfSome, false};
+ghost use Rattle.std.specs.Prelude.{◌≡◌, ◌+◌, ◌<◌, ◌≤◌, ◌++◌, List, [], All, IfErr, IfOk};
+ghost use Rattle.std.specs.Prelude.{IfSome, false};
 ghost use Rattle.std.specs.Prelude.{vec_capacity, vec_len};
 ghost use Rattle.lsm_store.specs.Compacting.{IsKeptByCompaction};
 ghost use Rattle.lsm_shelf.specs.Told.{Told, fresh};
 ghost use Rattle.lsm_store.specs.Sweeping.{HasSwept, LastForkedTwice};
 ghost use Rattle.lsm_store.specs.Workers.{IsWorkersEnd};
-ghost use Rattle.lsm_store.specs.Working.{AreReturned, HaveEnded, IsReturned, given_each};
-ghost use Rattle.lsm_store.specs.Working.{given_one};
+ghost use Rattle.lsm_store.specs.Working.{AreReturned, HasGathered, HaveEndedBeside};
+ghost use Rattle.lsm_store.specs.Working.{IsReturned, given_each, given_one};
 ghost use Rattle.lsm_store.specs.declared.picks.Picks.TheVariants.{Gathering, Joining};
 
 use crate::background::Background;
@@ -31,8 +32,8 @@ use std::thread;
 use std::thread::{Scope, Threads};
 
 /// What comes back of a body and of those that worked beside it: what it answered; what comes back
-/// of each worker; what comes back of the one that only gathered, none where there was none; and the
-/// shelf of the thread that swept, none where there was no such thread.
+/// of each worker; what comes back of the one that only gathered, none where there was none; and
+/// the shelf of the thread that swept, none where there was no such thread.
 pub type ReturnedBeside<N, S, T> = (
     T,
     Vec<Returned<N, S>>,
@@ -104,7 +105,8 @@ fn join_gathering<N: Boarded, S: Shelf, K: Invariant, R: Threads>(
     requires given { IfSome thread (λ t. t.given.value ≡ fresh N.place) }
     requires picks { IfSome thread (λ t. t.picks.value ≡ Gathering) }
     requires to_the_end { IfSome thread (λ t. t.to_the_end ≡ false) }
-    ensures { IfSome result (λ g. IsReturned S.honest (S.refuses N.place) K.keeps
+    ensures end { IfSome result (λ g. IsWorkersEnd S.honest g.0) }
+    ensures returned { IfSome result (λ g. IsReturned S.honest (S.refuses N.place) K.keeps
         (given_one Gathering false (fresh N.place)) g.0 g.1) }
 {
     match thread {
@@ -114,8 +116,8 @@ fn join_gathering<N: Boarded, S: Shelf, K: Invariant, R: Threads>(
 }
 
 /// Runs a worker for each shelf beside the body, which gathers and joins small files; one that only
-/// gathers; and threads that draw numbers for them and sweep. There is room for threads and for what
-/// comes back.
+/// gathers; and threads that draw numbers for them and sweep. There is room for threads and for
+/// what comes back.
 fn run_beside<
     N: Boarded,
     S: Shelf,
@@ -145,8 +147,9 @@ fn run_beside<
     ensures returned { IfOk result (λ r. (lent : List Told) × LastForkedTwice shelves.items lent
         × AreReturned S.honest (S.refuses N.place) K.keeps (given_each Joining false lent)
         r.1.items) }
-    ensures gathered { IfOk result (λ r. IfSome r.2 (λ g. IsReturned S.honest (S.refuses N.place)
-        K.keeps (given_one Gathering false (fresh N.place)) g.0 g.1)) }
+    ensures gathered { IfOk result (λ r. IfSome r.2 (λ g. IsWorkersEnd S.honest g.0
+        × IsReturned S.honest (S.refuses N.place) K.keeps
+        (given_one Gathering false (fresh N.place)) g.0 g.1)) }
     ensures swept { IfOk result (λ r.
         IfSome r.3 (HasSwept (S.refuses N.place) K.keeps (fresh N.place))) }
     ensures back { IfErr result (λ e. e.value ≡ (shelves, body)) }
@@ -177,11 +180,13 @@ fn run_beside<
             ensures answer { IfOk result (λ r. (b : _) × F.post body b r.0) }
             ensures len { IfOk result (λ r. vec_len r.1 ≡ vec_len shelves) }
             ensures ends { IfOk result (λ r. All (λ w. IsWorkersEnd S.honest w.0) r.1.items) }
-            ensures returned { IfOk result (λ r. (lent : List Told) × LastForkedTwice shelves.items lent
+            ensures returned { IfOk result (λ r. (lent : List Told)
+                × LastForkedTwice shelves.items lent
                 × AreReturned S.honest (S.refuses N.place) K.keeps (given_each Joining false lent)
                 r.1.items) }
-            ensures gathered { IfOk result (λ r. IfSome r.2 (λ g. IsReturned S.honest (S.refuses N.place)
-                K.keeps (given_one Gathering false (fresh N.place)) g.0 g.1)) }
+            ensures gathered { IfOk result (λ r. IfSome r.2 (λ g. IsWorkersEnd S.honest g.0
+                × IsReturned S.honest (S.refuses N.place) K.keeps
+                (given_one Gathering false (fresh N.place)) g.0 g.1)) }
             ensures swept { IfOk result (λ r.
                 IfSome r.3 (HasSwept (S.refuses N.place) K.keeps (fresh N.place))) }
             ensures back { IfErr result (λ e. e.value ≡ (shelves, body)) }
@@ -262,8 +267,9 @@ pub fn with_workers_returning<
     ensures returned { IfOk result (λ r. (lent : List Told) × LastForkedTwice shelves.items lent
         × AreReturned S.honest (S.refuses N.place) K.keeps (given_each Joining false lent)
         r.1.items) }
-    ensures gathered { IfOk result (λ r. IfSome r.2 (λ g. IsReturned S.honest (S.refuses N.place)
-        K.keeps (given_one Gathering false (fresh N.place)) g.0 g.1)) }
+    ensures gathered { IfOk result (λ r. IfSome r.2 (λ g. IsWorkersEnd S.honest g.0
+        × IsReturned S.honest (S.refuses N.place) K.keeps
+        (given_one Gathering false (fresh N.place)) g.0 g.1)) }
     ensures swept { IfOk result (λ r.
         IfSome r.3 (HasSwept (S.refuses N.place) K.keeps (fresh N.place))) }
     ensures back { IfErr result (λ e. e.value ≡ (shelves, body)) }
@@ -281,8 +287,33 @@ pub fn with_workers_returning<
     run_beside(rt, alloc, store, shelves, gate, body, threads, returned)
 }
 
-/// As `with_workers_returning`, and the shelves are let go, with what the worker that only gathers has
-/// done.
+/// The ends of workers, and behind them that of the one which only gathered, where its thread was
+/// made; there is room for one more.
+fn with_gathered<N: Boarded, S: Shelf, K: Invariant>(
+    ends: Vec<WorkerEnd>,
+    gathered: Option<Returned<N, S>>,
+) -> Vec<WorkerEnd>
+    requires end { IfSome gathered (λ g. IsWorkersEnd S.honest g.0) }
+    requires returned { IfSome gathered (λ g. IsReturned S.honest (S.refuses N.place) K.keeps
+        (given_one Gathering false (fresh N.place)) g.0 g.1) }
+    requires room { vec_len ends < vec_capacity ends }
+    ensures ends { (more : List WorkerEnd) × (result.items ≡ ends.items ++ more)
+        × All (IsWorkersEnd S.honest) more
+        × HasGathered S.honest (S.refuses N.place) K.keeps (fresh N.place) more }
+    ensures len { (vec_len ends ≤ vec_len result) × (vec_len result ≤ vec_len ends + 1) }
+{
+    let Some((end, Some(_shelf))) = gathered else {
+        return ends;
+    };
+    let mut ends = ends;
+    let Ok(()) = ends.push(end) else {
+        unreachable!()
+    };
+    ends
+}
+
+/// As `with_workers_returning`, and the shelves are let go. Behind the ends of the workers, one for
+/// each shelf, is that of the worker that only gathers, where it had a thread.
 pub fn with_workers<
     N: Boarded,
     S: Shelf,
@@ -302,22 +333,28 @@ pub fn with_workers<
     requires kept { IsKeptByCompaction S.honest K.keeps }
     requires body { F.IsAlwaysCallable body }
     ensures answer { IfOk result (λ r. (b : _) × F.post body b r.0) }
-    ensures len { IfOk result (λ r. vec_len r.1 ≡ vec_len shelves) }
+    ensures len { IfOk result (λ r. (vec_len shelves ≤ vec_len r.1)
+        × (vec_len r.1 ≤ vec_len shelves + 1)) }
     ensures ends { IfOk result (λ r. All (IsWorkersEnd S.honest) r.1.items) }
     ensures ended { IfOk result (λ r. (lent : List Told) × LastForkedTwice shelves.items lent
-        × HaveEnded S.honest (S.refuses N.place) K.keeps (given_each Joining false lent)
-        r.1.items) }
+        × HaveEndedBeside S.honest (S.refuses N.place) K.keeps lent (fresh N.place) r.1.items) }
     ensures back { IfErr result (λ e. e.value ≡ (shelves, body)) }
 {
-    let Ok(ends) = Vec::with_capacity(alloc, shelves.len()) else {
+    let Some(room) = shelves.len().checked_add(1) else {
+        return Err(AllocFailed {
+            value: (shelves, body),
+        });
+    };
+    let Ok(ends) = Vec::with_capacity(alloc, room) else {
         return Err(AllocFailed {
             value: (shelves, body),
         });
     };
     match with_workers_returning(rt, alloc, store, shelves, gate, body) {
         Ok(done) => {
-            let (answer, returned, _gathered, _swept) = done;
-            Ok((answer, ends_of(returned, ends)))
+            let (answer, returned, gathered, _swept) = done;
+            let ends = ends_of(returned, ends);
+            Ok((answer, with_gathered::<N, S, K>(ends, gathered)))
         }
         Err(refused) => Err(refused),
     }

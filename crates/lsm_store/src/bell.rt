@@ -30,9 +30,9 @@ impl Rung {
 /// A bell that is rung after each change by which there may be more to do, or room at level 0.
 /// Workers sleep until it rings, and so do writers that found level 0 full.
 ///
-/// Nothing here takes the lock of the store; a writer rings while it holds it. Whoever waits has read
-/// before its last look at the state how often the bell was rung, and waits only while that is still
-/// so. So no ring is missed; and where a writer found level 0 full, and each worker has found
+/// Nothing here takes the lock of the store; a writer rings while it holds it. Whoever waits has
+/// read before its last look at the state how often the bell was rung, and waits only while that is
+/// still so. So no ring is missed; and where a writer found level 0 full, and each worker has found
 /// nothing to do since the last ring, that was after the last batch which the writer saw.
 #[derive(Drop)]
 pub(crate) struct Bell {
@@ -87,6 +87,12 @@ impl Bell {
         rung.installs = rung.installs.wrapping_add(1);
         rung.ring();
         self.changed.notify_all();
+    }
+
+    /// One worker more, which leaves the bell once, and is not idle until then.
+    pub(crate) fn enter<R: Wait>(&self, rt: &R) {
+        let mut rung = self.rung.lock(rt);
+        rung.working = rung.working.saturating_add(1);
     }
 
     /// A worker ends. The others are to look again: its job may be left to them.

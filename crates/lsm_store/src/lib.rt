@@ -25,6 +25,7 @@ mod gate;
 mod look;
 mod manual_compaction;
 mod picks;
+mod ringing;
 mod sweeper;
 mod sweeping;
 mod turn;

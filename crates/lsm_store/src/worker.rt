@@ -1,7 +1,7 @@
 //! What a worker does in its thread.
 
 ghost use Rattle.std.specs.Prelude.{◌≡◌, ℕ, ◌-◌, ◌^◌, min, List, ◌∷◌, IfErr, IfOk, MatchBool};
-ghost use Rattle.std.specs.Prelude.{MatchOption, OnOk};
+ghost use Rattle.std.specs.Prelude.{MatchOption, OnErr, OnOk};
 ghost use Rattle.lsm_live.specs.Booked.{HasTicket, without};
 ghost use Rattle.lsm_state.specs.Gathering.{GatherRefused, Gathers, HasNoneToGather};
 ghost use Rattle.lsm_state.specs.Gathering.{IsGatherRefusal};
@@ -89,6 +89,7 @@ fn chosen_job<N: Boarded, S: Shelf>(
     ensures booked { IfOk result (λ r. IsBooked r state.old state.new) }
     ensures step { IsCompactingStep S.honest state.old state.new }
     ensures refused { IfErr result IsOfReserving }
+    ensures err { OnErr result (state.new ≡ state.old) }
 {
     match state.reserve(alloc) {
         Ok(Some(job)) => Ok(Some(job)),
@@ -107,6 +108,7 @@ fn joining_job<N: Boarded, S: Shelf>(
     ensures booked { IfOk result (λ r. IsBooked r state.old state.new) }
     ensures step { IsCompactingStep S.honest state.old state.new }
     ensures refused { IfErr result IsOfReserving }
+    ensures err { OnErr result (state.new ≡ state.old) }
 {
     match state.reserve_next(alloc) {
         Ok(Some(job)) => Ok(Some(job)),
@@ -126,6 +128,7 @@ fn manual_job<N: Boarded, S: Shelf>(
     ensures booked { IfOk result (λ r. IsBooked r state.old state.new) }
     ensures step { IsCompactingStep S.honest state.old state.new }
     ensures refused { IfErr result IsOfReserving }
+    ensures err { OnErr result (state.new ≡ state.old) }
 {
     match manual.reserve(state, alloc) {
         Ok(Some(job)) => Ok(Some(job)),
@@ -144,6 +147,7 @@ fn next_job<N: Boarded, S: Shelf>(
     ensures booked { IfOk result (λ r. IsBooked r state.old state.new) }
     ensures step { IsCompactingStep S.honest state.old state.new }
     ensures refused { IfErr result IsOfReserving }
+    ensures err { OnErr result (state.new ≡ state.old) }
 {
     match picks {
         Picks::Choice => chosen_job(state, alloc),

@@ -160,6 +160,7 @@ pub(crate) fn ends_of<N: Boarded, S: Shelf>(
     requires room { vec_len returned ≤ vec_capacity ends }
     ensures ends { result.items ≡ map (λ r. r.0) returned.items }
     ensures len { vec_len result ≡ vec_len returned }
+    ensures capacity { vec_capacity ends ≤ vec_capacity result }
 {
     let mut ends = ends;
     for back in returned {
