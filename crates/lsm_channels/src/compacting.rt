@@ -21,8 +21,7 @@ use lsm_history::Memory;
 use lsm_slots::Boarded;
 use lsm_state::{State, StateFault};
 use lsm_store::{
-    Background, Invariant, ManualCompaction, NoGate, Picks, Returned, Store, WorkerEnd,
-    WorkerFault, run_workers_by,
+    Background, Invariant, ManualCompaction, Picks, Returned, Store, WorkerEnd, WorkerFault,
 };
 use lsm_table::{NamedShelf, Shelf, ShelfFault};
 use std::alloc::{AllocError, Global};
@@ -62,11 +61,13 @@ fn end_of<N: Boarded, S: Shelf>(returned: Vec<Returned<N, S>>) -> WorkerEnd
     end
 }
 
-/// One more worker compacts what is picked, with a fork of the shelf. Ok where it has no fault.
+/// One more worker compacts what is picked, with a fork of the shelf, beside those of the
+/// background. Ok where it has no fault.
 fn work<N: Boarded, S: Shelf, K: Invariant, R: Threads + Wait + Sync>(
     rt: &R,
     alloc: Global,
     store: &Store<N, S, K>,
+    background: &Background,
     shelf: &mut NamedShelf<N, S>,
     picks: &Picks,
 ) -> Result<(), WorkerFault>
@@ -81,7 +82,7 @@ fn work<N: Boarded, S: Shelf, K: Invariant, R: Threads + Wait + Sync>(
         Ok(shelves) => shelves,
         Err(fault) => return Err(WorkerFault::State(StateFault::Shelf(fault))),
     };
-    let returned = match run_workers_by(rt, alloc, store, shelves, &NoGate, picks) {
+    let returned = match background.compact(rt, alloc, store, shelves, picks) {
         Ok(returned) => returned,
         Err(_) => return Err(WorkerFault::State(StateFault::OutOfMemory)),
     };
@@ -153,7 +154,7 @@ fn compact_once<N: Boarded, S: Shelf, K: Invariant, R: Threads + Wait + Sync>(
     ensures kept { IsKnown K.keeps memory.old → IsKnown K.keeps memory.new }
 {
     background.wait_until_idle(rt);
-    work(rt, alloc, store, shelf, &Picks::Choice)?;
+    work(rt, alloc, store, background, shelf, &Picks::Choice)?;
     match look(rt, alloc, store, memory) {
         Ok(settled) => Ok(settled),
         Err(fault) => Err(WorkerFault::State(fault)),
@@ -300,7 +301,7 @@ fn clear_once<N: Boarded, S: Shelf, K: Invariant, R: Threads + Wait + Sync>(
     ensures kept { IsKnown K.keeps memory.old → IsKnown K.keeps memory.new }
 {
     background.wait_until_idle(rt);
-    work(rt, alloc, store, shelf, picks)?;
+    work(rt, alloc, store, background, shelf, picks)?;
     Ok(look_over(rt, store, memory, picks))
 }
 

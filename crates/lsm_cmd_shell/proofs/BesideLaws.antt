@@ -1,5 +1,5 @@
 -- A conversation beside workers.
-use Rattle.std.proofs.Common.{◌≡◌, ℕ, Bool, List, All, length, Option, None, IfErr, OnOk, refl, sym, subst, inl, inr}
+use Rattle.std.proofs.Common.{◌≡◌, ◌≤◌, ◌+◌, ℕ, Bool, List, All, length, Option, None, IfErr, OnOk, refl, sym, subst, inl, inr}
 use Rattle.std.specs.Prelude.{Result, Ok, Err}
 use Rattle.lsm_codec.specs.Entries.{Entry}
 use Rattle.lsm_shelf.specs.Asked.{Asked}
@@ -29,7 +29,7 @@ lent honest known h k same later reads = record { later = later; reads = subst (
 
 pub conversed : (honest : Type 0) (start : Start) (logs : List FolderFile) (form : Form) (bails : Bool) (workers : ℕ) (input : Option (List ℕ)) (r : Result (Unit {0}) TalkFault) (ends items : List WorkerEnd)
     (was mid is : Told) (old : Option (List ℕ)) (state left : Held) (desk : OnDesk) (place : Place) → IsStarted honest start logs state was mid → Forked mid is → desk ≡ clear
-    → IsTalkedBeside honest (HasComeTo honest form input state) form bails input r (waiting state.history (fresh place) desk None) old → ∥ HasComeTo honest form input state left ∥₁ → ends ≡ items → length ends ≡ workers
+    → IsTalkedBeside honest (HasComeTo honest form input state) form bails input r (waiting state.history (fresh place) desk None) old → ∥ HasComeTo honest form input state left ∥₁ → ends ≡ items → (workers ≤ length ends) × (length ends ≤ workers + 1)
     → All (IsWorkersEnd honest) items → ConversesBeside honest start logs form bails workers input r ends was is old
 conversed honest start logs form bails workers input r ends items was mid is old state left desk place started forked desk_is talk come same count each = record {
   state = state;

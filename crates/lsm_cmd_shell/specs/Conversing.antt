@@ -1,6 +1,6 @@
 -- A conversation with the database of a folder (this project's rule).
-use Rattle.std.specs.Prelude.{◌≡◌, ◌⊎◌, ℕ, Bool, List, All, length, Option, None, Some, Result, Ok}
-use Rattle.std.specs.Prelude.{Err}
+use Rattle.std.specs.Prelude.{◌≡◌, ◌≤◌, ◌⊎◌, ℕ, ◌+◌, Bool, List, All, length, Option, None, Some}
+use Rattle.std.specs.Prelude.{Result, Ok, Err}
 use Rattle.std.specs.Io.KnownBytes.{Keeps}
 use Rattle.lsm_shelf.specs.Asked.{Asked}
 use Rattle.lsm_shelf.specs.Told.{Forked, NotNamed, Told, fresh}
@@ -72,10 +72,10 @@ IsConverseFault Stored Refused honest start logs form bails input e was is old n
 -- ---- beside workers
 
 -- The directory was begun or opened, and its shelf gave forks. With one of them a conversation went
--- on with its state, and ended so, while so many workers compacted, which ended so. Whenever the
--- state was lent, and when it was left, it had come from the one that was begun or opened by steps
--- of workers and by replies to lines of the input alone. It was said of an output that had this
--- much; that it is the caller's is to be read.
+-- on with its state, and ended so, while so many workers compacted, and one more gathered where it
+-- could be had, which ended so. Whenever the state was lent, and when it was left, it had come from
+-- the one that was begun or opened by steps of workers and by replies to lines of the input alone.
+-- It was said of an output that had this much; that it is the caller's is to be read.
 pub record ConversesBeside (honest : Type 0) (start : Start) (logs : List FolderFile) (form : Form)
     (bails : Bool) (workers : ℕ) (input : Option (List ℕ)) (r : Result (Unit {0}) TalkFault)
     (ends : List WorkerEnd) (was is : Told) (old : Option (List ℕ)) : Type 0 where
@@ -89,7 +89,7 @@ pub record ConversesBeside (honest : Type 0) (start : Start) (logs : List Folder
       (waiting state.history own clear None) old
   pub left : Held
   pub come : ∥ HasComeTo honest form input state left ∥₁
-  pub count : length ends ≡ workers
+  pub count : (workers ≤ length ends) × (length ends ≤ workers + 1)
   pub each : All (IsWorkersEnd honest) ends
 
 -- It ended well, and no worker ended early.

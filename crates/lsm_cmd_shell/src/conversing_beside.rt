@@ -1,7 +1,7 @@
 //! A conversation with the database on a shelf, while workers compact beside.
 
-ghost use Rattle.std.specs.Prelude.{◌≡◌, All, IfErr, IfNone, IfOk, IfSome, None, Ok, OnOk};
-ghost use Rattle.std.specs.Prelude.{vec_len};
+ghost use Rattle.std.specs.Prelude.{◌≡◌, ◌+◌, ◌≤◌, All, IfErr, IfNone, IfOk, IfSome, None, Ok};
+ghost use Rattle.std.specs.Prelude.{OnOk, vec_len};
 ghost use Rattle.lsm_shelf.specs.Stored.{Stored};
 ghost use Rattle.lsm_shelf.specs.Told.{Forked, fresh};
 ghost use Rattle.lsm_state.specs.Held.{Held};
@@ -68,7 +68,8 @@ where
     requires asked { IsKeptByReplies S.honest form lines.left K.keeps }
     ensures talked { IfSome result (λ r. IsTalkedBeside S.honest K.keeps form bails lines.left r.0
         (waiting memory own desk None) (O.contents out.old)) }
-    ensures count { IfSome result (λ r. vec_len r.1 ≡ vec_len shelves) }
+    ensures count { IfSome result (λ r. (vec_len shelves ≤ vec_len r.1)
+        × (vec_len r.1 ≤ vec_len shelves + 1)) }
     ensures ends { IfSome result (λ r. All (IsWorkersEnd S.honest) r.1.items) }
 {
     let told = &mut *out;
@@ -188,7 +189,8 @@ where
     requires asked { IsKeptByReplies S.honest form lines.left K.keeps }
     ensures talked { IfOk result (λ r. IsTalkedBeside S.honest K.keeps form bails lines.left r.0.0
         (waiting state.history (fresh N.place) desk None) (O.contents out.old)) }
-    ensures count { IfOk result (λ r. vec_len r.0.1 ≡ workers) }
+    ensures count { IfOk result (λ r. (workers ≤ vec_len r.0.1)
+        × (vec_len r.0.1 ≤ workers + 1)) }
     ensures ends { IfOk result (λ r. All (IsWorkersEnd S.honest) r.0.1.items) }
     ensures kept { IfOk result (λ r. ∥ K.keeps r.1 ∥₁) }
     ensures refused { IfErr result (λ e.

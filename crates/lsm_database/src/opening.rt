@@ -1,6 +1,6 @@
 //! A program runs on the database in a folder.
 
-ghost use Rattle.std.specs.Prelude.{◌≡◌, IfErr, IfOk, vec_len};
+ghost use Rattle.std.specs.Prelude.{◌≤◌, IfErr, IfOk, vec_len};
 ghost use Rattle.lsm_directory.specs.Folders.{IsFolderAt};
 ghost use Rattle.lsm_folder.specs.Calls.{AreHonest};
 ghost use Rattle.lsm_opening.specs.Preparing.{IsPrepared, plainly};
@@ -59,7 +59,7 @@ where
     P: Program,
     ensures ran { IfOk result (λ r. RunsAt C.FolderCalls path.now
         (λ es. P.says program (AreHonest C.calls) es r.0) r.1.items) }
-    ensures count { IfOk result (λ r. vec_len r.1 ≡ 2) }
+    ensures count { IfOk result (λ r. (2 ≤ vec_len r.1) × (vec_len r.1 ≤ 3)) }
     ensures refused { IfErr result (IsUnopened C.FolderCalls C.Mark.Mark path.now) }
 {
     let found = match prepare_at(rt, folders, path) {
@@ -74,7 +74,8 @@ where
 
 /// Opens the database in the folder at a path, or begins one where no file of one is there, and
 /// runs a program on it while two workers compact. Answers what the program answers, and what each
-/// worker has done: a worker that met a fault has ended early. Once it answers, the lock of the
+/// worker has done, the last one where there are three being one that only gathered: a worker that
+/// met a fault has ended early. Once it answers, the lock of the
 /// folder is free, and all that was written is on the device. `folders` says where folders are
 /// found: `SystemPaths` finds those of the system.
 ///
@@ -96,7 +97,7 @@ where
     P: Program,
     ensures ran { IfOk result (λ r. RunsAt C.FolderCalls path.now
         (λ es. P.says program (AreHonest C.calls) es r.0) r.1.items) }
-    ensures count { IfOk result (λ r. vec_len r.1 ≡ 2) }
+    ensures count { IfOk result (λ r. (2 ≤ vec_len r.1) × (vec_len r.1 ≤ 3)) }
     ensures refused { IfErr result (λ e. IsUnopened C.FolderCalls C.Mark.Mark path.now e.fault) }
 {
     match run_at(rt, folders, path, program) {

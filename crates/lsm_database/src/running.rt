@@ -1,6 +1,6 @@
 //! A program runs on the database of a shelf.
 
-ghost use Rattle.std.specs.Prelude.{◌≡◌, All, IfErr, IfOk, IfSome, vec_len};
+ghost use Rattle.std.specs.Prelude.{◌≡◌, ◌+◌, ◌≤◌, All, IfErr, IfOk, IfSome, vec_len};
 ghost use Rattle.lsm_shelf.specs.Stored.{Stored};
 ghost use Rattle.lsm_shelf.specs.Told.{Forked, NotNamed};
 ghost use Rattle.lsm_store.specs.Workers.{IsWorkersEnd};
@@ -85,7 +85,8 @@ fn run_in_store<N: Boarded, S: Shelf, R: Threads + Wait + Sync, P: Program>(
     program: P,
 ) -> Option<(P::Answer, Vec<WorkerEnd>)>
     ensures said { IfSome result (λ r. P.says program S.honest memory r.0) }
-    ensures count { IfSome result (λ r. vec_len r.1 ≡ vec_len shelves) }
+    ensures count { IfSome result (λ r. (vec_len shelves ≤ vec_len r.1)
+        × (vec_len r.1 ≤ vec_len shelves + 1)) }
     ensures ends { IfSome result (λ r. All (IsWorkersEnd S.honest) r.1.items) }
 {
     let run = with_workers(
@@ -132,7 +133,7 @@ fn run_named<N: Boarded, S: Shelf, R: Threads + Wait + Sync, P: Program>(
     requires parts { AreOf usual N.registry N.board N.history parts }
     ensures ran { IfOk result (λ r. Runs S.honest prepared.now.start prepared.now.logs.items
         (λ es. P.says program S.honest es r.0) r.1.items shelf.old shelf.new) }
-    ensures count { IfOk result (λ r. vec_len r.1 ≡ workers) }
+    ensures count { IfOk result (λ r. (workers ≤ vec_len r.1) × (vec_len r.1 ≤ workers + 1)) }
     ensures refused { IfErr result (λ e. IsRunRefusal (Stored S.Receipt (S.is_of N.place)
         S.Receipt.number S.Receipt.image) (S.refuses N.place) S.honest prepared.now.start
         prepared.now.logs.items e shelf.old shelf.new) }
@@ -174,7 +175,8 @@ fn run_as<N: Boarded, S: Shelf, R: Threads + Wait + Sync, P: Program>(
     requires shelf { (S.told shelf).place ≡ N.place }
     ensures ran { IfOk result.0 (λ r. Runs S.honest prepared.now.start prepared.now.logs.items
         (λ es. P.says program S.honest es r.0) r.1.items (S.told shelf) (S.told result.1)) }
-    ensures count { IfOk result.0 (λ r. vec_len r.1 ≡ workers) }
+    ensures count { IfOk result.0 (λ r. (workers ≤ vec_len r.1)
+        × (vec_len r.1 ≤ workers + 1)) }
     ensures refused { IfErr result.0 (λ e. IsRunRefusal (Stored S.Receipt (S.is_of N.place)
         S.Receipt.number S.Receipt.image) (S.refuses N.place) S.honest prepared.now.start
         prepared.now.logs.items e (S.told shelf) (S.told result.1)) }
@@ -197,7 +199,8 @@ pub(crate) fn run_on<S: Shelf, R: Threads + Wait + Sync, P: Program>(
 ) -> (Result<(P::Answer, Vec<WorkerEnd>), WriterFault>, S)
     ensures ran { IfOk result.0 (λ r. Runs S.honest prepared.now.start prepared.now.logs.items
         (λ es. P.says program S.honest es r.0) r.1.items (S.told shelf) (S.told result.1)) }
-    ensures count { IfOk result.0 (λ r. vec_len r.1 ≡ workers) }
+    ensures count { IfOk result.0 (λ r. (workers ≤ vec_len r.1)
+        × (vec_len r.1 ≤ workers + 1)) }
     ensures refused { IfErr result.0 (λ e. IsRunRefusal (Stored S.Receipt
         (S.is_of (S.told shelf).place) S.Receipt.number S.Receipt.image)
         (S.refuses (S.told shelf).place) S.honest prepared.now.start prepared.now.logs.items e

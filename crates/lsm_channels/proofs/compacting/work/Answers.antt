@@ -5,14 +5,14 @@ use Rattle.lsm_channels.proofs.WorkLaws.{fault_met, no_fork, one_worked, worked_
 use Rattle.lsm_store.specs.Workers.{IsWorkersEnd}
 use Rattle.lsm_channels.proofs.compacting.work.Goals as goal
 
-pub run_workers_by-requires-clause-kept : goal.run_workers_by-requires-clause-kept
-run_workers_by-requires-clause-kept g c κs within = quiet_compaction g.S.Shelf.honest g.K.Invariant.keeps c.requires.quiet
+pub compact-requires-clause-kept : goal.compact-requires-clause-kept
+compact-requires-clause-kept g c κs within = quiet_compaction g.S.Shelf.honest g.K.Invariant.keeps c.requires.quiet
 
 pub returns-in-Err-clause-stopped : goal.returns-in-Err-clause-stopped
 returns-in-Err-clause-stopped g c = no_fork g.S.Shelf.honest (g.S.Shelf.refuses g.N.Naming.place) g.K.Invariant.keeps c.args.picks.now _ _ c.in-Err.fault c.in-Err.ensures.cause c.in-Err.ensures.err
 
-pub returns-in-Err-run_workers_by-clause-stopped : goal.returns-in-Err-run_workers_by-clause-stopped
-returns-in-Err-run_workers_by-clause-stopped g c = inr (inr (inl (refl, c.in-Ok.ensures.ok)))
+pub returns-in-Err-compact-clause-stopped : goal.returns-in-Err-compact-clause-stopped
+returns-in-Err-compact-clause-stopped g c = inr (inr (inl (refl, c.in-Ok.ensures.ok)))
 
 pub returns-in-Some-clause-stopped : goal.returns-in-Some-clause-stopped
 returns-in-Some-clause-stopped g c =
@@ -20,15 +20,15 @@ returns-in-Some-clause-stopped g c =
       c.end_of.result,
       c.in-Some.is,
       worked_by g.S.Shelf.honest (g.S.Shelf.refuses g.N.Naming.place) g.K.Invariant.keeps c.args.picks.now _ _ g.N.Naming.place _ _ c.end_of.result c.end_of.ensures.0 c.in-Ok.ensures.ok c.in-Ok.ensures.new c.end_of.ensures.1
-          c.in-Ok-run_workers_by.ensures.returned,
+          c.in-Ok-compact.ensures.returned,
     )
 
 pub returns-in-Some-clause-refused : goal.returns-in-Some-clause-refused
 returns-in-Some-clause-refused g c =
-    fault_met g.S.Shelf.honest c.end_of.result c.in-Some.fault (all_first (λ r. IsWorkersEnd g.S.Shelf.honest r.0) _ _ _ c.end_of.ensures.1 c.in-Ok-run_workers_by.ensures.ends) c.in-Some.is
+    fault_met g.S.Shelf.honest c.end_of.result c.in-Some.fault (all_first (λ r. IsWorkersEnd g.S.Shelf.honest r.0) _ _ _ c.end_of.ensures.1 c.in-Ok-compact.ensures.ends) c.in-Some.is
 
 pub returns-in-None-clause-worked : goal.returns-in-None-clause-worked
 returns-in-None-clause-worked g c =
     one_worked g.S.Shelf.honest (g.S.Shelf.refuses g.N.Naming.place) g.K.Invariant.keeps c.args.picks.now _ _ c.end_of.result c.in-None.is
     (worked_by g.S.Shelf.honest (g.S.Shelf.refuses g.N.Naming.place) g.K.Invariant.keeps c.args.picks.now _ _ g.N.Naming.place _ _ c.end_of.result c.end_of.ensures.0 c.in-Ok.ensures.ok c.in-Ok.ensures.new c.end_of.ensures.1
-    c.in-Ok-run_workers_by.ensures.returned)
+    c.in-Ok-compact.ensures.returned)

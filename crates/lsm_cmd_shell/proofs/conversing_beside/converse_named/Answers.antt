@@ -1,4 +1,4 @@
-use Rattle.std.proofs.Common.{inl, inr, ◌∙◌}
+use Rattle.std.proofs.Common.{ℕ, ◌≤◌, ◌+◌, inl, inr, subst, sym}
 use Rattle.std.proofs.KnownBytes.{Keeps-refl}
 use Rattle.lsm_shelf.specs.Stored.{Stored}
 use Rattle.lsm_shelf.proofs.CallerLemmas.{forked_none}
@@ -36,7 +36,7 @@ returns-in-Ok-converse_on g c =
     let ends = c.deref.result.now in
     let here = c.in-Ok-converse_on in
     let talked = conversed H start logs c.args.form c.args.bails c.args.workers input here.ended.0 ends here.ended.1.items c.args.shelf.now c.start.new.shelf c.converse_on.new.shelf old c.in-Ok.state here._left c.in-Ok-new.desk
-    g.N.Naming.place c.in-Ok.ensures.started c.converse_on.ensures.told c.in-Ok-new.ensures.clear here.ensures.talked here.ensures.kept c.deref.ensures.value (c.deref.ensures.len ∙ here.ensures.count)
+    g.N.Naming.place c.in-Ok.ensures.started c.converse_on.ensures.told c.in-Ok-new.ensures.clear here.ensures.talked here.ensures.kept c.deref.ensures.value (subst (λ (n : ℕ). (c.args.workers ≤ n) × (n ≤ c.args.workers + 1)) (sym c.deref.ensures.len) here.ensures.count)
     here.ensures.ends
     in
     record {
