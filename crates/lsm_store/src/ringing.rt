@@ -6,6 +6,7 @@ use std::sync::Wait;
 
 /// Rings the bell of other workers before each merge, so that writers who wait for room at level 0
 /// try again after each install.
+#[derive(Drop)]
 pub(crate) struct Ringing<'a, R: Wait> {
     pub(crate) rt: &'a R,
     pub(crate) bell: &'a Bell,
