@@ -461,4 +461,4 @@ change_slots x y e was is p = Rattle.lsm_state.proofs.IngestLaws.slots_stay x y 
 
 -- where files may be gathered by the rule, there are some to be gathered
 pub may_not_none : (h : Held) (n : ℕ) → MayGather h n → HasNoneToGather h → ⊥
-may_not_none h n may none = none may.rule.eight may.rule.oldest may.rule.here may.rule.can
+may_not_none h n may none = none may.rule.crowded may.rule.oldest may.rule.here may.rule.can
