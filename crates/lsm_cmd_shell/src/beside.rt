@@ -114,11 +114,13 @@ fn reply_under_lock<N: Boarded, S: Shelf, K: Invariant, R: Wait, I: Read + Drop,
 }
 
 /// Reads the next line, and replies to it: how it was answered; none at the end of the input, and
-/// at `quit`. The store lends its state once the line is there.
+/// at `quit`. The store lends its state once the line is there, and level 0 has room for a batch or
+/// no worker can make any.
 fn take_turn<N: Boarded, S: Shelf, K: Invariant, R: Wait, I: Read + Drop, O: Write>(
     rt: &R,
     alloc: Global,
     store: &Store<N, S, K>,
+    background: &Background,
     memory: &mut Memory<N>,
     desk: &mut Desk<N, S>,
     begun: &mut Option<WriteBuffer>,
@@ -136,6 +138,7 @@ fn take_turn<N: Boarded, S: Shelf, K: Invariant, R: Wait, I: Read + Drop, O: Wri
 {
     match next_line(lines) {
         Ok(Some(next)) => {
+            background.wait_for_room(rt, store);
             let said = reply_under_lock(
                 rt, alloc, store, memory, desk, begun, shelf, form, next, lines, speech, out,
             );
@@ -180,6 +183,7 @@ pub fn talk_beside<N: Boarded, S: Shelf, K: Invariant, R: Wait, I: Read + Drop, 
             rt,
             alloc,
             store,
+            background,
             memory,
             desk,
             &mut begun,

@@ -77,7 +77,7 @@ impl<'a, N: Boarded, S: Shelf, R: Wait> Handle<'a, N, S, R> {
     {
         match self.try_write(batch) {
             Err(StateFault::LevelZeroFull) => {
-                self.background.wait_until_idle(self.rt);
+                self.background.wait_for_room(self.rt, self.store);
                 self.try_write(batch)
             }
             came => came,

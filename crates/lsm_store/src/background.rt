@@ -1,6 +1,8 @@
 //! What a program has of the workers beside it.
 
-ghost use Rattle.std.specs.Prelude.{◌≡◌, All, IfErr, IfOk, false, true, vec_len};
+ghost use Rattle.std.specs.Prelude.{◌≡◌, ◌<◌, ◌↔◌, All, IfErr, IfOk, IsTrue, false, length};
+ghost use Rattle.std.specs.Prelude.{true, vec_len};
+ghost use Rattle.lsm_version.specs.Versions.{level_in};
 ghost use Rattle.lsm_store.specs.Background.{BringsIn, IsBroughtIn, IsIngestStep, IsKeptByIngest};
 ghost use Rattle.lsm_store.specs.Background.{IsKeptOut, KeepsOut};
 ghost use Rattle.lsm_store.specs.Compacting.{IsKeptByCompaction};
@@ -22,6 +24,25 @@ use lsm_table::{NamedShelf, Shelf};
 use std::alloc::{AllocFailed, Global};
 use std::sync::Wait;
 use std::thread::Threads;
+
+/// How many files of level 0 leave no room for a batch, as `State::ingest` has it.
+const FULL: usize = 12;
+
+/// Whether level 0 of a state has room for a batch.
+fn has_room<N: Boarded, S: Shelf>(state: &State<N, S>) -> bool
+    ensures { IsTrue result ↔ length (level_in state.now.slots.version.tables 0) < 12 }
+{
+    let (_id, version) = state.current();
+    version.level(0).len() < FULL
+}
+
+/// Whether level 0 of a store has room for a batch.
+fn has_room_under_lock<N: Boarded, S: Shelf, K: Invariant, R: Wait>(
+    rt: &R,
+    store: &Store<N, S, K>,
+) -> bool {
+    has_room(&store.lock(rt).state)
+}
 
 /// Brings the batch into the state, and remembers the history with it. Where it came in the bell is
 /// rung, so that nobody who sees the batch has missed the ring.
@@ -96,6 +117,30 @@ impl Background {
     pub fn wait_until_idle<R: Wait>(&self, rt: &R) {
         self.bell.ring(rt);
         self.bell.wait_until_idle(rt);
+    }
+
+    /// Waits until level 0 of the store of these workers has room for a batch: true; or until no
+    /// worker can make room there, as `ingest` has it: false. Where nobody else writes, a batch that
+    /// comes next is not refused by `LevelZeroFull` then.
+    pub fn wait_for_room<N: Boarded, S: Shelf, K: Invariant, R: Wait>(
+        &self,
+        rt: &R,
+        store: &Store<N, S, K>,
+    ) -> bool {
+        if has_room_under_lock(rt, store) {
+            return true;
+        }
+        let mut rings = self.bell.ring(rt);
+        for _ in rt.forever() {
+            if has_room_under_lock(rt, store) {
+                return true;
+            }
+            match self.bell.wait_for_room(rt, rings) {
+                Some(rung) => rings = rung,
+                None => return false,
+            }
+        }
+        unreachable!()
     }
 
     /// Brings a batch into the store of these workers, as `State::ingest` does under the lock, and
