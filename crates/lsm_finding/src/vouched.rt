@@ -43,6 +43,14 @@ impl<V: Vouching, S: Shelf> Vouched<V, S> {
             by: PhantomData,
         }
     }
+
+    /// The shelf itself.
+    pub fn into_shelf(self) -> S
+        ensures { S.told result ≡ S.told self.shelf }
+    {
+        let Self { shelf, by: _ } = self;
+        shelf
+    }
 }
 
 impl<V: Vouching, S: Shelf> Shelf for Vouched<V, S> {
