@@ -8,3 +8,4 @@ pub mod Refused
 pub mod JudgedKept
 pub mod FreeNumbers
 pub mod Opening
+pub mod AnswerLaws
