@@ -1,9 +1,9 @@
 -- Two internal keys, the first at most the second.
-use Rattle.std.proofs.Common.{◌≡◌, List, ℕ, Bool, true, false, sym, ◌∙◌, ap, subst}
+use Rattle.std.proofs.Common.{◌≡◌, List, ℕ, true, false, sym, ◌∙◌, subst}
 use Rattle.std.specs.Ordering.{is_le}
 use Rattle.lsm_codec.specs.Keys.{InternalKey, IsKey, key_cmp}
 use Rattle.lsm_codec.proofs.CallerLemmas.{IsKey-unique}
-use Rattle.lsm_model.specs.Ranges.{KeyLe, key_le}
+use Rattle.lsm_model.specs.Ranges.{key_le}
 use Rattle.lsm_admission.specs.FoundTables.{IsBounds}
 
 pub are_bounds : (smallest largest : List ℕ) (a b : InternalKey) → IsKey smallest a → IsKey largest b → is_le (key_cmp a b) ≡ true → IsBounds smallest largest

@@ -1,10 +1,9 @@
 -- Where what a judgment found is kept.
-use Rattle.std.proofs.Common.{◌≡◌, ℕ, zero, suc, ◌+◌, Bool, true, false, not, List, [], ◌∷◌, ◌++◌, length, refl, sym, ◌∙◌, ap, subst, inl, inr}
+use Rattle.std.proofs.Common.{◌≡◌, ℕ, zero, suc, ◌+◌, Bool, true, false, not, List, [], ◌∷◌, ◌++◌, refl, sym, ◌∙◌, ap, subst, inl, inr}
 use Rattle.std.specs.Prelude.{◌⊎◌}
 use Rattle.std.specs.List.{filter}
 use Rattle.lsm_codec.specs.Lists.{Has}
 use Rattle.lsm_codec.proofs.CallerLemmas.{has_cases, has_filter, has_left, has_right}
-use Rattle.lsm_codec.specs.Entries.{Entry}
 use Rattle.lsm_table.specs.Registry.{Table}
 use Rattle.lsm_table.specs.HeldTable.{entries_in}
 use Rattle.lsm_manifest.specs.FileOrder.{TableFile}
@@ -16,7 +15,7 @@ use Rattle.lsm_verify.specs.Loading.{AreFilesOf, AreLevelsOf, all_files, placed_
 use Rattle.lsm_verify.specs.Settled.{KeepsAge}
 use Rattle.lsm_version.specs.Changes.{placed_all, placed_in}
 use Rattle.lsm_version.specs.FileNumbers.{AreDistinct, file_numbers, numbers_of}
-use Rattle.lsm_version.specs.Versions.{Levels, file_of, files, files_from, level_in, stands_before, user_of}
+use Rattle.lsm_version.specs.Versions.{Levels, file_of, files, level_in, stands_before, user_of}
 use Rattle.lsm_version.proofs.CallerLemmas.{file_in, in_files}
 use Rattle.lsm_admission.specs.FoundTables.{IsFoundFor, AreFoundFor, AreLevelsFound, IsFoundFrom}
 use Rattle.lsm_admission.specs.Keeping.{GivesOnly, ImagesOf, KeepsTables}

@@ -2,8 +2,6 @@
 use Rattle.std.proofs.Common.{ℕ, List, inl, inr}
 use Rattle.lsm_shelf.specs.declared.shelf_fault.ShelfFault.{ShelfFault}
 use Rattle.lsm_table.specs.Registry.{Table}
-use Rattle.lsm_table.specs.declared.read_fault.ReadFault.{ReadFault}
-use Rattle.lsm_table.specs.declared.read_fault.ReadFault.TheVariants as read
 use Rattle.lsm_manifest.specs.Shape.{Form}
 use Rattle.lsm_verify.specs.declared.check_fault.CheckFault.{CheckFault}
 use Rattle.lsm_verify.specs.declared.check_fault.CheckFault.TheVariants.{Read, DoubleFile, Overlap, WrongRange, AgeOrder}

@@ -1,7 +1,7 @@
 -- What is found of a database whose tables are not read, and why it is not (LevelDB's
 -- `VersionSet::Recover`; what is judged of its tables, and which number comes next, are this
 -- project's rules).
-use Rattle.std.specs.Prelude.{◌≡◌, ℕ, ◌-◌, ◌^◌, ◌<◌, ◌⊎◌, List}
+use Rattle.std.specs.Prelude.{◌≡◌, ℕ, ◌-◌, ◌^◌, ◌<◌, List}
 use Rattle.lsm_codec.specs.Lists.{Has}
 use Rattle.lsm_manifest.specs.Shape.{Form}
 use Rattle.lsm_shelf.specs.Asked.{Asked, ListTables, Load}

@@ -1,6 +1,5 @@
 use Rattle.std.proofs.Common.{◌≡◌, ◌∙◌, ℕ, List, map, refl, sym, subst}
 use Rattle.std.proofs.lemmas.List.{length-map}
-use Rattle.lsm_verify.specs.CheckRefusal.{IsOfShape}
 use Rattle.lsm_version.specs.Versions.{IsSound, Levels}
 use Rattle.lsm_admission.specs.FoundTables.{IsFoundFrom}
 use Rattle.lsm_admission.proofs.Kept.{kept_is_sound, kept_of_shape}

@@ -1,4 +1,4 @@
-use Rattle.std.proofs.Common.{◌≡◌, ℕ, List, IfOk, subst}
+use Rattle.std.proofs.Common.{IfOk, subst}
 use Rattle.std.specs.Option.{option_map}
 use Rattle.lsm_shelf.specs.Stored.{Stored}
 use Rattle.lsm_shelf.specs.Told.{Becomes, Place, finding}
