@@ -20,6 +20,8 @@ impl<C: FindingCalls + Send + Sync> Finding for FileShelf<C>
 where
     C::Mark: Send + Sync,
 {
+    ghost keeps = { λ p number image. C.holds p (table_name number) image };
+
     fn find<W: Wait>(
         &mut self,
         rt: &W,
@@ -28,7 +30,7 @@ where
     ) -> Result<FileReceipt<C::Mark>, ShelfFault>
         ensures receipt { IfOk result (λ r. (file_number r ≡ number)
             × C.is_of (file_told C.place self.old).place (mark_of r)) }
-        ensures held { IfOk result (λ r. C.holds (file_told C.place self.old).place
+        ensures kept { IfOk result (λ r. C.holds (file_told C.place self.old).place
             (table_name number) (C.Mark.image (mark_of r))) }
         ensures calls { IfOk result (λ r. Found (table_name number) (C.Mark.image (mark_of r))
             (C.calls (folder_of self.old)) (C.calls (folder_of self.new))) }

@@ -284,6 +284,8 @@ impl Shelf for MemoryShelf {
 impl Finding for MemoryShelf {
     ghost use Rattle.lsm_storage.specs.MemoryShelf.{IsOfMemory, memory_number, memory_told};
 
+    ghost keeps = { λ _ _ _. Unit {0} };
+
     fn find<R: Wait>(
         &mut self,
         rt: &R,
