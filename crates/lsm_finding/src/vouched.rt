@@ -144,6 +144,8 @@ impl<V: Vouching, S: Shelf> Shelf for Vouched<V, S> {
 }
 
 impl<V: Vouching, S: Finding> Finding for Vouched<V, S> {
+    ghost keeps = { S.keeps };
+
     fn find<R: Wait>(
         &mut self,
         rt: &R,
