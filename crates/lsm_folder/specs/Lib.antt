@@ -1,6 +1,7 @@
 pub use Rattle.lsm_shelf.specs.Place
 -- What public clauses cite, and so what a caller reads
 pub mod Calls
+pub mod Finding
 pub mod FolderFault
 pub mod MemoryFolder
 pub mod SystemFolder

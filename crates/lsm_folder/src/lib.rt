@@ -8,6 +8,7 @@
 #![tactic(auto)]
 
 // What a folder is asked, and why it refuses.
+mod finding_calls;
 mod folder_calls;
 mod folder_fault;
 mod lock_kind;
@@ -30,6 +31,7 @@ mod memory_mark;
 mod stops;
 
 // Who sees the reads of a folder of the system.
+mod contents;
 mod images;
 mod mute;
 mod witness;
@@ -47,6 +49,8 @@ mod system_locks;
 mod system_mark;
 mod truth;
 
+pub use contents::{Contents, Unsaid};
+pub use finding_calls::FindingCalls;
 pub use folder_calls::FolderCalls;
 pub use folder_fault::FolderFault;
 pub use images::Images;
@@ -60,7 +64,7 @@ pub use reasons::Reasons;
 pub use system_folder::SystemFolder;
 pub use system_mark::SystemMark;
 pub use truth::{
-    compared_system_is_honest, system_is_honest, the_mute_cannot_tell,
+    compared_system_is_honest, found_files_are_read, system_is_honest, the_mute_cannot_tell,
     the_mute_system_is_not_honest, truth_can_be_told,
 };
 pub use witness::Witness;

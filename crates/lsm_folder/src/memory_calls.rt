@@ -6,6 +6,7 @@ ghost use Rattle.lsm_folder.specs.FolderFault.{NotNamed};
 ghost use Rattle.lsm_folder.specs.MemoryFolder.{memory_calls, memory_mark_image};
 ghost use Rattle.lsm_folder.specs.Calls.{AreHonest};
 
+use crate::finding_calls::FindingCalls;
 use crate::folder_calls::{FolderCalls, MAX_LOAD};
 use crate::folder_fault::FolderFault;
 use crate::image::Image;
@@ -233,6 +234,28 @@ impl FolderCalls for MemoryFolder {
             self.files.images.agrees(&a.token, &b.token);
         }
         same
+    }
+}
+
+impl FindingCalls for MemoryFolder {
+    ghost holds = { λ _ _ _. Unit {0} };
+
+    fn find<R: Wait>(
+        &mut self,
+        rt: &R,
+        _alloc: Global,
+        name: &str,
+    ) -> Result<(MemoryMark, u64), FolderFault> {
+        match self.files.find(rt, name, MAX_LOAD) {
+            Ok((token, size)) => {
+                self.log.add_length(name.as_bytes(), &Ok(size));
+                Ok((mark_of(name, token), size))
+            }
+            Err(fault) => {
+                self.log.add_length(name.as_bytes(), &Err(fault));
+                Err(fault)
+            }
+        }
     }
 }
 

@@ -357,6 +357,41 @@ impl MemoryFiles {
         Ok(self.images.value(&token).bytes.len() as u64)
     }
 
+    /// What shows the image of a file, and how many bytes it has: at most `most`.
+    pub(crate) fn find<R: Wait>(
+        &self,
+        rt: &R,
+        name: &str,
+        most: usize,
+    ) -> Result<(Pushed<Image>, u64), FolderFault>
+        ensures ok { IfOk result (λ r. (length r.0.value.bytes.items ≡ r.1)
+            × Shows self.now.images r.0) }
+        ensures limit { IfOk result (λ r. r.1 ≤ most) }
+        ensures err { IfErr result NotExists }
+    {
+        let turn = self.stops.begin()?;
+        turn.end(self.find_in(&self.directory.lock(rt), name, most))
+    }
+
+    fn find_in(
+        &self,
+        directory: &Directory,
+        name: &str,
+        most: usize,
+    ) -> Result<(Pushed<Image>, u64), FolderFault>
+        ensures ok { IfOk result (λ r. (length r.0.value.bytes.items ≡ r.1)
+            × Shows self.now.images r.0) }
+        ensures limit { IfOk result (λ r. r.1 ≤ most) }
+        ensures err { IfErr result NotExists }
+    {
+        let (_, token) = self.found(directory, name)?;
+        let len = self.images.value(&token).bytes.len();
+        if len > most {
+            return Err(FolderFault::Failed);
+        }
+        Ok((token, len as u64))
+    }
+
     /// A part of a file of which a mark was given. No lock is taken: a flag beside the bytes says
     /// that the file is gone.
     pub(crate) fn part(

@@ -1,7 +1,7 @@
 //! The calls on a folder of the system. Each makes one, and notes it with its answer.
 
 ghost use Rattle.std.specs.Prelude.{◌≡◌, ◌+◌, ◌≤◌, ◌^◌, ◌∷◌, [], Ok, Err, length, take, drop};
-ghost use Rattle.std.specs.Prelude.{IfOk, IfErr, string_bytes};
+ghost use Rattle.std.specs.Prelude.{IfOk, IfErr, IfSome, IfNone, List, ℕ, string_bytes};
 ghost use Rattle.boxcar.specs.Table.{Shows};
 ghost use Rattle.lsm_folder.specs.Calls.{opened};
 ghost use Rattle.lsm_folder.specs.FolderFault.{NotMissing, NotExists, NotNamed};
@@ -10,6 +10,7 @@ ghost use Rattle.lsm_shelf.specs.Place.{IsAtPath};
 ghost use Rattle.lsm_folder.specs.SystemFolder.{system_calls, system_place, system_mark_name};
 ghost use Rattle.lsm_folder.specs.SystemFolder.{system_mark_image};
 
+use crate::finding_calls::FindingCalls;
 use crate::folder_calls::{FolderCalls, MAX_LOAD};
 use crate::folder_fault::FolderFault;
 use crate::lock_kind::LockKind;
@@ -84,10 +85,51 @@ fn marked<W: Witness, T: Wait>(
         name: tag_of(name.as_bytes()),
         kept: W::keep(alloc, bytes)?,
     };
+    shown(rt, marks, facts)
+}
+
+/// A mark of these facts.
+fn shown<W: Witness, T: Wait>(
+    rt: &T,
+    marks: &boxcar::Vec<Facts<W>>,
+    facts: Facts<W>,
+) -> Result<SystemMark<W>, FolderFault>
+    ensures facts { IfOk result (λ m. m.token.value ≡ facts) }
+    ensures here { IfOk result (λ m. Shows marks.now m.token) }
+    ensures err { IfErr result (λ e. e ≡ FolderFault.OutOfMemory) }
+{
     match marks.push_shown(rt, facts) {
         Ok(token) => Ok(SystemMark { token }),
         Err(_) => Err(FolderFault::OutOfMemory),
     }
+}
+
+/// What is known of a file of which only the length is asked, and that. `None` where the witness
+/// needs its bytes.
+fn measured<R: Files<File = File> + AllocGlobal + Clone + Drop, W: Witness>(
+    files: &SystemFiles<R>,
+    folder: &str,
+    name: &str,
+) -> Result<(Option<Facts<W>>, u64), FolderFault>
+    ensures name { IfOk result (λ r. IfSome r.0 (λ f. f.name.numbers ≡ name.now)) }
+    ensures size { IfOk result (λ r. IfSome r.0 (λ f. length (W.image f.kept) ≡ r.1)) }
+    ensures held { IfOk result (λ r.
+        IfSome r.0 (λ f. W.holds folder.now name.now (W.image f.kept))) }
+    ensures needed { IfOk result (λ r.
+        IfNone r.0 ((bytes : List ℕ) → W.holds folder.now name.now bytes)) }
+    ensures limit { IfOk result (λ r. r.1 ≤ 2 ^ 30) }
+    ensures err { IfErr result NotExists }
+{
+    let length = files.length_within(name, MAX_LOAD);
+    let size = files.missing("read", folder, name, length)?;
+    let facts = match W::unread(folder, name, size) {
+        Some(kept) => Some(Facts {
+            name: tag_of(name.as_bytes()),
+            kept,
+        }),
+        None => None,
+    };
+    Ok((facts, size))
 }
 
 /// Makes a file. What its mark needs is taken before.
@@ -381,6 +423,43 @@ impl<R: Files<File = File> + AllocGlobal + Clone + Drop, W: Witness> FolderCalls
             self.marks.agrees(&a.token, &b.token);
         }
         same
+    }
+}
+
+impl<R: Files<File = File> + AllocGlobal + Clone + Drop, W: Witness> FindingCalls
+    for SystemFolder<R, W> {
+    ghost use Rattle.lsm_folder.specs.Finding.{SystemHolds};
+
+    ghost holds = { SystemHolds W.holds };
+
+    fn find<T: Wait>(
+        &mut self,
+        rt: &T,
+        alloc: Global,
+        name: &str,
+    ) -> Result<(SystemMark<W>, u64), FolderFault> {
+        let folder = self.path.as_str();
+        let (facts, size) = match measured::<R, W>(&self.files, folder, name) {
+            Ok(known) => known,
+            Err(fault) => {
+                self.seen.add_length(name.as_bytes(), &Err(fault));
+                return Err(fault);
+            }
+        };
+        let Some(facts) = facts else {
+            let (mark, bytes) = self.load(rt, alloc, name)?;
+            return Ok((mark, bytes.len() as u64));
+        };
+        match shown(rt, &self.marks, facts) {
+            Ok(mark) => {
+                self.seen.add_length(name.as_bytes(), &Ok(size));
+                Ok((mark, size))
+            }
+            Err(fault) => {
+                self.seen.add_length(name.as_bytes(), &Err(fault));
+                Err(fault)
+            }
+        }
     }
 }
 

@@ -343,6 +343,15 @@ impl<R: Files<File = File> + AllocGlobal + Clone + Drop> SystemFiles<R> {
         }
     }
 
+    /// How many bytes a file has that may have `most`. It is as `length`, which opens nothing.
+    pub(crate) fn length_within(&self, name: &str, most: usize) -> Result<u64, SystemFault>
+        ensures { IfOk result (λ n. n ≤ most) }
+    {
+        let length = self.length(name)?;
+        at_most(length, most, ErrorKind::Other)?;
+        Ok(length)
+    }
+
     /// Reads a part of a file: with the one that is kept open for the mark of this index, or it is
     /// opened and kept.
     pub(crate) fn read_part(

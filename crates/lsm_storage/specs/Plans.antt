@@ -5,6 +5,7 @@ use Rattle.std.specs.Prelude.{codes, Option, None, Some, Result, Ok, Err}
 use Rattle.std.specs.List.{Contains}
 use Rattle.lsm_folder.specs.Calls.{Call, Answer, made, wrote, appended, synced, folder_synced}
 use Rattle.lsm_folder.specs.Calls.{renamed, removed, measured, read, loaded, listed}
+use Rattle.lsm_folder.specs.Finding.{Unfound}
 use Rattle.lsm_folder.specs.declared.folder_fault.FolderFault.{FolderFault}
 use Rattle.lsm_folder.specs.declared.folder_fault.FolderFault.TheVariants as folder
 use Rattle.lsm_storage.specs.FileNames.{table_name, manifest_name, temporary_name, current_text}
@@ -80,6 +81,12 @@ PartUnread number image offset len e old new =
 abbrev pub TableUnread : (number : ℕ) → ShelfFault → (old new : List Call) → Type 0
 TableUnread number e old new =
     Unanswered (λ fault. loaded (table_name number) (Err fault)) e old new
+
+-- a table was not found: memory was refused before its file was asked for, or the folder refused
+abbrev pub TableUnfound : (number : ℕ) → ShelfFault → (old new : List Call) → Type 0
+TableUnfound number e old new = Unasked e old new
+    ⊎ ((fault : FolderFault) × Unfound (table_name number) fault old new
+    × (e ≡ missing_of fault))
 
 -- a table is removed; the removal is durable once the folder's names are, after another call
 abbrev pub remove_plan : (number : ℕ) → List Step

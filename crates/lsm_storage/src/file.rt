@@ -1,6 +1,7 @@
 //! The shelf on a folder.
 
 mod append;
+mod as_finding;
 mod as_shelf;
 mod current;
 mod fault;

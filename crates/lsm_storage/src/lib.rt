@@ -17,5 +17,6 @@ mod memory;
 pub use account::{Account, tag_of_both, tag_of_bytes, tag_of_more, tag_of_number, tag_of_numbers};
 pub use changes::{tag_of_append, tag_of_put, tag_of_removal, tag_of_start};
 pub use file::{FileReceipt, FileShelf, SystemShelf, manifest_file};
+pub use lsm_finding::Finding;
 pub use lsm_shelf::{Shelf, ShelfFault, TableReceipt};
 pub use memory::{MemoryReceipt, MemoryShelf};

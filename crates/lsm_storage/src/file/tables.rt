@@ -5,14 +5,16 @@ ghost use Rattle.std.specs.Prelude.{IfErr, OnOk, IsErrOf};
 ghost use Rattle.lsm_folder.specs.Calls.{AreHonest, LastIsTrue, Answer, read, loaded, removed};
 ghost use Rattle.lsm_storage.specs.FileNames.{table_name};
 ghost use Rattle.lsm_storage.specs.Plans.{done, Refused, PutStopped, PartUnread, TableUnread};
-ghost use Rattle.lsm_storage.specs.Plans.{RemoveStopped, durable_plan, put_plan, remove_plan};
+ghost use Rattle.lsm_storage.specs.Plans.{TableUnfound, RemoveStopped, durable_plan, put_plan};
+ghost use Rattle.lsm_storage.specs.Plans.{remove_plan};
+ghost use Rattle.lsm_folder.specs.Finding.{Found};
 ghost use Rattle.lsm_storage.specs.FolderFault.{undone_of};
 ghost use Rattle.lsm_shelf.specs.Told.{NotNamed, NotTaken, TakenIs};
 
 use crate::file::fault::{device, missing, taken};
 use crate::file::file_names::table_file;
 use crate::file::file_receipt::FileReceipt;
-use lsm_folder::{FolderCalls, FolderFault};
+use lsm_folder::{FindingCalls, FolderCalls, FolderFault};
 use lsm_shelf::{MAX_IMAGE, ShelfFault};
 use std::alloc::Global;
 use std::sync::Wait;
@@ -143,6 +145,31 @@ pub(crate) fn load_table<C: FolderCalls, W: Wait>(
             };
             Ok((receipt, bytes))
         }
+        Err(fault) => Err(missing(fault)),
+    }
+}
+
+/// Finds a table.
+pub(crate) fn find_table<C: FindingCalls, W: Wait>(
+    folder: &mut C,
+    rt: &W,
+    alloc: Global,
+    number: u64,
+) -> Result<FileReceipt<C::Mark>, ShelfFault>
+    ensures number { IfOk result (λ r. r.number ≡ number) }
+    ensures here { IfOk result (λ r. C.is_of (C.place folder.old) r.mark) }
+    ensures held { IfOk result (λ r.
+        C.holds (C.place folder.old) (table_name number) (C.Mark.image r.mark)) }
+    ensures ok { IfOk result (λ r. Found (table_name number) (C.Mark.image r.mark)
+        (C.calls folder.old) (C.calls folder.new)) }
+    ensures err { IfErr result (λ e.
+        TableUnfound number e (C.calls folder.old) (C.calls folder.new)) }
+    ensures place { C.place folder.new ≡ C.place folder.old }
+    ensures fault { IfErr result NotTaken }
+{
+    let name = table_file(folder.alloc(), number)?;
+    match folder.find(rt, alloc, name.as_str()) {
+        Ok((mark, size)) => Ok(FileReceipt { number, size, mark }),
         Err(fault) => Err(missing(fault)),
     }
 }

@@ -114,6 +114,28 @@ impl Directory {
         Some(token)
     }
 
+    /// A receipt of the image that is listed under the number.
+    pub(crate) fn receipt(
+        &self,
+        images: &boxcar::Vec<Image>,
+        number: u64,
+    ) -> Result<MemoryReceipt, ShelfFault>
+        ensures number { IfOk result (λ r. r.number ≡ number) }
+        ensures shown { IfOk result (λ r. Shows images.now r.token) }
+        ensures index { IfOk result (λ r.
+            get nat_cmp self.now.tables number ≡ Some r.token.index) }
+        ensures missing { get nat_cmp self.now.tables number ≡ None
+            → IsErrOf result ShelfFault.Missing }
+        ensures cause { IfErr result (λ e. e ≡ ShelfFault.Missing) }
+    {
+        let token = self.find(images, number).ok_or(ShelfFault::Missing)?;
+        Ok(MemoryReceipt {
+            number,
+            size: images.value(&token).bytes.len() as u64,
+            token,
+        })
+    }
+
     /// The image that is listed under the number, with a receipt.
     pub(crate) fn load(
         &self,

@@ -15,6 +15,7 @@ use crate::changes::{tag_of_append, tag_of_put, tag_of_removal, tag_of_start};
 use crate::memory::contents::Contents;
 use crate::memory::image::Image;
 use crate::memory::memory_receipt::MemoryReceipt;
+use lsm_finding::Finding;
 use lsm_shelf::{Shelf, ShelfFault};
 use std::alloc::{AllocError, Global};
 use std::sync::{Arc, Wait};
@@ -277,6 +278,31 @@ impl Shelf for MemoryShelf {
 
     fn failures(&self) -> (u64, u64) {
         (self.account.faults, self.account.misses)
+    }
+}
+
+impl Finding for MemoryShelf {
+    ghost use Rattle.lsm_storage.specs.MemoryShelf.{IsOfMemory, memory_number, memory_told};
+
+    ghost keeps = { λ _ _ _. Unit {0} };
+
+    fn find<R: Wait>(
+        &mut self,
+        rt: &R,
+        _alloc: Global,
+        number: u64,
+    ) -> Result<MemoryReceipt, ShelfFault>
+        ensures receipt { IfOk result (λ r. (memory_number r ≡ number)
+            × IsOfMemory (memory_told self.old).place r) }
+        ensures told { Becomes (memory_told self.old) (memory_told self.new) }
+        ensures cause { IfErr result (λ e. NotTaken e
+            × Counted e (memory_told self.old) (memory_told self.new)) }
+        ensures counts { CountedBy result (memory_told self.old) (memory_told self.new) }
+        ensures missing { IfErr result (λ e. e ≡ ShelfFault.Missing) }
+    {
+        let Contents { images, directory } = &*self.contents;
+        let outcome = directory.lock(rt).receipt(images, number);
+        self.account.count(outcome)
     }
 }
 

@@ -1,0 +1,11 @@
+pub mod Bounds
+pub mod Numbers
+pub mod LevelRanges
+pub mod FoundFiles
+pub mod Sound
+pub mod Kept
+pub mod Refused
+pub mod JudgedKept
+pub mod FreeNumbers
+pub mod Opening
+pub mod AnswerLaws

@@ -1,0 +1,14 @@
+use Rattle.std.proofs.Common.{◌≡◌, take}
+use Rattle.std.specs.List.Sorted.{IsSortedBy}
+use Rattle.lsm_table.specs.Told.{Becomes}
+use Rattle.lsm_version.specs.Versions.{stands_before}
+use Rattle.lsm_admission.specs.FoundTables.{IsLevelFound}
+use Rattle.lsm_admission.proofs.finding.admit_level.Given as goal
+
+abbrev pub invariant-loop-file : goal.invariant-loop-file
+invariant-loop-file g l = record {
+  told : Becomes l.fn.shelf l.shelf;
+  order : IsSortedBy stands_before l.tables.items;
+  found : IsLevelFound (λ number image. (r : g.row.S-Receipt.Denot) × g.S.Shelf.is_of g.N.Naming.place r × (g.S.Receipt.TableReceipt.number r ≡ number) × (g.S.Receipt.TableReceipt.image r ≡ image))
+      (take l.file-index l.files) l.tables.items;
+}

@@ -1,0 +1,6 @@
+-- What public clauses cite, and so what a caller reads
+pub mod FoundTables
+pub mod Keeping
+pub mod AdmitRefusal
+pub mod Admitted
+pub mod Answered

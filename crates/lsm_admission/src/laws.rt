@@ -1,0 +1,29 @@
+//! Laws of what a shelf keeps. Each function's contract is one law; its body is empty.
+
+ghost use Rattle.std.specs.Prelude.{◌≡◌};
+ghost use Rattle.lsm_manifest.specs.Shape.{Form};
+ghost use Rattle.lsm_shelf.specs.Stored.{Stored};
+ghost use Rattle.lsm_verify.specs.CheckRefusal.{IsOfShape};
+ghost use Rattle.lsm_verify.specs.Settled.{KeepsAge};
+ghost use Rattle.lsm_version.specs.FileNumbers.{AreDistinct, numbers_of};
+ghost use Rattle.lsm_version.specs.Versions.{Levels, files};
+ghost use Rattle.lsm_admission.specs.Keeping.{GivesOnly, ImagesOf, KeepsTables};
+
+use lsm_table::{Naming, Shelf};
+
+/// What a judgment found is kept: where a version is of a shape and its ages are in order, as
+/// `lsm_verify::check` gives one over an honest shelf, and the shelf gives for each of its tables
+/// the image that was judged and no other one, it keeps the tables of the shape.
+pub fn judged_tables_are_kept<N: Naming, S: Shelf>()
+    ensures { (shape : Form) (v : Levels) → IsOfShape shape v → KeepsAge (files v)
+        → GivesOnly (Stored S.Receipt (S.is_of N.place) S.Receipt.number S.Receipt.image) v
+        → KeepsTables (Stored S.Receipt (S.is_of N.place) S.Receipt.number S.Receipt.image) shape }
+{}
+
+/// So the premise can be met, by each version that a judgment can give: its own images keep the
+/// tables of its shape.
+pub fn versions_keep_their_tables()
+    ensures { (shape : Form) (v : Levels) → IsOfShape shape v
+        → AreDistinct (numbers_of shape.levels) → KeepsAge (files v)
+        → KeepsTables (ImagesOf v) shape }
+{}

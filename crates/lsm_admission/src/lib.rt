@@ -1,0 +1,33 @@
+//! Opening a database in the number of its tables: they are found on the shelf, and not read.
+//!
+//! Stands on `lsm_finding` for shelves that find tables, on `lsm_journal` for what a manifest says,
+//! on `lsm_verify` for what a judgment is, and on `lsm_version` and `lsm_query` for versions and
+//! their reads. Its contract: what is admitted has a table on the shelf for each file of the
+//! manifest; and where the shelf keeps its tables, it is what a judgment of every table finds.
+#![tactic(auto)]
+
+// What a manifest says of its files.
+mod file_numbers;
+mod layouts;
+
+// Their tables, found.
+mod admitting;
+mod finding;
+
+// A database that is there.
+mod admitted;
+mod next_number;
+
+// A read of it.
+mod answer_fault;
+mod answering;
+
+// Where its tables are kept.
+mod laws;
+
+pub use admitted::{Admitted, recover_manifest};
+pub use admitting::admit;
+pub use answer_fault::AnswerFault;
+pub use answering::get_unjudged;
+pub use laws::{judged_tables_are_kept, versions_keep_their_tables};
+pub use lsm_finding::{Finding, Vouched, Vouching};
