@@ -111,6 +111,9 @@ accept_rest = flag (codes "accept-rest")
 abbrev pub strict : Rule
 strict = flag (codes "strict")
 
+abbrev pub quick : Rule
+quick = flag (codes "quick")
+
 abbrev pub last_line : Rule
 last_line = flag (codes "last-line")
 
@@ -143,7 +146,7 @@ unfoldable pub check : App
 check = command (codes "check") (folder ∷ verifiers ∷ strict ∷ progress ∷ [])
 
 unfoldable pub list : App
-list = command (codes "list") (folder ∷ text ∷ strict ∷ [])
+list = command (codes "list") (folder ∷ text ∷ quick ∷ strict ∷ [])
 
 unfoldable pub levels : App
 levels = command (codes "levels")
@@ -151,14 +154,14 @@ levels = command (codes "levels")
 
 unfoldable pub get : App
 get = command (codes "get")
-    (folder ∷ key ∷ text ∷ flag (codes "raw") ∷ flag (codes "exists") ∷ strict ∷ [])
+    (folder ∷ key ∷ text ∷ flag (codes "raw") ∷ flag (codes "exists") ∷ quick ∷ strict ∷ [])
 
 unfoldable pub scan : App
 scan =
     command (codes "scan")
     (folder ∷ valued (codes "from") ∷ valued (codes "to") ∷ valued (codes "prefix") ∷ limit ∷ text
     ∷ flag (codes "keys") ∷ flag (codes "json")
-    ∷ flag (codes "count") ∷ strict ∷ progress ∷ [])
+    ∷ flag (codes "count") ∷ quick ∷ strict ∷ progress ∷ [])
 
 unfoldable pub ingest : App
 ingest = command (codes "ingest") (folder ∷ word (codes "FILE") ∷ text ∷ begin ∷ beside_log ∷ [])

@@ -330,6 +330,7 @@ Says rows (Convert conversion input) = IsInput (word_in (codes "FILE") rows) inp
 Says rows (Look line) =
     (word_in (codes "DIR") rows ≡ Some line.path.now) × IsLook rows line.command
     × (line.form ≡ form_in rows) × (line.strict ≡ is_set (codes "strict") rows)
+    × (line.quick ≡ is_set (codes "quick") rows)
     × (line.progress ≡ is_set (codes "progress") rows)
 Says rows (Levels line) =
     (word_in (codes "DIR") rows ≡ Some line.path.now) × (line.form ≡ form_in rows)

@@ -79,6 +79,12 @@ pub(crate) const STRICT: Argument = Argument::Flag(
     "Refuse where a log or the manifest's end is not read",
 );
 
+/// Tables are not verified first.
+pub(crate) const QUICK: Argument = Argument::Flag(
+    "quick",
+    "Verify no table but what is read of it",
+);
+
 /// Lines say how far a command is.
 pub(crate) const PROGRESS: Argument = Argument::Flag(
     "progress",

@@ -313,6 +313,7 @@ fn look_in<'a>(command: DirectoryCommand, found: &ArgMatches<'a>) -> Option<Requ
         command,
         form: form_in(found),
         strict: is_set(found, "strict"),
+        quick: is_set(found, "quick"),
         progress: is_set(found, "progress"),
     }))
 }

@@ -3,8 +3,8 @@
 use crate::arguments::{
     ACCEPT_REST, ALL, Argument, BAIL, BATCH, BEGIN, BENCHMARKS, BESIDE_LOG, COMPACTORS, COUNT,
     EXISTS, FILES, FIRST, FOLDER, FROM, FROM_LINE, JSON, KEY, KEYS, LAST, LAST_LINE, LIMIT, NUM,
-    PREFIX, PROGRESS, RAW, SOME_WORKERS, SOURCE, STRICT, SVG, TARGET, TEXT, TO, VALUE, VALUE_SIZE,
-    VERIFIERS, WORKERS,
+    PREFIX, PROGRESS, QUICK, RAW, SOME_WORKERS, SOURCE, STRICT, SVG, TARGET, TEXT, TO, VALUE,
+    VALUE_SIZE, VERIFIERS, WORKERS,
 };
 use crate::command_name::{CommandName, named};
 
@@ -204,7 +204,7 @@ Exit status: 0 where all is well, 1 at a fault, 2 bad command line.",
 
 const LIST: Page = Page {
     name: "list",
-    arguments: &[FOLDER, TEXT, STRICT],
+    arguments: &[FOLDER, TEXT, QUICK, STRICT],
     about: "Prints the tables of a folder, level by level",
     text: "Prints the tables of the LevelDB folder DIR, levels 0 to 6 and in a level by
 smallest key, `LEVEL NUMBER SIZE SMALLEST LARGEST` for each, and then `end`.
@@ -213,6 +213,8 @@ KEY is hex, or text with --text, `.` for no bytes.
 
 Every table is verified first. Nothing is written in DIR. A line on standard
 error names each write-ahead log (`N.log`) that is not read.
+
+With --quick no table is read: what is printed is what the manifest says.
 
 With --strict it is refused where such a line would be written: `refused 51
 UnflushedLog N`, and `refused 61 TornManifest B` where the last B bytes of the
@@ -264,7 +266,7 @@ Exit status: 0 done, 1 refused, 2 bad command line.",
 
 const GET: Page = Page {
     name: "get",
-    arguments: &[FOLDER, KEY, TEXT, RAW, EXISTS, STRICT],
+    arguments: &[FOLDER, KEY, TEXT, RAW, EXISTS, QUICK, STRICT],
     about: "Prints the value of a key in a folder",
     text: "Prints what the LevelDB folder DIR answers for KEY: `value V`, or `absent`. KEY
 and V are hex, or text with --text, `.` for no bytes.
@@ -276,6 +278,11 @@ them. --exists writes nothing. With either of them status 1 and the line
 Every table is verified first. Nothing is written in DIR. A line on standard
 error names each write-ahead log (`N.log`) that is not read: what was written
 last may stand there.
+
+With --quick no table is verified first: of those where KEY may be three blocks
+are read, and only they are verified. So it answers in milliseconds however large
+DIR is. The answer is the same where the tables are what was written; in a damaged
+or forged folder it may be another one, which `lsm check` would tell.
 
 With --strict it is refused where such a line would be written: `refused 51
 UnflushedLog N`, and `refused 61 TornManifest B` where the last B bytes of the
@@ -292,7 +299,7 @@ Exit status: 0 done, also where `absent` was printed, 1 refused, or absent with
 const SCAN: Page = Page {
     name: "scan",
     arguments: &[
-        FOLDER, FROM, TO, PREFIX, LIMIT, TEXT, KEYS, JSON, COUNT, STRICT, PROGRESS,
+        FOLDER, FROM, TO, PREFIX, LIMIT, TEXT, KEYS, JSON, COUNT, QUICK, STRICT, PROGRESS,
     ],
     about: "Prints the live keys of a folder and their values",
     text: "Prints the live keys of the LevelDB folder DIR with their values, a line
@@ -713,11 +720,11 @@ fn usage(name: CommandName) -> &'static str {
         CommandName::Manifest => "lsm manifest [FILE]",
         CommandName::Script => "lsm script [FILE]",
         CommandName::Check => "lsm check <DIR> [--workers <N>] [--strict] [--progress]",
-        CommandName::List => "lsm list <DIR> [--text] [--strict]",
+        CommandName::List => "lsm list <DIR> [--text] [--quick] [--strict]",
         CommandName::Levels => "lsm levels <DIR> [--text] [--files] [--svg] [--strict]",
-        CommandName::Get => "lsm get <DIR> <KEY> [--text] [--raw] [--exists] [--strict]",
+        CommandName::Get => "lsm get <DIR> <KEY> [--text] [--raw] [--exists] [--quick] [--strict]",
         CommandName::Scan =>
-            "lsm scan <DIR> [--from <KEY>] [--to <KEY>] [--prefix <KEY>] [--limit <N>] [--text] [--keys] [--json] [--count] [--strict] [--progress]",
+            "lsm scan <DIR> [--from <KEY>] [--to <KEY>] [--prefix <KEY>] [--limit <N>] [--text] [--keys] [--json] [--count] [--quick] [--strict] [--progress]",
         CommandName::Ingest => "lsm ingest <DIR> <FILE> [--text] [--begin] [--beside-log]",
         CommandName::Put => "lsm put <DIR> <KEY> <VALUE> [--text] [--begin] [--beside-log]",
         CommandName::Delete => "lsm delete <DIR> <KEY> [--text] [--begin] [--beside-log]",

@@ -12,6 +12,8 @@ pub struct DirectoryLine<'a> {
     pub form: Form,
     /// Whether it is refused where it would note what is not read: where there is `--strict`.
     pub strict: bool,
+    /// Whether no table is read that the command does not come to: where there is `--quick`.
+    pub quick: bool,
     /// Whether it is to say on standard error how far it is: where there is `--progress`.
     pub progress: bool,
 }
