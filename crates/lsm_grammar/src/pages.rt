@@ -280,9 +280,9 @@ error names each write-ahead log (`N.log`) that is not read: what was written
 last may stand there.
 
 With --quick no table is verified first: of those where KEY may be three blocks
-are read, and only they are verified. So it answers in milliseconds however large
-DIR is. The answer is the same where the tables are what was written; in a damaged
-or forged folder it may be another one, which `lsm check` would tell.
+are read, and only they are verified. So it answers in milliseconds however
+large DIR is. The answer is the same where the tables are what was written; in a
+damaged or forged folder it may be another one, which `lsm check` would tell.
 
 With --strict it is refused where such a line would be written: `refused 51
 UnflushedLog N`, and `refused 61 TornManifest B` where the last B bytes of the
@@ -322,6 +322,9 @@ Every table is verified before the first line. Lines are printed as the folder
 is read, in memory that does not grow with it; what is before --from is read
 too. Nothing is written in DIR. A line on standard error names each write-ahead
 log (`N.log`) that is not read: what was written last may stand there.
+
+With --quick no table is verified first: what is printed is read, and only that
+is verified. So the first line comes in milliseconds however large DIR is.
 
 With --strict it is refused where such a line would be written: `refused 51
 UnflushedLog N`, and `refused 61 TornManifest B` where the last B bytes of the
