@@ -12,8 +12,8 @@ use std::sync::Wait;
 
 /// The calls on a folder of which files can be found without being read.
 pub trait FindingCalls: FolderCalls {
-    /// A file of this name in the folder holds these bytes: what is found without being read is said
-    /// to. That it does is not judged, and no contract knows more of it.
+    /// A file of this name in the folder holds these bytes: what is found without being read is
+    /// said to. That it does is not judged, and no contract knows more of it.
     ghost holds: { Place → (name image : List ℕ) → Type 0 };
 
     /// A mark of a file, and how many bytes it has. It stands for that many bytes which a file of
