@@ -9,6 +9,6 @@ abbrev pub invariant-loop-file : goal.invariant-loop-file
 invariant-loop-file g l = record {
   told : Becomes l.fn.shelf l.shelf;
   order : IsSortedBy stands_before l.tables.items;
-  found : IsLevelFound (λ number image. (r : g.row.S-Receipt.Denot) × g.S.Shelf.is_of g.N.Naming.place r × (g.S.Receipt.TableReceipt.number r ≡ number) × (g.S.Receipt.TableReceipt.image r ≡ image))
+  found : IsLevelFound (g.S.Finding.keeps g.N.Naming.place)
       (take l.file-index l.files) l.tables.items;
 }
