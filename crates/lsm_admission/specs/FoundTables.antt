@@ -1,5 +1,5 @@
--- A version whose tables were found on the shelf and not read (LevelDB's `VersionSet::Recover`; what
--- is judged of them is this project's rule).
+-- A version whose tables were found on the shelf and not read (LevelDB's `VersionSet::Recover`;
+-- what is judged of them is this project's rule).
 use Rattle.std.specs.Prelude.{◌≡◌, ℕ, List, [], ◌∷◌, length}
 use Rattle.lsm_codec.specs.Keys.{IsKey}
 use Rattle.lsm_codec.specs.Lists.{Has}

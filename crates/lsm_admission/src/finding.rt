@@ -157,7 +157,8 @@ pub(crate) fn find_levels<N: Naming, S: Finding, R: Wait>(
     registry: &Registry<N, S>,
     levels: &[List<FileMeta>],
 ) -> Result<Vec<Vec<TableRef<N, S>>>, CheckFault>
-    ensures found { IfOk result (λ v. AreFound (S.keeps N.place) levels.now (map (λ l. l.items) v.items)) }
+    ensures found { IfOk result (λ v.
+        AreFound (S.keeps N.place) levels.now (map (λ l. l.items) v.items)) }
     ensures order { IfOk result (λ v. AreInOrder (map (λ l. l.items) v.items)) }
     ensures refused { IfErr result (λ e.
         IsFilesRefusal (S.keeps N.place)

@@ -1,4 +1,4 @@
-use Rattle.std.proofs.Common.{◌≡◌, ◌∙◌, ℕ, List, map, refl, sym, subst}
+use Rattle.std.proofs.Common.{◌∙◌, ℕ, List, map, refl, sym, subst}
 use Rattle.std.proofs.lemmas.List.{length-map}
 use Rattle.lsm_version.specs.Versions.{IsSound, Levels}
 use Rattle.lsm_admission.specs.FoundTables.{IsFoundFrom}

@@ -1,4 +1,4 @@
-use Rattle.std.proofs.Common.{◌≡◌, ℕ, List}
+use Rattle.std.proofs.Common.{ℕ, List}
 use Rattle.std.proofs.lemmas.Result.{err_from_is_err_and}
 use Rattle.lsm_admission.proofs.AnswerLaws.{answered, unread}
 use Rattle.lsm_admission.proofs.answering.get_admitted.Goals as goal

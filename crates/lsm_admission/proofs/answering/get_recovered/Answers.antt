@@ -1,4 +1,4 @@
-use Rattle.std.proofs.Common.{◌≡◌, ℕ, List}
+use Rattle.std.proofs.Common.{ℕ, List}
 use Rattle.std.specs.Option.{option_map}
 use Rattle.lsm_admission.proofs.AnswerLaws.{from_shape, refused_from}
 use Rattle.lsm_admission.proofs.answering.get_recovered.Goals as goal

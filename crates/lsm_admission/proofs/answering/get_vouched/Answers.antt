@@ -1,4 +1,4 @@
-use Rattle.std.proofs.Common.{◌≡◌, ◌∙◌, ℕ, List, IfErr, IfOk, sym, subst}
+use Rattle.std.proofs.Common.{◌∙◌, ℕ, List, IfErr, IfOk, sym, subst}
 use Rattle.std.specs.Option.{option_map}
 use Rattle.lsm_shelf.specs.Told.{Becomes, Told, finding}
 use Rattle.lsm_admission.specs.Answered.{IsAnswered, IsRefusedOf}

@@ -1,4 +1,4 @@
-use Rattle.std.proofs.Common.{◌≡◌, ℕ, List, [], length, arith, ap, sym, subst}
+use Rattle.std.proofs.Common.{ℕ, List, [], length, arith, ap, sym, subst}
 use Rattle.std.proofs.lemmas.Result.{err_from_is_err_and}
 use Rattle.lsm_shelf.specs.Asked.{Load}
 use Rattle.lsm_table.proofs.CallerLemmas.{becomes_same, becomes_then}

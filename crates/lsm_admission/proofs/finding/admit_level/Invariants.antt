@@ -1,4 +1,4 @@
-use Rattle.std.proofs.Common.{◌≡◌, take}
+use Rattle.std.proofs.Common.{take}
 use Rattle.std.specs.List.Sorted.{IsSortedBy}
 use Rattle.lsm_table.specs.Told.{Becomes}
 use Rattle.lsm_version.specs.Versions.{stands_before}

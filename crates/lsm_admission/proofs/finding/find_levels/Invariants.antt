@@ -1,4 +1,4 @@
-use Rattle.std.proofs.Common.{◌≡◌, take, map}
+use Rattle.std.proofs.Common.{take, map}
 use Rattle.lsm_table.specs.Told.{Becomes}
 use Rattle.lsm_version.specs.Versions.{AreInOrder}
 use Rattle.lsm_admission.specs.FoundTables.{AreFound}

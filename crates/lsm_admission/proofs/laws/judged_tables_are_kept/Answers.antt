@@ -1,4 +1,4 @@
-use Rattle.std.proofs.Common.{◌≡◌, ℕ, List}
+use Rattle.std.proofs.Common.{ℕ, List}
 use Rattle.lsm_admission.proofs.JudgedKept.{judged_kept}
 use Rattle.lsm_admission.proofs.laws.judged_tables_are_kept.Goals as goal
 
