@@ -12,14 +12,14 @@ use std::sync::Wait;
 
 /// The calls on a folder of which files can be found without being read.
 pub trait FindingCalls: FolderCalls {
-    /// A file of this name in the folder holds these bytes: what is found without being read is
-    /// said to. That it does is not judged, and no contract knows more of it.
+    /// A file of this name in the folder holds these bytes: what is found without being read is said
+    /// to. That it does is not judged, and no contract knows more of it.
     ghost holds: { Place → (name image : List ℕ) → Type 0 };
 
     /// A mark of a file, and how many bytes it has. It stands for that many bytes which a file of
-    /// this name holds (`holds`), and what is read with it are parts of those where the folders are
-    /// honest (`AreHonest`). A folder that has to know them reads the file whole. `Missing` where
-    /// there is none, `Failed` where it has more than 1 GiB, as `load`.
+    /// this name holds (`holds`); later reads are compared with those. A folder that has to know
+    /// them reads the file whole. `Missing` where there is none, `Failed` where it has more than
+    /// 1 GiB, as `load`.
     fn find<R: Wait>(
         &mut self,
         rt: &R,

@@ -5,9 +5,9 @@ ghost use Rattle.std.specs.Prelude.{◌≡◌, take, drop};
 use crate::witness::Witness;
 use std::alloc::{AllocError, Global};
 
-/// Keeps all bytes of each file that was made, read whole or found, and lets through just that part
-/// of them. So a folder with this witness needs the memory of its files, and no premise on its
-/// disk: a read that answers other bytes is refused.
+/// Keeps all bytes of each file that was made, read whole or found, and lets through just that part of
+/// them. So a folder with this witness needs the memory of its files, and no premise on its disk: a
+/// read that answers other bytes is refused.
 pub struct Images;
 
 impl Witness for Images {

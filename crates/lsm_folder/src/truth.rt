@@ -81,10 +81,9 @@ pub fn the_mute_cannot_tell()
     ensures { TellsTruth (λ _ _ _ _. Unit {0}) → ⊥ }
 {}
 
-/// Nor are folders with that witness honest, whatever its files hold, for the premise speaks of
-/// every list of calls that the type could have. A theorem of a folder is to be read with a witness
-/// that compares; that a run of the program is like one, where its disk told the truth, is an
-/// argument.
+/// Nor are folders with that witness honest, whatever its files hold, for the premise speaks of every list of calls that the
+/// type could have. A theorem of a folder is to be read with a witness that compares; that a run of
+/// the program is like one, where its disk told the truth, is an argument.
 pub fn the_mute_system_is_not_honest<
     R: Files<File = File> + AllocGlobal + Clone + Drop,
     C: Contents,
