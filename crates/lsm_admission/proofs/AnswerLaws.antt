@@ -13,14 +13,17 @@ use Rattle.lsm_table.specs.declared.read_fault.ReadFault.{ReadFault}
 use Rattle.lsm_version.specs.Versions.{IsSound, Levels, files}
 use Rattle.lsm_journal.specs.HeldManifest.{HeldManifest}
 use Rattle.lsm_admission.specs.Admitted.{IsAdmitted}
-use Rattle.lsm_admission.specs.Answered.{Answers, IsAnswered, IsAnswerRefusal, IsRefusedOf, IsUnread}
+use Rattle.lsm_admission.specs.Answered.{Answers, IsAnswered, IsAnswerRefusal, IsRefusedOf}
+use Rattle.lsm_admission.specs.Answered.{IsUnread}
 use Rattle.lsm_admission.specs.Keeping.{KeepsTables}
 use Rattle.lsm_admission.specs.declared.answer_fault.AnswerFault.{AnswerFault}
 use Rattle.lsm_admission.specs.declared.answer_fault.AnswerFault.TheVariants.{Open, Read}
 use Rattle.lsm_admission.proofs.Kept.{kept_of_shape}
 
 -- it was admitted, at a later moment too
-later : (Keeps : ℕ → List ℕ → Type 0) (shape : Form) (limit : ℕ) (h : HeldManifest) (v : Levels) (rest next : ℕ) (was mid is : Told) → IsAdmitted Keeps shape limit h v rest next was mid → Becomes mid is → IsAdmitted Keeps shape limit h v rest next was is
+later : (Keeps : ℕ → List ℕ → Type 0) (shape : Form) (limit : ℕ) (h : HeldManifest) (v : Levels)
+    (rest next : ℕ) (was mid is : Told) → IsAdmitted Keeps shape limit h v rest next was mid
+    → Becomes mid is → IsAdmitted Keeps shape limit h v rest next was is
 later Keeps shape limit h v rest next was mid is a same = record {
   listed = a.listed;
   recovered = a.recovered;
@@ -32,47 +35,65 @@ later Keeps shape limit h v rest next was mid is a same = record {
 }
 
 -- the read of a version that was admitted
-pub answered : (Keeps : ℕ → List ℕ → Type 0) (Kept : Type 0) (shape : Form) (limit : ℕ) (h : HeldManifest) (v : Levels) (rest next : ℕ) (was mid is : Told) (user : List ℕ) (a : Option (List ℕ)) (seq : ℕ)
-    → IsAdmitted Keeps shape limit h v rest next was mid → Becomes mid is → (Kept → KeepsTables Keeps shape) → (Kept → IsSound v) → seq ≡ v.last → (Kept → a ≡ answer (all_entries (files v)) user seq)
+pub answered : (Keeps : ℕ → List ℕ → Type 0) (Kept : Type 0) (shape : Form) (limit : ℕ)
+    (h : HeldManifest) (v : Levels) (rest next : ℕ) (was mid is : Told) (user : List ℕ)
+    (a : Option (List ℕ)) (seq : ℕ)
+    → IsAdmitted Keeps shape limit h v rest next was mid → Becomes mid is
+    → (Kept → KeepsTables Keeps shape) → (Kept → IsSound v) → seq ≡ v.last
+    → (Kept → a ≡ answer (all_entries (files v)) user seq)
     → IsAnswered Keeps Kept shape user a was is
-answered Keeps Kept shape limit h v rest next was mid is user a seq admitted same kept sound last says = record {
-  held = h;
-  version = v;
-  rest = rest;
-  next = next;
-  limit = limit;
-  admitted = later Keeps shape limit h v rest next was mid is admitted same;
-  of_shape = λ k. kept_of_shape Keeps shape v (kept k) admitted.found;
-  sound = sound;
-  answer = λ k. subst (λ (n : ℕ). a ≡ answer (all_entries (files v)) user n) (last ∙ admitted.found.last) (says k);
-}
+answered Keeps Kept shape limit h v rest next was mid is user a seq admitted same kept sound last
+    says = record {
+      held = h;
+      version = v;
+      rest = rest;
+      next = next;
+      limit = limit;
+      admitted = later Keeps shape limit h v rest next was mid is admitted same;
+      of_shape = λ k. kept_of_shape Keeps shape v (kept k) admitted.found;
+      sound = sound;
+      answer = λ k. subst (λ (n : ℕ). a ≡ answer (all_entries (files v)) user n) (last
+          ∙ admitted.found.last) (says k);
+    }
 
-pub unread : (Keeps : ℕ → List ℕ → Type 0) (Refused : Asked → ShelfFault → Type 0) (Kept : Type 0) (shape : Form) (limit : ℕ) (h : HeldManifest) (v : Levels) (rest next : ℕ) (was mid is : Told) (fault : ReadFault)
-    → IsAdmitted Keeps shape limit h v rest next was mid → Becomes mid is → IsSomeReadRefusal Refused fault → (Kept → IsMemoryOrShelf fault) → IsUnread Keeps Refused Kept shape fault was is
-unread Keeps Refused Kept shape limit h v rest next was mid is fault admitted same asked sound = record {
-  held = h;
-  version = v;
-  rest = rest;
-  next = next;
-  limit = limit;
-  admitted = later Keeps shape limit h v rest next was mid is admitted same;
-  asked = asked;
-  sound = sound;
-}
+pub unread : (Keeps : ℕ → List ℕ → Type 0) (Refused : Asked → ShelfFault → Type 0) (Kept : Type 0)
+    (shape : Form) (limit : ℕ) (h : HeldManifest) (v : Levels) (rest next : ℕ) (was mid is : Told)
+    (fault : ReadFault)
+    → IsAdmitted Keeps shape limit h v rest next was mid → Becomes mid is
+    → IsSomeReadRefusal Refused fault → (Kept → IsMemoryOrShelf fault)
+    → IsUnread Keeps Refused Kept shape fault was is
+unread Keeps Refused Kept shape limit h v rest next was mid is fault admitted same asked sound =
+    record {
+      held = h;
+      version = v;
+      rest = rest;
+      next = next;
+      limit = limit;
+      admitted = later Keeps shape limit h v rest next was mid is admitted same;
+      asked = asked;
+      sound = sound;
+    }
 
 -- ---- the shape that was read
 
-pub from_shape : {T : Type 0} (r : Result T AnswerFault) (view : T → Option (List ℕ)) (Keeps : ℕ → List ℕ → Type 0) (Honest : Type 0) (shape : Form) (user : List ℕ) (was is : Told)
-    → IfOk r (λ a. IsAnswered Keeps (Honest × KeepsTables Keeps shape) shape user (view a) was is) → IfOk r (λ a. Answers Keeps Honest user (view a) was is)
+pub from_shape : {T : Type 0} (r : Result T AnswerFault) (view : T → Option (List ℕ)) (Keeps : ℕ
+    → List ℕ → Type 0) (Honest : Type 0) (shape : Form) (user : List ℕ) (was is : Told)
+    → IfOk r (λ a. IsAnswered Keeps (Honest × KeepsTables Keeps shape) shape user (view a) was is)
+    → IfOk r (λ a. Answers Keeps Honest user (view a) was is)
 from_shape (Ok a) view Keeps Honest shape user was is h = (shape, h)
 from_shape (Err e) view Keeps Honest shape user was is h = tt
 
-fault_from : (e : AnswerFault) (Keeps : ℕ → List ℕ → Type 0) (Refused : Asked → ShelfFault → Type 0) (Honest : Type 0) (shape : Form) (was is : Told)
-    → IsRefusedOf Keeps Refused (Honest × KeepsTables Keeps shape) shape e was is → IsAnswerRefusal Keeps Refused Honest e was is
+fault_from : (e : AnswerFault) (Keeps : ℕ → List ℕ → Type 0) (Refused : Asked → ShelfFault
+    → Type 0) (Honest : Type 0) (shape : Form) (was is : Told)
+    → IsRefusedOf Keeps Refused (Honest × KeepsTables Keeps shape) shape e was is
+    → IsAnswerRefusal Keeps Refused Honest e was is
 fault_from (Open e) Keeps Refused Honest shape was is h = h
 fault_from (Read e) Keeps Refused Honest shape was is h = (shape, h)
 
-pub refused_from : {T : Type 0} (r : Result T AnswerFault) (Keeps : ℕ → List ℕ → Type 0) (Refused : Asked → ShelfFault → Type 0) (Honest : Type 0) (shape : Form) (was is : Told)
-    → IfErr r (λ e. IsRefusedOf Keeps Refused (Honest × KeepsTables Keeps shape) shape e was is) → IfErr r (λ e. IsAnswerRefusal Keeps Refused Honest e was is)
+pub refused_from : {T : Type 0} (r : Result T AnswerFault) (Keeps : ℕ → List ℕ → Type 0)
+    (Refused : Asked → ShelfFault → Type 0) (Honest : Type 0) (shape : Form) (was is : Told)
+    → IfErr r (λ e. IsRefusedOf Keeps Refused (Honest × KeepsTables Keeps shape) shape e was is)
+    → IfErr r (λ e. IsAnswerRefusal Keeps Refused Honest e was is)
 refused_from (Ok a) Keeps Refused Honest shape was is h = tt
-refused_from (Err e) Keeps Refused Honest shape was is h = fault_from e Keeps Refused Honest shape was is h
+refused_from (Err e) Keeps Refused Honest shape was is h = fault_from e Keeps Refused Honest shape
+    was is h

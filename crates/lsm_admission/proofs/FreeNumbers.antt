@@ -1,5 +1,6 @@
 -- The next number.
-use Rattle.std.proofs.Common.{◌≡◌, ℕ, zero, suc, ◌+◌, ◌<◌, ◌≤◌, max, List, [], ◌∷◌, ◌++◌, length, get_or, refl, inl, inr, arith}
+use Rattle.std.proofs.Common.{◌≡◌, ℕ, zero, suc, ◌+◌, ◌<◌, ◌≤◌, max, List, [], ◌∷◌, ◌++◌, length}
+use Rattle.std.proofs.Common.{get_or, refl, inl, inr, arith}
 use Rattle.std.specs.Prelude.{◌⊎◌}
 use Rattle.lsm_codec.specs.Lists.{Has}
 use Rattle.lsm_codec.proofs.CallerLemmas.{has_cases, has_left, has_right}
@@ -8,8 +9,13 @@ use Rattle.lsm_journal.specs.Finding.{IsFree, IsLeastFree}
 pub free_none : (from : ℕ) → IsLeastFree from [] from
 free_none from = ((omega arith, λ m h. absurd h), λ m f. f.0)
 
-pub free_more : (from next number : ℕ) (xs : List ℕ) → IsLeastFree from xs next → IsLeastFree from (xs ++ number ∷ []) (max next (number + 1))
-free_more from next number xs l = ((bound, λ m h. above m (has_cases xs (number ∷ []) m h)), λ m f. least m f)
+pub free_more : (from next number : ℕ) (xs : List ℕ) → IsLeastFree from xs next
+    → IsLeastFree from (xs ++ number ∷ []) (max next (number + 1))
+free_more from next number xs l = (
+  (bound, λ m h. above m (has_cases xs (number ∷ []) m h)),
+  λ m f.
+      least m f,
+)
   where
     bound : from ≤ max next (number + 1)
     bound = (let a = l.0.0 in omega arith)

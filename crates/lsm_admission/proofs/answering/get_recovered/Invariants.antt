@@ -3,7 +3,11 @@ use Rattle.lsm_admission.proofs.answering.get_recovered.Given as goal
 
 -- the name stands for the records that were just made, and for the contents of the shelf
 abbrev pub ghosts-get_vouched-N-Naming : goal.ghosts-get_vouched-N-Naming
-ghosts-get_vouched-N-Naming g a = record { registry = a.records; place = (g.S.Shelf.told a.shelf).place }
+ghosts-get_vouched-N-Naming g a = record {
+  registry = a.records;
+  place =
+      (g.S.Shelf.told a.shelf).place;
+}
 
 -- the premise is that these contents keep the tables of the shape that was read
 abbrev pub ghosts-get_vouched-V-Vouching : goal.ghosts-get_vouched-V-Vouching

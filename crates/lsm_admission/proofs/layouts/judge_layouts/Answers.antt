@@ -15,7 +15,8 @@ level_layout-requires-clause-bounded g c κs within =
     let tables : List (List Table) = map (λ l. l.items) c.args.levels.now in
     let n = c.loop-number.number in
     let here : level_in tables n ≡ c.as_slice-level.result.now =
-    level_in-map (λ l. l.items) c.args.levels.now n c.index-levels-number.result (omega arith) c.index-levels-number.is ∙ sym c.as_slice-level.ensures.value in
+    level_in-map (λ l. l.items) c.args.levels.now n c.index-levels-number.result (omega arith)
+    c.index-levels-number.is ∙ sym c.as_slice-level.ensures.value in
     subst AreBounded here (bounded_in tables n c.requires.bounded)
 
 pub level_layout-requires-clause-order : goal.level_layout-requires-clause-order
@@ -23,18 +24,23 @@ level_layout-requires-clause-order g c κs within =
     let tables : List (List Table) = map (λ l. l.items) c.args.levels.now in
     let n = c.loop-number.number in
     let here : level_in tables n ≡ c.as_slice-level.result.now =
-    level_in-map (λ l. l.items) c.args.levels.now n c.index-levels-number.result (omega arith) c.index-levels-number.is ∙ sym c.as_slice-level.ensures.value in
-    subst (λ (ts : List Table). IsSortedBy stands_before ts) here (order_in tables n c.requires.order)
+    level_in-map (λ l. l.items) c.args.levels.now n c.index-levels-number.result (omega arith)
+    c.index-levels-number.is ∙ sym c.as_slice-level.ensures.value in
+    subst (λ (ts : List Table). IsSortedBy stands_before ts) here
+    (order_in tables n c.requires.order)
 
 pub returns-in-Overlap-clause-refused : goal.returns-in-Overlap-clause-refused
 returns-in-Overlap-clause-refused g c =
     let tables : List (List Table) = map (λ l. l.items) c.args.levels.now in
     let n = c.loop-number.number in
     let here : level_in tables n ≡ c.as_slice-level.result.now =
-    level_in-map (λ l. l.items) c.args.levels.now n c.index-levels-number.result (omega arith) c.index-levels-number.is ∙ sym c.as_slice-level.ensures.value in (
+    level_in-map (λ l. l.items) c.args.levels.now n c.index-levels-number.result (omega arith)
+    c.index-levels-number.is ∙ sym c.as_slice-level.ensures.value in (
       omega arith,
       omega arith,
-      subst (λ (ts : List Table). LieAs ts Overlap) (sym here) (subst (λ (l : Layout). LieAs c.as_slice-level.result.now l) c.in-Overlap.is c.in_ok-level_layout.ensures),
+      subst (λ (ts : List Table). LieAs ts Overlap) (sym here)
+          (subst (λ (l : Layout). LieAs c.as_slice-level.result.now l) c.in-Overlap.is
+          c.in_ok-level_layout.ensures),
       c.loop-number.invariant,
     )
 
@@ -44,8 +50,11 @@ loop-number-preserved g c =
     let n = c.loop-number.number in
     let layout = c.in_ok-level_layout.field-0 in
     let here : level_in tables n ≡ c.as_slice-level.result.now =
-    level_in-map (λ l. l.items) c.args.levels.now n c.index-levels-number.result (omega arith) c.index-levels-number.is ∙ sym c.as_slice-level.ensures.value in
-    layouts_more tables n layout c.loop-number.invariant (subst (λ (ts : List Table). LieAs ts layout) (sym here) c.in_ok-level_layout.ensures) c.in_default.not-Overlap
+    level_in-map (λ l. l.items) c.args.levels.now n c.index-levels-number.result (omega arith)
+    c.index-levels-number.is ∙ sym c.as_slice-level.ensures.value in
+    layouts_more tables n layout c.loop-number.invariant
+    (subst (λ (ts : List Table). LieAs ts layout) (sym here) c.in_ok-level_layout.ensures)
+    c.in_default.not-Overlap
 
 pub returns-clause-ok : goal.returns-clause-ok
 returns-clause-ok g c = λ n low le. c.loop-number.invariant n low (omega arith)
