@@ -41,6 +41,7 @@ source_later files shape batches count rest old new a b c s then = record {
   counted = s.counted;
   tail = s.tail;
   read = s.read;
+  row = s.row;
   rests = s.rests;
 }
 

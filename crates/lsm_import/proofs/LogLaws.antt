@@ -1,5 +1,6 @@
 -- The table of the logs.
-use Rattle.std.proofs.Common.{◌≡◌, ℕ, suc, ◌+◌, ◌^◌, ◌<◌, ◌≤◌, List, [], ◌∷◌, length, refl, sym, ap, ◌∙◌, subst, inl, inr, arith}
+use Rattle.std.proofs.Common.{◌≡◌, ℕ, suc, ◌+◌, ◌^◌, ◌<◌, ◌≤◌, List, [], ◌∷◌, length, refl, sym, ap}
+use Rattle.std.proofs.Common.{◌∙◌, subst, inl, inr, arith}
 use Rattle.std.specs.Prelude.{◌⊎◌, Result, Ok, Err, IfErr, IfOk, OnOk}
 use Rattle.lsm_codec.specs.Lists.{Has}
 use Rattle.lsm_codec.specs.Entries.{Entry, internal_key}
@@ -26,31 +27,61 @@ use Rattle.lsm_import.proofs.CopyLaws.{fits_push}
 fits_key : (s : List ℕ) (e : Entry) → IsKey s (internal_key e) → length s < 2 ^ 32 → FitsKey s
 fits_key s e is short = record { short = short; internal = internal_of s (internal_key e) is }
 
-pub file_fits : (es : List Entry) (s l b s' l' : List ℕ) (r : Result FileAt ImportFault) → IsImage es s l b → s' ≡ s → l' ≡ l → IfOk r (λ f. f.level ≡ 0) → IfOk r (λ f. f.file.smallest ≡ s')
-    → IfOk r (λ f. f.file.largest ≡ l') → OnOk r ((length s' < 2 ^ 32) × (length l' < 2 ^ 32)) → IfOk r FitsAdded
+pub file_fits : (es : List Entry) (s l b s' l' : List ℕ) (r : Result FileAt ImportFault)
+    → IsImage es s l b → s' ≡ s → l' ≡ l → IfOk r (λ f. f.level ≡ 0)
+    → IfOk r (λ f. f.file.smallest ≡ s')
+    → IfOk r (λ f. f.file.largest ≡ l') → OnOk r ((length s' < 2 ^ 32) × (length l' < 2 ^ 32))
+    → IfOk r FitsAdded
 file_fits es s l b s' l' (Err e) i p q level small large short = tt
 file_fits es s l b s' l' (Ok f) i p q level small large short = (
   (let n : f.level ≡ 0 = level in omega arith),
-  subst FitsKey (sym small) (subst FitsKey (sym p) (fits_key s i.first i.smallest_is (subst (λ (k : List ℕ). length k < 2 ^ 32) p short.0))),
-  subst FitsKey (sym large) (subst FitsKey (sym q) (fits_key l i.last i.largest_is (subst (λ (k : List ℕ). length k < 2 ^ 32) q short.1))),
+  subst FitsKey (sym small)
+      (subst FitsKey (sym p)
+      (fits_key s i.first i.smallest_is (subst (λ (k : List ℕ). length k < 2 ^ 32) p short.0))),
+  subst FitsKey (sym large)
+      (subst FitsKey (sym q)
+      (fits_key l i.last i.largest_is (subst (λ (k : List ℕ). length k < 2 ^ 32) q short.1))),
 )
 
-long_key : (s : List ℕ) (e : Entry) → IsKey s (internal_key e) → 2 ^ 32 ≤ length s → 2 ^ 32 ≤ length e.user + 8
-long_key s e is long = (let a = ap length is.bytes_are ∙ length-key_bytes (internal_key e) in omega arith)
+long_key : (s : List ℕ) (e : Entry) → IsKey s (internal_key e) → 2 ^ 32 ≤ length s
+    → 2 ^ 32 ≤ length e.user + 8
+long_key s e is long = (let a = ap length is.bytes_are ∙ length-key_bytes (internal_key e) in
+    omega arith)
 
-pub table_refused : (Denied : Asked → ShelfFault → Type 0) (options : TableOptions) (es : List Entry) (number : ℕ) (s l b s' l' : List ℕ) (r : Result FileAt ImportFault) → IsImage es s l b → s' ≡ s → l' ≡ l
-    → IfErr r (λ e. (e ≡ OutOfMemory) ⊎ ((e ≡ TooLarge) × ((2 ^ 32 ≤ length s') ⊎ (2 ^ 32 ≤ length l')))) → IfErr r (IsTableRefusal Denied options es number)
+pub table_refused : (Denied : Asked → ShelfFault → Type 0) (options : TableOptions)
+    (es : List Entry) (number : ℕ) (s l b s' l' : List ℕ) (r : Result FileAt ImportFault)
+    → IsImage es s l b → s' ≡ s → l' ≡ l
+    → IfErr r (λ e. (e ≡ OutOfMemory)
+    ⊎ ((e ≡ TooLarge) × ((2 ^ 32 ≤ length s') ⊎ (2 ^ 32 ≤ length l'))))
+    → IfErr r (IsTableRefusal Denied options es number)
 table_refused Denied options es number s l b s' l' (Ok f) i p q h = tt
-table_refused Denied options es number s l b s' l' (Err e) i p q (inl m) = inr ([], subst (IsPutRefusal Denied number []) (sym m) tt)
-table_refused Denied options es number s l b s' l' (Err e) i p q (inr x) = inl (x.0, inr (large x.1))
+table_refused Denied options es number s l b s' l' (Err e) i p q (inl m) =
+    inr ([], subst (IsPutRefusal Denied number []) (sym m) tt)
+table_refused Denied options es number s l b s' l' (Err e) i p q (inr x) =
+    inl (x.0, inr (large x.1))
   where
-    large : (2 ^ 32 ≤ length s') ⊎ (2 ^ 32 ≤ length l') → (y : Entry) × Has es y × (2 ^ 32 ≤ length y.user + 8)
-    large (inl n) = (i.first, subst (λ (xs : List Entry). Has xs i.first) (sym i.begins) (inl refl), long_key s i.first i.smallest_is (subst (λ (k : List ℕ). 2 ^ 32 ≤ length k) p n))
-    large (inr n) = (i.last, subst (λ (xs : List Entry). Has xs i.last) (sym i.ends) (has_right i.front (i.last ∷ []) i.last (inl refl)), long_key l i.last i.largest_is (subst (λ (k : List ℕ). 2 ^ 32 ≤ length k) q n))
+    large : (2 ^ 32 ≤ length s') ⊎ (2 ^ 32 ≤ length l') → (y : Entry) × Has es y
+        × (2 ^ 32 ≤ length y.user + 8)
+    large (inl n) = (
+      i.first,
+      subst (λ (xs : List Entry). Has xs i.first) (sym i.begins)
+          (inl refl),
+      long_key s i.first i.smallest_is
+          (subst (λ (k : List ℕ). 2 ^ 32 ≤ length k) p n),
+    )
+    large (inr n) = (
+      i.last,
+      subst (λ (xs : List Entry). Has xs i.last) (sym i.ends)
+          (has_right i.front (i.last ∷ []) i.last (inl refl)),
+      long_key l i.last i.largest_is
+          (subst (λ (k : List ℕ). 2 ^ 32 ≤ length k) q n),
+    )
 
 -- ---- what comes in
 
-pub logs_none : (Into : ℕ → List ℕ → Type 0) (batches bs : List WriteBatch) (batch : List Write) (old : Copied) → KeepsLast (writes_of bs) batch → bs ≡ batches → length batch ≡ 0 → HasLogs Into batches old old
+pub logs_none : (Into : ℕ → List ℕ → Type 0) (batches bs : List WriteBatch) (batch : List Write)
+    (old : Copied) → KeepsLast (writes_of bs) batch → bs ≡ batches → length batch ≡ 0
+    → HasLogs Into batches old old
 logs_none Into batches bs [] old kept same empty = record {
   batch = [];
   first = suc old.last + after 0 batches;
@@ -61,19 +92,26 @@ logs_none Into batches bs [] old kept same empty = record {
 }
 logs_none Into batches bs (w ∷ ws) old kept same empty = absurd (omega arith)
 
-pub logs_some : (Into : ℕ → List ℕ → Type 0) (batches bs : List WriteBatch) (batch : List Write) (old new : Copied) (first count : ℕ) (file : FileAt) → KeepsLast (writes_of bs) batch → bs ≡ batches
-    → count ≡ length batch → 0 < length batch → old.last < first → after 0 batches ≤ first → IsLogFile Into (entries_from first batch) old.next file → new ≡ with_file old file first count → HasLogs Into batches old new
-logs_some Into batches bs [] old new first count file kept same counted some above behind is step = absurd (omega arith)
-logs_some Into batches bs (w ∷ ws) old new first count file kept same counted some above behind is step = record {
-  batch = w ∷ ws;
-  first = first;
-  last = subst (λ (xs : List WriteBatch). KeepsLast (writes_of xs) (w ∷ ws)) same kept;
-  above = above;
-  behind = behind;
-  has = (file, is, subst (λ (n : ℕ). new ≡ with_file old file first n) counted step);
-}
+pub logs_some : (Into : ℕ → List ℕ → Type 0) (batches bs : List WriteBatch) (batch : List Write)
+    (old new : Copied) (first count : ℕ) (file : FileAt) → KeepsLast (writes_of bs) batch
+    → bs ≡ batches
+    → count ≡ length batch → 0 < length batch → old.last < first → after 0 batches ≤ first
+    → IsLogFile Into (entries_from first batch) old.next file
+    → new ≡ with_file old file first count → HasLogs Into batches old new
+logs_some Into batches bs [] old new first count file kept same counted some above behind is step =
+    absurd (omega arith)
+logs_some Into batches bs (w ∷ ws) old new first count file kept same counted some above behind is
+    step = record {
+      batch = w ∷ ws;
+      first = first;
+      last = subst (λ (xs : List WriteBatch). KeepsLast (writes_of xs) (w ∷ ws)) same kept;
+      above = above;
+      behind = behind;
+      has = (file, is, subst (λ (n : ℕ). new ≡ with_file old file first n) counted step);
+    }
 
-pub logs_fit : (old new : Copied) (file : FileAt) (first count : ℕ) → IsFitting old → FitsAdded file → new ≡ with_file old file first count → IsFitting new
+pub logs_fit : (old new : Copied) (file : FileAt) (first count : ℕ) → IsFitting old → FitsAdded file
+    → new ≡ with_file old file first count → IsFitting new
 logs_fit old new file first count fit one step = subst IsFitting (sym step) (record {
   fits = record {
     comparator = fit.fits.comparator;

@@ -1,5 +1,6 @@
 -- What proofs of the crates above take of a copy that is made step by step.
-use Rattle.std.proofs.Common.{◌≡◌, ℕ, suc, ◌+◌, ◌-◌, ◌<◌, ◌≤◌, List, [], ◌∷◌, ◌++◌, length, Option, None, refl, ap, ◌∙◌, arith}
+use Rattle.std.proofs.Common.{◌≡◌, ℕ, suc, ◌+◌, ◌-◌, ◌<◌, ◌≤◌, List, [], ◌∷◌, ◌++◌, length, Option}
+use Rattle.std.proofs.Common.{None, refl, ap, ◌∙◌, arith}
 use Rattle.lsm_codec.specs.Keys.{UserKey}
 use Rattle.lsm_codec.specs.Entries.{Entry, answer}
 use Rattle.lsm_shelf.specs.Told.{Becomes, Told}
@@ -17,21 +18,29 @@ pub puts_none : (a : Told) → OnlyPuts a a
 puts_none a = record { place = refl; gone = refl; starts = refl; written = refl }
 
 -- how many writes of logs came in
-writes_are : (Into : ℕ → List ℕ → Type 0) (first : ℕ) (batch : List Write) (old new : Copied) → old.writes ≡ 0 → HasWrites Into first batch old new → new.writes ≡ length batch
+writes_are : (Into : ℕ → List ℕ → Type 0) (first : ℕ) (batch : List Write) (old new : Copied)
+    → old.writes ≡ 0 → HasWrites Into first batch old new → new.writes ≡ length batch
 writes_are Into first [] old new none has = ap (λ (c : Copied). c.writes) has ∙ none
 writes_are Into first (w ∷ ws) old new none has = ap (λ (c : Copied). c.writes) has.2
 
-pub writes_came : (Into : ℕ → List ℕ → Type 0) (batches : List WriteBatch) (old new : Copied) → old.writes ≡ 0 → (h : HasLogs Into batches old new) → new.writes ≡ length h.batch
+pub writes_came : (Into : ℕ → List ℕ → Type 0) (batches : List WriteBatch) (old new : Copied)
+    → old.writes ≡ 0 → (h : HasLogs Into batches old new) → new.writes ≡ length h.batch
 writes_came Into batches old new none h = writes_are Into h.first h.batch old new none h.has
 
 -- the law of what a copy answers
 abbrev pub Law : Type 0
-Law = (es : List Entry) (batches : List WriteBatch) (batch : List Write) (last first s : ℕ) → NoneAbove last es → KeepsLast (writes_of batches) batch → last < first → first + length batch ≤ suc s
-    → (key : UserKey) → answer (entries_from first batch ++ es) key s ≡ value_over (last_write key (writes_of batches)) (answer es key last)
+Law = (es : List Entry) (batches : List WriteBatch) (batch : List Write) (last first s : ℕ)
+    → NoneAbove last es → KeepsLast (writes_of batches) batch → last < first
+    → first + length batch ≤ suc s
+    → (key : UserKey) → answer (entries_from first batch ++ es) key s
+    ≡ value_over (last_write key (writes_of batches)) (answer es key last)
 
 -- what it answers at its last sequence
-pub answers_from : Law → (Into : ℕ → List ℕ → Type 0) (es : List Entry) (batches : List WriteBatch) (batch : List Write) (last first : ℕ) (old new : Copied) → old.last ≡ last → NoneAbove last es
-    → KeepsLast (writes_of batches) batch → last < first → HasWrites Into first batch old new → (key : UserKey) → answer (entries_from first batch ++ es) key new.last ≡ source_answer es last batches key
+pub answers_from : Law → (Into : ℕ → List ℕ → Type 0) (es : List Entry) (batches : List WriteBatch)
+    (batch : List Write) (last first : ℕ) (old new : Copied) → old.last ≡ last → NoneAbove last es
+    → KeepsLast (writes_of batches) batch → last < first → HasWrites Into first batch old new
+    → (key : UserKey) → answer (entries_from first batch ++ es) key new.last
+    ≡ source_answer es last batches key
 answers_from law Into es batches [] last first old new l none kept above has key =
     let at : new.last ≡ last = ap (λ (c : Copied). c.last) has ∙ l in
     let nothing : None ≡ last_write key (writes_of batches) = kept.last key in

@@ -15,7 +15,8 @@ use Rattle.lsm_import.specs.declared.import_fault.ImportFault.TheVariants.{Numbe
 abbrev pub AreBelow : List ℕ → ℕ → Type 0
 AreBelow numbers next = (n : ℕ) → Has numbers n → n < next
 
--- the one edit that spells the shape, with this number as the next file number and as the log number,
+-- the one edit that spells the shape, with this number as the next file number and as the log
+-- number,
 -- and with no previous log
 abbrev pub standing_of : Form → ℕ → Copied
 standing_of shape next = record {

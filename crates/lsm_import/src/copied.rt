@@ -22,8 +22,8 @@ use std::sync::Wait;
 /// What was copied of a database to another shelf, where no manifest names it yet.
 #[derive(Debug, Drop)]
 pub struct Copied {
-    /// The one edit of its manifest: the tables that lie there, no log, the next file number and the
-    /// last sequence.
+    /// The one edit of its manifest: the tables that lie there, no log, the next file number and
+    /// the last sequence.
     pub edit: Edit,
     /// The next file number, above those of all its tables.
     pub next: u64,

@@ -32,9 +32,9 @@ fn number_beyond(from: u64, numbers: &[u64]) -> Result<u64, ImportFault>
 }
 
 impl Copied {
-    /// The database of a shape as it stands: its tables under their numbers and at their levels. The
-    /// next file number is above those of the tables and all of these numbers, and so is the log
-    /// number; there is no previous log. So a manifest of it reads none of these logs.
+    /// The database of a shape as it stands: its tables under their numbers and at their levels.
+    /// The next file number is above those of the tables and all of these numbers, and so is the
+    /// log number; there is no previous log. So a manifest of it reads none of these logs.
     ///
     /// # Errors
     /// `NumbersSpent` where one of the tables, or of these, has the number 2^64 - 1; `OutOfMemory`.

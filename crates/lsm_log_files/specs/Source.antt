@@ -10,6 +10,7 @@ use Rattle.lsm_manifest.specs.Shape.{Form, IsReplayed}
 use Rattle.lsm_journal.specs.Recovering.{IsRecoverRefusal}
 use Rattle.lsm_journal.specs.declared.recover_fault.RecoverFault.{RecoverFault}
 use Rattle.lsm_directory.specs.declared.folder.folder_file.FolderFile.{FolderFile}
+use Rattle.lsm_wal.specs.WriteLogs.{AreInRow}
 use Rattle.lsm_wal.specs.declared.write_batch.WriteBatch.{WriteBatch}
 use Rattle.lsm_log_files.specs.Logs.{AreLogs, AreRead, AreUnread}
 use Rattle.lsm_log_files.specs.declared.source_fault.SourceFault.{SourceFault}
@@ -31,7 +32,8 @@ ReadsManifest was is =
     Becomes was is ⊎ ((number : ℕ) × (bytes : List ℕ) × Becomes (finding number bytes was) is)
 
 -- The manifest came to this shape. Of the files beside its tables the logs that LevelDB reads are
--- so many; these are their batches, and so many bytes at the ends hold no whole record.
+-- so many; these are their batches, of which none begins below the end of the one before, also
+-- from one log to the next; and so many bytes at the ends hold no whole record.
 pub record IsSource (files : List FolderFile) (shape : Form) (batches : List WriteBatch)
     (count rest : ℕ) (old new : List Call) (was is : Told) : Type 0 where
   pub torn : ℕ
@@ -41,6 +43,7 @@ pub record IsSource (files : List FolderFile) (shape : Form) (batches : List Wri
   pub counted : count ≡ length numbers
   pub tail : ℕ
   pub read : AreRead numbers batches tail old new
+  pub row : AreInRow batches
   pub rests : rest ≡ torn + tail
 
 -- The manifest came to a shape, and its logs were not all read.

@@ -195,6 +195,9 @@ pub fn read_source<C: FolderCalls, N: Naming, S: Shelf, R: Wait>(
     let numbers = logs_read(alloc, files, shape.log, shape.prev_log)?;
     let mut logs = WriteLogs::new(alloc);
     let tail = read_logs(rt, alloc, folder, &mut logs, &numbers)?;
+
+    // What holds of the logs is told by this call.
+    let _end = logs.end();
     let rest = sum_of(torn, tail)?;
     Ok(SourceRead {
         shape,

@@ -2,7 +2,7 @@
 
 ghost use Rattle.std.specs.Prelude.{◌≡◌, ◌++◌, [], ℕ, List, IfErr, IfOk, OnErr, false, true};
 ghost use Rattle.lsm_wal.specs.WriteLog.{AreBatches, IsWriteLog, after};
-ghost use Rattle.lsm_wal.specs.WriteLogs.{BeginBelow, IsReadRefusal};
+ghost use Rattle.lsm_wal.specs.WriteLogs.{AreInRow, BeginBelow, IsReadRefusal};
 ghost use Rattle.lsm_wal.specs.declared.write_batch.WriteBatch.{WriteBatch as Given};
 
 use crate::write_batch::WriteBatch;
@@ -91,9 +91,11 @@ impl WriteLogs {
         Ok(rest)
     }
 
-    /// The sequence that the next batch may begin with: one above that of the last write, or 0.
+    /// The sequence that the next batch may begin with: one above that of the last write, or 0. No
+    /// batch begins below the end of the one before, also from one log to the next.
     pub fn end(&self) -> u64
-        ensures { result ≡ after 0 self.now }
+        ensures end { result ≡ after 0 self.now }
+        ensures row { AreInRow self.now }
     {
         self.end
     }

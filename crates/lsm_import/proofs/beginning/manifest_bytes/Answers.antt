@@ -3,4 +3,5 @@ use Rattle.lsm_manifest.specs.EditWriting.{edit_text}
 use Rattle.lsm_import.proofs.beginning.manifest_bytes.Goals as goal
 
 pub returns-clause-manifest : goal.returns-clause-manifest
-returns-clause-manifest c = c.manifest_grows.ensures.grown [] (edit_text c.args.edit.now) [] c.args.edit.now c.manifest_grows.ensures.none c.in_ok-encode.ensures.spelled
+returns-clause-manifest c = c.manifest_grows.ensures.grown [] (edit_text c.args.edit.now) []
+    c.args.edit.now c.manifest_grows.ensures.none c.in_ok-encode.ensures.spelled

@@ -3,7 +3,10 @@ use Rattle.lsm_log_files.proofs.log_files.add_number.Goals as goal
 
 pub returns-in_ok-push-in-Some : goal.returns-in_ok-push-in-Some
 returns-in_ok-push-in-Some c =
-    rw c.in_ok-push-in-Some.ensures.items (number_added c.args.log c.args.prev_log c.args.file.now c.args.numbers.now.items c.in-Some.number c.in-Some.ensures.0 c.in-Some.ensures.1)
+    rw c.in_ok-push-in-Some.ensures.items
+    (number_added c.args.log c.args.prev_log c.args.file.now c.args.numbers.now.items
+    c.in-Some.number c.in-Some.ensures.0 c.in-Some.ensures.1)
 
 pub returns-in-None : goal.returns-in-None
-returns-in-None c = number_not_added c.args.log c.args.prev_log c.args.file.now c.args.numbers.now.items c.in-None.ensures
+returns-in-None c = number_not_added c.args.log c.args.prev_log c.args.file.now
+    c.args.numbers.now.items c.in-None.ensures
