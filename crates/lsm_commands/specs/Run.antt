@@ -30,7 +30,7 @@ use Rattle.lsm_cmd_recover.specs.Recovered.{FailsToRecover, RecoversAt}
 use Rattle.lsm_cmd_recover.specs.declared.bring_fault.BringFault.{BringFault}
 use Rattle.lsm_cmd_levels.specs.Layout.{FailsToLayOut, LaysOutAt}
 use Rattle.lsm_cmd_load.specs.LoadedAt.{FailsToLoad, LoadsAt}
-use Rattle.lsm_cmd_read.specs.Looked.{FailsToLook, LooksAtGiven}
+use Rattle.lsm_cmd_read.specs.Looked.{FailsAsAsked, LooksAsAsked}
 use Rattle.lsm_cmd_shell.specs.Talked.{FailsToTalk, TalksAt}
 use Rattle.lsm_cmd_write.specs.Cleaned.{FailsToClean, IsCleanedAt}
 use Rattle.lsm_cmd_compact.specs.Compacted.{IsCompactedAt, IsUncompacted}
@@ -56,7 +56,7 @@ module _ {C M : Type 0} (folders : Ghosts C M) (marks : mark.Ghosts M) where
   IsDone text (Convert conversion input) old new said_old said_new =
       IsConverted conversion (text input) old new × Keeps said_old said_new
   IsDone text (Look line) old new said_old said_new =
-      LooksAtGiven folders marks line old new said_old said_new
+      LooksAsAsked folders marks line old new said_old said_new
   IsDone text (Levels line) old new said_old said_new =
       LaysOutAt folders line old new said_old said_new
   IsDone text (WriteFolder line) old new said_old said_new =
@@ -104,7 +104,7 @@ module _ {C M : Type 0} (folders : Ghosts C M) (marks : mark.Ghosts M) where
   abbrev pub IsUndone : (Input → Option (List ℕ)) → Request → (old new : Option (List ℕ)) → Type 0
   IsUndone text (Convert conversion input) old new = IsUnconverted conversion (text input) old new
   IsUndone text (Look line) old new =
-      (fault : DirectoryFault) × FailsToLook folders marks line fault old new
+      (fault : DirectoryFault) × FailsAsAsked folders marks line fault old new
   IsUndone text (Levels line) old new =
       (fault : DirectoryFault) × FailsToLayOut folders line fault old new
   IsUndone text (WriteFolder line) old new = IsUnwritten text line.path.now line.command old new

@@ -19,7 +19,7 @@ use lsm_cmd_recover::run_recover;
 use lsm_cmd_shell::run_shell;
 use lsm_cmd_write::{run_clean, run_ingest, run_write};
 use lsm_directory::{Known, Paths, refuse, status_of};
-use lsm_folder::FolderCalls;
+use lsm_folder::{FindingCalls, FolderCalls};
 use lsm_grammar::{CommandLine, Request, WritingCommand, WritingLine, read_line};
 use lsm_text::{Fault, write_output};
 use std::convert::AsStr;
@@ -111,7 +111,7 @@ fn obey<C, P, R, I, O, E>(
     err: &mut E,
 ) -> u8
 where
-    C: FolderCalls + Send + Sync,
+    C: FindingCalls + Send + Sync,
     C::Mark: Send + Sync,
     P: Paths<C>,
     R: Threads + Wait + Clock + Sync,
@@ -165,7 +165,7 @@ pub fn run<C, P, R, S, I, O, E>(
     err: &mut E,
 ) -> u8
 where
-    C: FolderCalls + Send + Sync,
+    C: FindingCalls + Send + Sync,
     C::Mark: Send + Sync,
     P: Paths<C>,
     R: Threads + Wait + Clock + Sync,
