@@ -165,9 +165,9 @@ def workers_beside():
     want(shell.ask("get key0 1"), "value first")
     want(shell.ask("release 1"), "released")
     want(shell.list("scan"), [f"key{n % 20}={n}" for n in sorted(range(180, 200), key=lambda n: str(n % 20))] + ["end"])
-    # Workers gather small files of level 0 once there are eight.
+    # Workers gather small files of level 0 once there are eleven.
     ends = time.monotonic() + 60
-    while int(shell.list("stats")[0].split()[3]) >= 8:
+    while int(shell.list("stats")[0].split()[3]) >= 11:
         assert time.monotonic() < ends, "the workers leave level 0 as it is"
     want(shell.list("stats")[7:], ["last 200", "snapshots 0", "end"])
     want(shell.ask("frob"), BAD)

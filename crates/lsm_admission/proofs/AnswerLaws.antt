@@ -20,8 +20,8 @@ use Rattle.lsm_admission.specs.declared.answer_fault.AnswerFault.TheVariants.{Op
 use Rattle.lsm_admission.proofs.Kept.{kept_of_shape}
 
 -- it was admitted, at a later moment too
-later : (Stored : ℕ → List ℕ → Type 0) (shape : Form) (limit : ℕ) (h : HeldManifest) (v : Levels) (rest next : ℕ) (was mid is : Told) → IsAdmitted Stored shape limit h v rest next was mid → Becomes mid is → IsAdmitted Stored shape limit h v rest next was is
-later Stored shape limit h v rest next was mid is a same = record {
+later : (Keeps : ℕ → List ℕ → Type 0) (shape : Form) (limit : ℕ) (h : HeldManifest) (v : Levels) (rest next : ℕ) (was mid is : Told) → IsAdmitted Keeps shape limit h v rest next was mid → Becomes mid is → IsAdmitted Keeps shape limit h v rest next was is
+later Keeps shape limit h v rest next was mid is a same = record {
   listed = a.listed;
   recovered = a.recovered;
   found = a.found;
@@ -32,47 +32,47 @@ later Stored shape limit h v rest next was mid is a same = record {
 }
 
 -- the read of a version that was admitted
-pub answered : (Stored : ℕ → List ℕ → Type 0) (Kept : Type 0) (shape : Form) (limit : ℕ) (h : HeldManifest) (v : Levels) (rest next : ℕ) (was mid is : Told) (user : List ℕ) (a : Option (List ℕ)) (seq : ℕ)
-    → IsAdmitted Stored shape limit h v rest next was mid → Becomes mid is → (Kept → KeepsTables Stored shape) → (Kept → IsSound v) → seq ≡ v.last → (Kept → a ≡ answer (all_entries (files v)) user seq)
-    → IsAnswered Stored Kept shape user a was is
-answered Stored Kept shape limit h v rest next was mid is user a seq admitted same kept sound last says = record {
+pub answered : (Keeps : ℕ → List ℕ → Type 0) (Kept : Type 0) (shape : Form) (limit : ℕ) (h : HeldManifest) (v : Levels) (rest next : ℕ) (was mid is : Told) (user : List ℕ) (a : Option (List ℕ)) (seq : ℕ)
+    → IsAdmitted Keeps shape limit h v rest next was mid → Becomes mid is → (Kept → KeepsTables Keeps shape) → (Kept → IsSound v) → seq ≡ v.last → (Kept → a ≡ answer (all_entries (files v)) user seq)
+    → IsAnswered Keeps Kept shape user a was is
+answered Keeps Kept shape limit h v rest next was mid is user a seq admitted same kept sound last says = record {
   held = h;
   version = v;
   rest = rest;
   next = next;
   limit = limit;
-  admitted = later Stored shape limit h v rest next was mid is admitted same;
-  of_shape = λ k. kept_of_shape Stored shape v (kept k) admitted.found;
+  admitted = later Keeps shape limit h v rest next was mid is admitted same;
+  of_shape = λ k. kept_of_shape Keeps shape v (kept k) admitted.found;
   sound = sound;
   answer = λ k. subst (λ (n : ℕ). a ≡ answer (all_entries (files v)) user n) (last ∙ admitted.found.last) (says k);
 }
 
-pub unread : (Stored : ℕ → List ℕ → Type 0) (Refused : Asked → ShelfFault → Type 0) (Kept : Type 0) (shape : Form) (limit : ℕ) (h : HeldManifest) (v : Levels) (rest next : ℕ) (was mid is : Told) (fault : ReadFault)
-    → IsAdmitted Stored shape limit h v rest next was mid → Becomes mid is → IsSomeReadRefusal Refused fault → (Kept → IsMemoryOrShelf fault) → IsUnread Stored Refused Kept shape fault was is
-unread Stored Refused Kept shape limit h v rest next was mid is fault admitted same asked sound = record {
+pub unread : (Keeps : ℕ → List ℕ → Type 0) (Refused : Asked → ShelfFault → Type 0) (Kept : Type 0) (shape : Form) (limit : ℕ) (h : HeldManifest) (v : Levels) (rest next : ℕ) (was mid is : Told) (fault : ReadFault)
+    → IsAdmitted Keeps shape limit h v rest next was mid → Becomes mid is → IsSomeReadRefusal Refused fault → (Kept → IsMemoryOrShelf fault) → IsUnread Keeps Refused Kept shape fault was is
+unread Keeps Refused Kept shape limit h v rest next was mid is fault admitted same asked sound = record {
   held = h;
   version = v;
   rest = rest;
   next = next;
   limit = limit;
-  admitted = later Stored shape limit h v rest next was mid is admitted same;
+  admitted = later Keeps shape limit h v rest next was mid is admitted same;
   asked = asked;
   sound = sound;
 }
 
 -- ---- the shape that was read
 
-pub from_shape : {T : Type 0} (r : Result T AnswerFault) (view : T → Option (List ℕ)) (Stored : ℕ → List ℕ → Type 0) (Honest : Type 0) (shape : Form) (user : List ℕ) (was is : Told)
-    → IfOk r (λ a. IsAnswered Stored (Honest × KeepsTables Stored shape) shape user (view a) was is) → IfOk r (λ a. Answers Stored Honest user (view a) was is)
-from_shape (Ok a) view Stored Honest shape user was is h = (shape, h)
-from_shape (Err e) view Stored Honest shape user was is h = tt
+pub from_shape : {T : Type 0} (r : Result T AnswerFault) (view : T → Option (List ℕ)) (Keeps : ℕ → List ℕ → Type 0) (Honest : Type 0) (shape : Form) (user : List ℕ) (was is : Told)
+    → IfOk r (λ a. IsAnswered Keeps (Honest × KeepsTables Keeps shape) shape user (view a) was is) → IfOk r (λ a. Answers Keeps Honest user (view a) was is)
+from_shape (Ok a) view Keeps Honest shape user was is h = (shape, h)
+from_shape (Err e) view Keeps Honest shape user was is h = tt
 
-fault_from : (e : AnswerFault) (Stored : ℕ → List ℕ → Type 0) (Refused : Asked → ShelfFault → Type 0) (Honest : Type 0) (shape : Form) (was is : Told)
-    → IsRefusedOf Stored Refused (Honest × KeepsTables Stored shape) shape e was is → IsAnswerRefusal Stored Refused Honest e was is
-fault_from (Open e) Stored Refused Honest shape was is h = h
-fault_from (Read e) Stored Refused Honest shape was is h = (shape, h)
+fault_from : (e : AnswerFault) (Keeps : ℕ → List ℕ → Type 0) (Refused : Asked → ShelfFault → Type 0) (Honest : Type 0) (shape : Form) (was is : Told)
+    → IsRefusedOf Keeps Refused (Honest × KeepsTables Keeps shape) shape e was is → IsAnswerRefusal Keeps Refused Honest e was is
+fault_from (Open e) Keeps Refused Honest shape was is h = h
+fault_from (Read e) Keeps Refused Honest shape was is h = (shape, h)
 
-pub refused_from : {T : Type 0} (r : Result T AnswerFault) (Stored : ℕ → List ℕ → Type 0) (Refused : Asked → ShelfFault → Type 0) (Honest : Type 0) (shape : Form) (was is : Told)
-    → IfErr r (λ e. IsRefusedOf Stored Refused (Honest × KeepsTables Stored shape) shape e was is) → IfErr r (λ e. IsAnswerRefusal Stored Refused Honest e was is)
-refused_from (Ok a) Stored Refused Honest shape was is h = tt
-refused_from (Err e) Stored Refused Honest shape was is h = fault_from e Stored Refused Honest shape was is h
+pub refused_from : {T : Type 0} (r : Result T AnswerFault) (Keeps : ℕ → List ℕ → Type 0) (Refused : Asked → ShelfFault → Type 0) (Honest : Type 0) (shape : Form) (was is : Told)
+    → IfErr r (λ e. IsRefusedOf Keeps Refused (Honest × KeepsTables Keeps shape) shape e was is) → IfErr r (λ e. IsAnswerRefusal Keeps Refused Honest e was is)
+refused_from (Ok a) Keeps Refused Honest shape was is h = tt
+refused_from (Err e) Keeps Refused Honest shape was is h = fault_from e Keeps Refused Honest shape was is h

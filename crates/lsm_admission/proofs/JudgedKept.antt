@@ -18,7 +18,7 @@ use Rattle.lsm_version.specs.FileNumbers.{AreDistinct, file_numbers, numbers_of}
 use Rattle.lsm_version.specs.Versions.{Levels, file_of, files, level_in, stands_before, user_of}
 use Rattle.lsm_version.proofs.CallerLemmas.{file_in, in_files}
 use Rattle.lsm_admission.specs.FoundTables.{IsFoundFor, AreFoundFor, AreLevelsFound, IsFoundFrom}
-use Rattle.lsm_admission.specs.Keeping.{GivesOnly, ImagesOf, KeepsTables}
+use Rattle.lsm_admission.specs.Keeping.{KeepsOnly, ImagesOf, KeepsTables}
 use Rattle.lsm_admission.proofs.Sound.{distinct_rest, level_placed, twice}
 
 -- ---- tables that were read stand in their levels
@@ -80,47 +80,47 @@ table_at last (fs ∷ shape) (ts ∷ read) file a h = elim (has_cases fs (all_fi
 image_kept : (last : ℕ) (file : TableFile) (t : Table) (image : List ℕ) → IsFileOf last file t → image ≡ t.image → IsImageOf last file image
 image_kept last file t image i e = subst (IsImageOf last file) (sym e) i.image
 
-pub images_kept : (Stored : ℕ → List ℕ → Type 0) (shape : Form) (v : Levels) → IsOfShape shape v → GivesOnly Stored v → (file : TableFile) (image : List ℕ) → Has (all_files shape.levels) file → Stored file.number image → IsImageOf shape.last file image
-images_kept Stored shape v of only file image h stored =
+pub images_kept : (Keeps : ℕ → List ℕ → Type 0) (shape : Form) (v : Levels) → IsOfShape shape v → KeepsOnly Keeps v → (file : TableFile) (image : List ℕ) → Has (all_files shape.levels) file → Keeps file.number image → IsImageOf shape.last file image
+images_kept Keeps shape v of only file image h kept =
     let r = table_at shape.last shape.levels of.read file of.files h in
     let there : Has (level_in v.tables r.0) r.1 = subst (λ (ls : List (List Table)). Has (level_in ls r.0) r.1) (sym of.placed) (level_read of.read r.0 r.1 r.2) in
-    image_kept shape.last file r.1 image r.3 (only r.0 r.1 image there (subst (λ (n : ℕ). Stored n image) (sym r.3.number) stored))
+    image_kept shape.last file r.1 image r.3 (only r.0 r.1 image there (subst (λ (n : ℕ). Keeps n image) (sym r.3.number) kept))
 
 -- ---- what is found is what was read
 
 -- the table stands for what this one does
-record IsAs (Stored : ℕ → List ℕ → Type 0) (u t : Table) : Type 0 where
+record IsAs (Keeps : ℕ → List ℕ → Type 0) (u t : Table) : Type 0 where
   number : u.number ≡ t.number
   smallest : u.smallest ≡ t.smallest
   largest : u.largest ≡ t.largest
-  stored : Stored t.number u.image
+  kept : Keeps t.number u.image
 
 abbrev OneAs : (ℕ → List ℕ → Type 0) → Table → List Table → Type 0
-OneAs Stored u ts = (t : Table) × Has ts t × IsAs Stored u t
+OneAs Keeps u ts = (t : Table) × Has ts t × IsAs Keeps u t
 
-as_file : (Stored : ℕ → List ℕ → Type 0) (last : ℕ) (file : TableFile) (u t : Table) → IsFoundFor Stored file u → IsFileOf last file t → IsAs Stored u t
-as_file Stored last file u t f i = record {
+as_file : (Keeps : ℕ → List ℕ → Type 0) (last : ℕ) (file : TableFile) (u t : Table) → IsFoundFor Keeps file u → IsFileOf last file t → IsAs Keeps u t
+as_file Keeps last file u t f i = record {
   number = f.number ∙ sym i.number;
   smallest = f.smallest ∙ sym i.smallest;
   largest = f.largest ∙ sym i.largest;
-  stored = subst (λ (n : ℕ). Stored n u.image) (f.number ∙ sym i.number) f.stored;
+  kept = subst (λ (n : ℕ). Keeps n u.image) (f.number ∙ sym i.number) f.kept;
 }
 
-one_as : (Stored : ℕ → List ℕ → Type 0) (last : ℕ) (files : List TableFile) (found read : List Table) → AreFoundFor Stored files found → AreFilesOf last files read → (u : Table) → Has found u → OneAs Stored u read
-one_as Stored last [] [] read a b u h = absurd h
-one_as Stored last [] (x ∷ found) read a b u h = absurd a
-one_as Stored last (f ∷ files) [] read a b u h = absurd h
-one_as Stored last (f ∷ files) (x ∷ found) [] a b u h = absurd b
-one_as Stored last (f ∷ files) (x ∷ found) (t ∷ read) a b u (inl e) = (t, inl refl, as_file Stored last f u t (subst (IsFoundFor Stored f) e a.0) b.0)
-one_as Stored last (f ∷ files) (x ∷ found) (t ∷ read) a b u (inr h) = (let r = one_as Stored last files found read a.1 b.1 u h in (r.0, inr r.1, r.2))
+one_as : (Keeps : ℕ → List ℕ → Type 0) (last : ℕ) (files : List TableFile) (found read : List Table) → AreFoundFor Keeps files found → AreFilesOf last files read → (u : Table) → Has found u → OneAs Keeps u read
+one_as Keeps last [] [] read a b u h = absurd h
+one_as Keeps last [] (x ∷ found) read a b u h = absurd a
+one_as Keeps last (f ∷ files) [] read a b u h = absurd h
+one_as Keeps last (f ∷ files) (x ∷ found) [] a b u h = absurd b
+one_as Keeps last (f ∷ files) (x ∷ found) (t ∷ read) a b u (inl e) = (t, inl refl, as_file Keeps last f u t (subst (IsFoundFor Keeps f) e a.0) b.0)
+one_as Keeps last (f ∷ files) (x ∷ found) (t ∷ read) a b u (inr h) = (let r = one_as Keeps last files found read a.1 b.1 u h in (r.0, inr r.1, r.2))
 
-level_as : (Stored : ℕ → List ℕ → Type 0) (last : ℕ) (shape : List (List TableFile)) (found read : List (List Table)) → AreLevelsFound Stored shape found → AreLevelsOf last shape read → (n : ℕ) (u : Table) → Has (level_in found n) u → OneAs Stored u (level_in read n)
-level_as Stored last [] [] read a b n u h = absurd h
-level_as Stored last [] (us ∷ found) read a b n u h = absurd a
-level_as Stored last (fs ∷ shape) [] read a b n u h = absurd h
-level_as Stored last (fs ∷ shape) (us ∷ found) [] a b n u h = absurd b
-level_as Stored last (fs ∷ shape) (us ∷ found) (ts ∷ read) a b zero u h = one_as Stored last fs us ts a.0 b.0 u h
-level_as Stored last (fs ∷ shape) (us ∷ found) (ts ∷ read) a b (suc n) u h = level_as Stored last shape found read a.1 b.1 n u h
+level_as : (Keeps : ℕ → List ℕ → Type 0) (last : ℕ) (shape : List (List TableFile)) (found read : List (List Table)) → AreLevelsFound Keeps shape found → AreLevelsOf last shape read → (n : ℕ) (u : Table) → Has (level_in found n) u → OneAs Keeps u (level_in read n)
+level_as Keeps last [] [] read a b n u h = absurd h
+level_as Keeps last [] (us ∷ found) read a b n u h = absurd a
+level_as Keeps last (fs ∷ shape) [] read a b n u h = absurd h
+level_as Keeps last (fs ∷ shape) (us ∷ found) [] a b n u h = absurd b
+level_as Keeps last (fs ∷ shape) (us ∷ found) (ts ∷ read) a b zero u h = one_as Keeps last fs us ts a.0 b.0 u h
+level_as Keeps last (fs ∷ shape) (us ∷ found) (ts ∷ read) a b (suc n) u h = level_as Keeps last shape found read a.1 b.1 n u h
 
 -- with one image it is one file
 same_file : (level : ℕ) (u t : Table) → u.number ≡ t.number → u.smallest ≡ t.smallest → u.largest ≡ t.largest → u.image ≡ t.image → file_of level t ≡ file_of level u
@@ -132,22 +132,22 @@ same_file level u t number smallest largest image =
     the_file : ℕ → List ℕ → List ℕ → List ℕ → File
     the_file n smallest largest image = record { level = level; number = n; low = user_of smallest; high = user_of largest; entries = entries_in image }
 
-found_is_file : (Stored : ℕ → List ℕ → Type 0) (shape : Form) (v w : Levels) → IsOfShape shape v → GivesOnly Stored v → IsFoundFrom Stored shape w → (F : File) → Has (files w) F → Has (files v) F
-found_is_file Stored shape v w of only f F h =
+found_is_file : (Keeps : ℕ → List ℕ → Type 0) (shape : Form) (v w : Levels) → IsOfShape shape v → KeepsOnly Keeps v → IsFoundFrom Keeps shape w → (F : File) → Has (files w) F → Has (files v) F
+found_is_file Keeps shape v w of only f F h =
     let at = file_in 0 w.tables F h in
     let n = at.0 in
     let u = at.1 in
     let found : Has (level_in f.tables.found.found n) u = level_placed f.tables.found.found n u (subst (λ (ls : List (List Table)). Has (level_in ls n) u) f.tables.found.placed at.2) in
-    let one = level_as Stored shape.last shape.levels f.tables.found.found of.read f.tables.found.are of.files n u found in
+    let one = level_as Keeps shape.last shape.levels f.tables.found.found of.read f.tables.found.are of.files n u found in
     let t = one.0 in
     let there : Has (level_in v.tables n) t = subst (λ (ls : List (List Table)). Has (level_in ls n) t) (sym of.placed) (level_read of.read n t one.1) in
-    let image : u.image ≡ t.image = only n t u.image there one.2.stored in
+    let image : u.image ≡ t.image = only n t u.image there one.2.kept in
     subst (Has (files v)) (same_file (0 + n) u t one.2.number one.2.smallest one.2.largest image ∙ at.3) (in_files 0 v.tables n t there)
 
-pub judged_kept : (Stored : ℕ → List ℕ → Type 0) (shape : Form) (v : Levels) → IsOfShape shape v → KeepsAge (files v) → GivesOnly Stored v → KeepsTables Stored shape
-judged_kept Stored shape v of ages only = record {
-  images = λ file image h stored size. images_kept Stored shape v of only file image h stored;
-  ages = λ w f F G x y hF hG. ages F G x y (found_is_file Stored shape v w of only f F hF) (found_is_file Stored shape v w of only f G hG);
+pub judged_kept : (Keeps : ℕ → List ℕ → Type 0) (shape : Form) (v : Levels) → IsOfShape shape v → KeepsAge (files v) → KeepsOnly Keeps v → KeepsTables Keeps shape
+judged_kept Keeps shape v of ages only = record {
+  images = λ file image h kept size. images_kept Keeps shape v of only file image h kept;
+  ages = λ w f F G x y hF hG. ages F G x y (found_is_file Keeps shape v w of only f F hF) (found_is_file Keeps shape v w of only f G hG);
 }
 
 -- ---- an instance
@@ -197,7 +197,7 @@ one_table (x ∷ ts) d t u (inr h) (inl b) e = absurd (twice t.number x.number (
 one_table (x ∷ ts) d t u (inr h) (inr k) e = one_table ts (distinct_rest x.number (table_numbers ts) d) t u h k e
 
 -- of one number a version has one image
-one_image : (shape : Form) (v : Levels) → IsOfShape shape v → AreDistinct (numbers_of shape.levels) → GivesOnly (ImagesOf v) v
+one_image : (shape : Form) (v : Levels) → IsOfShape shape v → AreDistinct (numbers_of shape.levels) → KeepsOnly (ImagesOf v) v
 one_image shape v of own n t image h s =
     let placed = of.placed in
     let here : Has (level_in of.read n) t = level_placed of.read n t (subst (λ (ls : List (List Table)). Has (level_in ls n) t) placed h) in

@@ -75,9 +75,9 @@ check_counted_from (AgeOrder user) n bytes was mid is t k = tt
 
 -- ---- refusals
 
-pub not_admitted : (Stored : ℕ → List ℕ → Type 0) (Refused : Asked → ShelfFault → Type 0) (e : CheckFault) (rest : ℕ) (h : HeldManifest) (shape : Form) (was mid is : Told) → IsRecovered h shape rest
-    → Becomes (finding h.number h.bytes was) mid → IsAdmitRefusal Stored (λ number. Refused (Load number)) shape e → CheckCounted e mid is → Becomes mid is → IsNotAdmitted Stored Refused e was is
-not_admitted Stored Refused e rest h shape was mid is r t why cause same = record {
+pub not_admitted : (Keeps : ℕ → List ℕ → Type 0) (Refused : Asked → ShelfFault → Type 0) (e : CheckFault) (rest : ℕ) (h : HeldManifest) (shape : Form) (was mid is : Told) → IsRecovered h shape rest
+    → Becomes (finding h.number h.bytes was) mid → IsAdmitRefusal Keeps (λ number. Refused (Load number)) shape e → CheckCounted e mid is → Becomes mid is → IsNotAdmitted Keeps Refused e was is
+not_admitted Keeps Refused e rest h shape was mid is r t why cause same = record {
   held = h;
   shape = shape;
   rest = rest;
@@ -87,9 +87,9 @@ not_admitted Stored Refused e rest h shape was mid is r t why cause same = recor
   told = becomes_then (finding h.number h.bytes was) mid is t same;
 }
 
-pub unlisted : (Stored : ℕ → List ℕ → Type 0) (Refused : Asked → ShelfFault → Type 0) (e : ShelfFault) (rest : ℕ) (h : HeldManifest) (shape : Form) (v : Levels) (was mid is : Told) → IsRecovered h shape rest → IsFoundFrom Stored shape v
-    → Becomes (finding h.number h.bytes was) mid → NotNamed e × Counted e mid is → IsWantOr (Refused ListTables) e → Becomes mid is → IsUnlisted Stored Refused e was is
-unlisted Stored Refused e rest h shape v was mid is r f t cause asked same = record {
+pub unlisted : (Keeps : ℕ → List ℕ → Type 0) (Refused : Asked → ShelfFault → Type 0) (e : ShelfFault) (rest : ℕ) (h : HeldManifest) (shape : Form) (v : Levels) (was mid is : Told) → IsRecovered h shape rest → IsFoundFrom Keeps shape v
+    → Becomes (finding h.number h.bytes was) mid → NotNamed e × Counted e mid is → IsWantOr (Refused ListTables) e → Becomes mid is → IsUnlisted Keeps Refused e was is
+unlisted Keeps Refused e rest h shape v was mid is r f t cause asked same = record {
   held = h;
   shape = shape;
   rest = rest;
@@ -101,9 +101,9 @@ unlisted Stored Refused e rest h shape v was mid is r f t cause asked same = rec
   told = becomes_then (finding h.number h.bytes was) mid is t same;
 }
 
-pub taken_last : (Stored : ℕ → List ℕ → Type 0) (rest : ℕ) (h : HeldManifest) (shape : Form) (v : Levels) (listed : List ℕ) (was mid is : Told) → IsRecovered h shape rest → IsFoundFrom Stored shape v
-    → Has (taken_numbers listed v h.number) (2 ^ 64 - 1) → Becomes (finding h.number h.bytes was) mid → Becomes (listing listed mid) is → IsTakenLast Stored was is
-taken_last Stored rest h shape v listed was mid is r f spent t same = record {
+pub taken_last : (Keeps : ℕ → List ℕ → Type 0) (rest : ℕ) (h : HeldManifest) (shape : Form) (v : Levels) (listed : List ℕ) (was mid is : Told) → IsRecovered h shape rest → IsFoundFrom Keeps shape v
+    → Has (taken_numbers listed v h.number) (2 ^ 64 - 1) → Becomes (finding h.number h.bytes was) mid → Becomes (listing listed mid) is → IsTakenLast Keeps was is
+taken_last Keeps rest h shape v listed was mid is r f spent t same = record {
   held = h;
   shape = shape;
   rest = rest;
@@ -130,9 +130,9 @@ without_room_listed rest h shape listed was mid is r t same = record {
 
 -- ---- what is found
 
-pub admitted_there : (Stored : ℕ → List ℕ → Type 0) (limit rest : ℕ) (h : HeldManifest) (shape : Form) (v : Levels) (listed : List ℕ) (next : ℕ) (was mid is : Told) → IsRecovered h shape rest → IsFoundFrom Stored shape v → h.limit ≡ limit
-    → IsLeastFree shape.next (taken_numbers listed v h.number) next → next < 2 ^ 64 → Becomes (finding h.number h.bytes was) mid → Becomes (listing listed mid) is → IsAdmitted Stored shape limit h v rest next was is
-admitted_there Stored limit rest h shape v listed next was mid is r f limit_is least fits t same = record {
+pub admitted_there : (Keeps : ℕ → List ℕ → Type 0) (limit rest : ℕ) (h : HeldManifest) (shape : Form) (v : Levels) (listed : List ℕ) (next : ℕ) (was mid is : Told) → IsRecovered h shape rest → IsFoundFrom Keeps shape v → h.limit ≡ limit
+    → IsLeastFree shape.next (taken_numbers listed v h.number) next → next < 2 ^ 64 → Becomes (finding h.number h.bytes was) mid → Becomes (listing listed mid) is → IsAdmitted Keeps shape limit h v rest next was is
+admitted_there Keeps limit rest h shape v listed next was mid is r f limit_is least fits t same = record {
   listed = listed;
   recovered = r;
   found = f;
@@ -143,9 +143,9 @@ admitted_there Stored limit rest h shape v listed next was mid is r f limit_is l
 }
 
 -- where the version is of the shape and sound, it is what a judgment of every table finds
-pub admitted_found : (honest : Type 0) (Stored : ℕ → List ℕ → Type 0) (limit rest : ℕ) (h : HeldManifest) (shape : Form) (v : Levels) (next : ℕ) (was is : Told) → RecoveredIsRecorded
-    → IsOfShape shape v → IsSound v → IsAdmitted Stored shape limit h v rest next was is → IsFound honest limit h v rest next was is
-admitted_found honest Stored limit rest h shape v next was is law of sound a =
+pub admitted_found : (honest : Type 0) (Keeps : ℕ → List ℕ → Type 0) (limit rest : ℕ) (h : HeldManifest) (shape : Form) (v : Levels) (next : ℕ) (was is : Told) → RecoveredIsRecorded
+    → IsOfShape shape v → IsSound v → IsAdmitted Keeps shape limit h v rest next was is → IsFound honest limit h v rest next was is
+admitted_found honest Keeps limit rest h shape v next was is law of sound a =
     let own : AreDistinct (numbers_of shape.levels) = a.found.tables.numbers in
     record {
       shape = shape;

@@ -11,20 +11,20 @@ use Rattle.lsm_version.specs.FileNumbers.{AreDistinct, numbers_of}
 use Rattle.lsm_admission.specs.FoundTables.{AreTablesFound}
 use Rattle.lsm_admission.specs.AdmitRefusal.{IsFilesRefusal, IsAdmitRefusal}
 
-pub layout_refused : (Stored : ℕ → List ℕ → Type 0) (Refused : ℕ → ShelfFault → Type 0) (shape : Form) (tables : List (List Table)) (fault : CheckFault) → AreTablesFound Stored shape tables → IsLayoutRefusal tables fault → IsAdmitRefusal Stored Refused shape fault
-layout_refused Stored Refused shape tables (Read file fault) a r = inl r
-layout_refused Stored Refused shape tables (DoubleFile number) a r = absurd r
-layout_refused Stored Refused shape tables (Overlap level) a r = (tables, a, r)
-layout_refused Stored Refused shape tables (WrongRange number) a r = absurd r
-layout_refused Stored Refused shape tables (AgeOrder user) a r = absurd r
+pub layout_refused : (Keeps : ℕ → List ℕ → Type 0) (Refused : ℕ → ShelfFault → Type 0) (shape : Form) (tables : List (List Table)) (fault : CheckFault) → AreTablesFound Keeps shape tables → IsLayoutRefusal tables fault → IsAdmitRefusal Keeps Refused shape fault
+layout_refused Keeps Refused shape tables (Read file fault) a r = inl r
+layout_refused Keeps Refused shape tables (DoubleFile number) a r = absurd r
+layout_refused Keeps Refused shape tables (Overlap level) a r = (tables, a, r)
+layout_refused Keeps Refused shape tables (WrongRange number) a r = absurd r
+layout_refused Keeps Refused shape tables (AgeOrder user) a r = absurd r
 
-pub files_refused : (Stored : ℕ → List ℕ → Type 0) (Refused : ℕ → ShelfFault → Type 0) (shape : Form) (fault : CheckFault) → AreDistinct (numbers_of shape.levels)
-    → IsFilesRefusal Stored Refused (all_files shape.levels) fault → IsAdmitRefusal Stored Refused shape fault
-files_refused Stored Refused shape (Read file fault) d r = inr (d, r)
-files_refused Stored Refused shape (WrongRange number) d r = (d, r)
-files_refused Stored Refused shape (DoubleFile number) d (inl r) = absurd r
-files_refused Stored Refused shape (DoubleFile number) d (inr (front, file, back, is, these, r)) = absurd r
-files_refused Stored Refused shape (Overlap level) d (inl r) = absurd r
-files_refused Stored Refused shape (Overlap level) d (inr (front, file, back, is, these, r)) = absurd r
-files_refused Stored Refused shape (AgeOrder user) d (inl r) = absurd r
-files_refused Stored Refused shape (AgeOrder user) d (inr (front, file, back, is, these, r)) = absurd r
+pub files_refused : (Keeps : ℕ → List ℕ → Type 0) (Refused : ℕ → ShelfFault → Type 0) (shape : Form) (fault : CheckFault) → AreDistinct (numbers_of shape.levels)
+    → IsFilesRefusal Keeps Refused (all_files shape.levels) fault → IsAdmitRefusal Keeps Refused shape fault
+files_refused Keeps Refused shape (Read file fault) d r = inr (d, r)
+files_refused Keeps Refused shape (WrongRange number) d r = (d, r)
+files_refused Keeps Refused shape (DoubleFile number) d (inl r) = absurd r
+files_refused Keeps Refused shape (DoubleFile number) d (inr (front, file, back, is, these, r)) = absurd r
+files_refused Keeps Refused shape (Overlap level) d (inl r) = absurd r
+files_refused Keeps Refused shape (Overlap level) d (inr (front, file, back, is, these, r)) = absurd r
+files_refused Keeps Refused shape (AgeOrder user) d (inl r) = absurd r
+files_refused Keeps Refused shape (AgeOrder user) d (inr (front, file, back, is, these, r)) = absurd r

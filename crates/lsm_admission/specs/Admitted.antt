@@ -24,12 +24,12 @@ use Rattle.lsm_admission.specs.FoundTables.{IsFoundFrom}
 -- record; the tables of the version were found for the files of that shape, and none was read. The
 -- next number is the least that is at least the manifest's next file number and above every number
 -- that is taken. The shelf was read and listed, and nothing was written.
-pub record IsAdmitted (Stored : ℕ → List ℕ
+pub record IsAdmitted (Keeps : ℕ → List ℕ
     → Type 0) (shape : Form) (limit : ℕ) (h : HeldManifest) (v : Levels) (rest next : ℕ) (was is
     : Told) : Type 0 where
   pub listed : List ℕ
   pub recovered : IsRecovered h shape rest
-  pub found : IsFoundFrom Stored shape v
+  pub found : IsFoundFrom Keeps shape v
   pub limit_is : h.limit ≡ limit
   pub least : IsLeastFree shape.next (taken_numbers listed v h.number) next
   pub fits : next < 2 ^ 64
@@ -38,38 +38,38 @@ pub record IsAdmitted (Stored : ℕ → List ℕ
 -- ---- refusals
 
 -- The manifest was read, and the tables of its shape are not admitted.
-pub record IsNotAdmitted (Stored : ℕ → List ℕ → Type 0) (Refused : Asked → ShelfFault
+pub record IsNotAdmitted (Keeps : ℕ → List ℕ → Type 0) (Refused : Asked → ShelfFault
     → Type 0) (e : CheckFault) (was is : Told) : Type 0 where
   pub held : HeldManifest
   pub shape : Form
   pub rest : ℕ
   pub recovered : IsRecovered held shape rest
-  pub why : IsAdmitRefusal Stored (λ number. Refused (Load number)) shape e
+  pub why : IsAdmitRefusal Keeps (λ number. Refused (Load number)) shape e
   pub cause : CheckCounted e was is
   pub told : Becomes (finding held.number held.bytes was) is
 
 -- They are, and the shelf did not list its tables.
-pub record IsUnlisted (Stored : ℕ → List ℕ → Type 0) (Refused : Asked → ShelfFault
+pub record IsUnlisted (Keeps : ℕ → List ℕ → Type 0) (Refused : Asked → ShelfFault
     → Type 0) (e : ShelfFault) (was is : Told) : Type 0 where
   pub held : HeldManifest
   pub shape : Form
   pub rest : ℕ
   pub version : Levels
   pub recovered : IsRecovered held shape rest
-  pub found : IsFoundFrom Stored shape version
+  pub found : IsFoundFrom Keeps shape version
   pub cause : NotNamed e × Counted e was is
   pub asked : IsWantOr (Refused ListTables) e
   pub told : Becomes (finding held.number held.bytes was) is
 
 -- A number that is taken is 2^64 - 1.
-pub record IsTakenLast (Stored : ℕ → List ℕ → Type 0) (was is : Told) : Type 0 where
+pub record IsTakenLast (Keeps : ℕ → List ℕ → Type 0) (was is : Told) : Type 0 where
   pub held : HeldManifest
   pub shape : Form
   pub rest : ℕ
   pub version : Levels
   pub listed : List ℕ
   pub recovered : IsRecovered held shape rest
-  pub found : IsFoundFrom Stored shape version
+  pub found : IsFoundFrom Keeps shape version
   pub spent : Has (taken_numbers listed version held.number) (2 ^ 64 - 1)
   pub told : Becomes (listing listed (finding held.number held.bytes was)) is
 
@@ -78,8 +78,8 @@ pub record IsTakenLast (Stored : ℕ → List ℕ → Type 0) (was is : Told) : 
 -- the way.
 abbrev pub IsOpenRefusal : (ℕ → List ℕ → Type 0) → (Asked → ShelfFault → Type 0) → OpenFault → Told
     → Told → Type 0
-IsOpenRefusal Stored Refused (Recover e) was is = IsRecoverRefusal Refused e was is
-IsOpenRefusal Stored Refused (Check e) was is = IsNotAdmitted Stored Refused e was is
-IsOpenRefusal Stored Refused (Shelf e) was is = IsUnlisted Stored Refused e was is
-IsOpenRefusal Stored Refused NumbersSpent was is = IsTakenLast Stored was is
-IsOpenRefusal Stored Refused OutOfMemory was is = IsWithoutRoom was is
+IsOpenRefusal Keeps Refused (Recover e) was is = IsRecoverRefusal Refused e was is
+IsOpenRefusal Keeps Refused (Check e) was is = IsNotAdmitted Keeps Refused e was is
+IsOpenRefusal Keeps Refused (Shelf e) was is = IsUnlisted Keeps Refused e was is
+IsOpenRefusal Keeps Refused NumbersSpent was is = IsTakenLast Keeps was is
+IsOpenRefusal Keeps Refused OutOfMemory was is = IsWithoutRoom was is

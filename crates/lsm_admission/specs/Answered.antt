@@ -21,7 +21,7 @@ use Rattle.lsm_admission.specs.declared.answer_fault.AnswerFault.TheVariants.{Op
 -- The database of a manifest with this shape was admitted, and no byte of a table was read till
 -- then. Where `Kept` holds its version is of the shape and sound, and the answer is that of all
 -- entries of its tables, at the last sequence.
-pub record IsAnswered (Stored : ℕ → List ℕ
+pub record IsAnswered (Keeps : ℕ → List ℕ
     → Type 0) (Kept : Type 0) (shape : Form) (user : List ℕ) (a : Option (List ℕ)) (was is : Told)
     : Type 0 where
   pub held : HeldManifest
@@ -29,21 +29,21 @@ pub record IsAnswered (Stored : ℕ → List ℕ
   pub rest : ℕ
   pub next : ℕ
   pub limit : ℕ
-  pub admitted : IsAdmitted Stored shape limit held version rest next was is
+  pub admitted : IsAdmitted Keeps shape limit held version rest next was is
   pub of_shape : Kept → IsOfShape shape version
   pub sound : Kept → IsSound version
   pub answer : Kept → a ≡ answer (all_entries (files version)) user shape.last
 
 -- It was admitted, and a read of a table is refused: where `Kept` holds, by the shelf or for want
 -- of memory.
-pub record IsUnread (Stored : ℕ → List ℕ → Type 0) (Refused : Asked → ShelfFault
+pub record IsUnread (Keeps : ℕ → List ℕ → Type 0) (Refused : Asked → ShelfFault
     → Type 0) (Kept : Type 0) (shape : Form) (fault : ReadFault) (was is : Told) : Type 0 where
   pub held : HeldManifest
   pub version : Levels
   pub rest : ℕ
   pub next : ℕ
   pub limit : ℕ
-  pub admitted : IsAdmitted Stored shape limit held version rest next was is
+  pub admitted : IsAdmitted Keeps shape limit held version rest next was is
   pub asked : IsSomeReadRefusal Refused fault
   pub sound : Kept → IsMemoryOrShelf fault
 
@@ -51,10 +51,10 @@ pub record IsUnread (Stored : ℕ → List ℕ → Type 0) (Refused : Asked → 
 -- refused.
 abbrev pub IsRefusedOf : (ℕ → List ℕ → Type 0) → (Asked → ShelfFault → Type 0) → Type 0 → Form
     → AnswerFault → Told → Told → Type 0
-IsRefusedOf Stored Refused Kept shape (Open fault) was is =
-    IsOpenRefusal Stored Refused fault was is
-IsRefusedOf Stored Refused Kept shape (Read fault) was is =
-    IsUnread Stored Refused Kept shape fault was is
+IsRefusedOf Keeps Refused Kept shape (Open fault) was is =
+    IsOpenRefusal Keeps Refused fault was is
+IsRefusedOf Keeps Refused Kept shape (Read fault) was is =
+    IsUnread Keeps Refused Kept shape fault was is
 
 -- ---- from the manifest to the answer
 
@@ -62,13 +62,13 @@ IsRefusedOf Stored Refused Kept shape (Read fault) was is =
 -- this manifest comes to, the answer is that of all entries.
 abbrev pub Answers : (ℕ → List ℕ → Type 0) → Type 0 → List ℕ → Option (List ℕ) → Told → Told
     → Type 0
-Answers Stored Honest user a was is =
-    (shape : Form) × IsAnswered Stored (Honest × KeepsTables Stored shape) shape user a was is
+Answers Keeps Honest user a was is =
+    (shape : Form) × IsAnswered Keeps (Honest × KeepsTables Keeps shape) shape user a was is
 
 -- The database is not found, or a read of it is refused.
 abbrev pub IsAnswerRefusal : (ℕ → List ℕ → Type 0) → (Asked → ShelfFault → Type 0) → Type 0
     → AnswerFault → Told → Told → Type 0
-IsAnswerRefusal Stored Refused Honest (Open fault) was is =
-    IsOpenRefusal Stored Refused fault was is
-IsAnswerRefusal Stored Refused Honest (Read fault) was is =
-    (shape : Form) × IsUnread Stored Refused (Honest × KeepsTables Stored shape) shape fault was is
+IsAnswerRefusal Keeps Refused Honest (Open fault) was is =
+    IsOpenRefusal Keeps Refused fault was is
+IsAnswerRefusal Keeps Refused Honest (Read fault) was is =
+    (shape : Form) × IsUnread Keeps Refused (Honest × KeepsTables Keeps shape) shape fault was is

@@ -11,21 +11,21 @@ use Rattle.lsm_verify.specs.Settled.{KeepsAge}
 use Rattle.lsm_version.specs.Versions.{Levels, files, level_in}
 use Rattle.lsm_admission.specs.FoundTables.{IsFoundFrom}
 
--- `Stored` says which images the shelf gives for which numbers. Each that it gives for a file of
+-- `Keeps` says which images the shelf keeps under which numbers. Each that it keeps for a file of
 -- the manifest, and that has the file's size, is the file's: a table that begins and ends at the
 -- file's keys, and has no entry above the last sequence. And of a user key's entries, those that
 -- lie shallower are newer.
-pub record KeepsTables (Stored : ℕ → List ℕ → Type 0) (shape : Form) : Type 0 where
+pub record KeepsTables (Keeps : ℕ → List ℕ → Type 0) (shape : Form) : Type 0 where
   pub images : (file : TableFile) (image : List ℕ) → Has (all_files shape.levels) file
-      → Stored file.number image → length image ≡ file.size → IsImageOf shape.last file image
-  pub ages : (v : Levels) → IsFoundFrom Stored shape v → KeepsAge (files v)
+      → Keeps file.number image → length image ≡ file.size → IsImageOf shape.last file image
+  pub ages : (v : Levels) → IsFoundFrom Keeps shape v → KeepsAge (files v)
 
 -- ---- where that is so
 
--- For the number of a table of the version the shelf gives that table's image, and no other one.
-abbrev pub GivesOnly : (ℕ → List ℕ → Type 0) → Levels → Type 0
-GivesOnly Stored v = (n : ℕ) (t : Table) (image : List ℕ) → Has (level_in v.tables n) t
-    → Stored t.number image → image ≡ t.image
+-- Under the number of a table of the version the shelf keeps that table's image, or none.
+abbrev pub KeepsOnly : (ℕ → List ℕ → Type 0) → Levels → Type 0
+KeepsOnly Keeps v = (n : ℕ) (t : Table) (image : List ℕ) → Has (level_in v.tables n) t
+    → Keeps t.number image → image ≡ t.image
 
 -- The images of a version's tables, under their numbers.
 abbrev pub ImagesOf : Levels → ℕ → List ℕ → Type 0

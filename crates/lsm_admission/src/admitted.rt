@@ -1,7 +1,6 @@
 //! A database that is there, as it is found without reading its tables.
 
 ghost use Rattle.std.specs.Prelude.{◌≡◌, ℕ, IfErr, IfOk, OnOk};
-ghost use Rattle.lsm_shelf.specs.Stored.{Stored};
 ghost use Rattle.lsm_shelf.specs.Told.{Becomes, Told, finding};
 ghost use Rattle.lsm_journal.specs.Finding.{IsAfterManifest, IsFound};
 ghost use Rattle.lsm_journal.specs.Recovering.{IsRecovered, IsRecoverRefusal, RecoverCounted};
@@ -93,21 +92,19 @@ impl<N: Naming, S: Finding> Admitted<N, S> {
         recovered: Recovered,
     ) -> Result<Admitted<N, S>, OpenFault>
         requires recovered { IsRecovered recovered.journal recovered.shape recovered.rest }
-        requires kept { S.honest → KeepsTables (Stored S.Receipt (S.is_of N.place) S.Receipt.number
-            S.Receipt.image) recovered.shape }
+        requires kept { S.honest → KeepsTables (S.keeps N.place) recovered.shape }
         ensures admitted { (was : Told)
             → Becomes (finding recovered.journal.number recovered.journal.bytes was) shelf.old
-            → IfOk result (λ f. IsAdmitted (Stored S.Receipt (S.is_of N.place) S.Receipt.number
-            S.Receipt.image) recovered.shape recovered.journal.limit f.journal f.version f.rest
-            f.next was shelf.new) }
+            → IfOk result (λ f. IsAdmitted (S.keeps N.place) recovered.shape
+            recovered.journal.limit f.journal f.version f.rest f.next was shelf.new) }
         ensures found { (was : Told)
             → Becomes (finding recovered.journal.number recovered.journal.bytes was) shelf.old
             → S.honest → IfOk result (λ f. IsFound S.honest recovered.journal.limit f.journal
             f.version f.rest f.next was shelf.new) }
         ensures refused { (was : Told)
             → Becomes (finding recovered.journal.number recovered.journal.bytes was) shelf.old
-            → IfErr result (λ e. IsOpenRefusal (Stored S.Receipt (S.is_of N.place) S.Receipt.number
-            S.Receipt.image) (S.refuses N.place) e was shelf.new) }
+            → IfErr result (λ e. IsOpenRefusal (S.keeps N.place) (S.refuses N.place) e was
+            shelf.new) }
         ensures later { IfErr result IsAfterManifest }
     {
         recovered_is_recorded();

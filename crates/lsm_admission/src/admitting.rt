@@ -2,7 +2,6 @@
 
 ghost use Rattle.std.specs.Prelude.{◌≡◌, IfErr, IfOk, length, map};
 ghost use Rattle.lsm_shelf.specs.Asked.{Load};
-ghost use Rattle.lsm_shelf.specs.Stored.{Stored};
 ghost use Rattle.lsm_table.specs.Told.{Becomes};
 ghost use Rattle.lsm_verify.specs.CheckFault.{CheckCounted};
 ghost use Rattle.lsm_verify.specs.CheckRefusal.{IsOfShape};
@@ -31,13 +30,12 @@ fn admit_levels<N: Naming, S: Finding, R: Wait>(
     registry: &Registry<N, S>,
     shape: &Shape,
 ) -> Result<Vec<Vec<TableRef<N, S>>>, CheckFault>
-    ensures tables { IfOk result (λ v. AreTablesFound (Stored S.Receipt (S.is_of N.place)
-        S.Receipt.number S.Receipt.image) shape.now (map (λ l. l.items) v.items)) }
+    ensures tables { IfOk result (λ v.
+        AreTablesFound (S.keeps N.place) shape.now (map (λ l. l.items) v.items)) }
     ensures apart { IfOk result (λ v. LieInOrder (map (λ l. l.items) v.items)) }
     ensures seven { IfOk result (λ v. length v.items ≡ 7) }
     ensures refused { IfErr result (λ e.
-        IsAdmitRefusal (Stored S.Receipt (S.is_of N.place) S.Receipt.number S.Receipt.image)
-        (λ number. S.refuses N.place (Load number)) shape.now e) }
+        IsAdmitRefusal (S.keeps N.place) (λ number. S.refuses N.place (Load number)) shape.now e) }
     ensures told { Becomes shelf.old shelf.new }
     ensures cause { IfErr result (λ e. CheckCounted e shelf.old shelf.new) }
 {
@@ -67,15 +65,12 @@ pub fn admit<N: Naming, S: Finding, R: Wait>(
     shape: &Shape,
     registry: Arc<Registry<N, S>>,
 ) -> Result<Version<N, S>, CheckFault>
-    requires kept { S.honest → KeepsTables (Stored S.Receipt (S.is_of N.place) S.Receipt.number
-        S.Receipt.image) shape.now }
-    ensures shape { IfOk result (IsFoundFrom (Stored S.Receipt (S.is_of N.place) S.Receipt.number
-        S.Receipt.image) shape.now) }
+    requires kept { S.honest → KeepsTables (S.keeps N.place) shape.now }
+    ensures shape { IfOk result (IsFoundFrom (S.keeps N.place) shape.now) }
     ensures judged { S.honest → IfOk result (λ v. IsOfShape shape.now v) }
     ensures sound { S.honest → IfOk result (λ v. IsSound v) }
     ensures refused { IfErr result (λ e.
-        IsAdmitRefusal (Stored S.Receipt (S.is_of N.place) S.Receipt.number S.Receipt.image)
-        (λ number. S.refuses N.place (Load number)) shape.now e) }
+        IsAdmitRefusal (S.keeps N.place) (λ number. S.refuses N.place (Load number)) shape.now e) }
     ensures told { Becomes shelf.old shelf.new }
     ensures cause { IfErr result (λ e. CheckCounted e shelf.old shelf.new) }
 {

@@ -2,7 +2,6 @@
 
 ghost use Rattle.std.specs.Prelude.{◌≡◌, IfErr, IfOk};
 ghost use Rattle.std.specs.Option.{option_map};
-ghost use Rattle.lsm_shelf.specs.Stored.{Stored};
 ghost use Rattle.lsm_shelf.specs.Told.{Becomes, Told, finding};
 ghost use Rattle.lsm_journal.specs.Recovering.{IsRecovered};
 ghost use Rattle.lsm_admission.specs.Answered.{Answers, IsAnswerRefusal, IsAnswered, IsRefusedOf};
@@ -29,17 +28,15 @@ fn get_admitted<N: Naming, S: Finding, R: Wait>(
 ) -> Result<Option<Vec<u8>>, AnswerFault>
     requires named { records ≡ N.registry }
     requires recovered { IsRecovered recovered.journal recovered.shape recovered.rest }
-    requires kept { S.honest → KeepsTables (Stored S.Receipt (S.is_of N.place) S.Receipt.number
-        S.Receipt.image) recovered.shape }
+    requires kept { S.honest → KeepsTables (S.keeps N.place) recovered.shape }
     ensures answered { (was : Told)
         → Becomes (finding recovered.journal.number recovered.journal.bytes was) shelf.old
-        → IfOk result (λ a. IsAnswered (Stored S.Receipt (S.is_of N.place) S.Receipt.number
-        S.Receipt.image) S.honest recovered.shape user.now (option_map (λ b. b.items) a) was
-        shelf.new) }
+        → IfOk result (λ a. IsAnswered (S.keeps N.place) S.honest recovered.shape user.now
+        (option_map (λ b. b.items) a) was shelf.new) }
     ensures refused { (was : Told)
         → Becomes (finding recovered.journal.number recovered.journal.bytes was) shelf.old
-        → IfErr result (λ e. IsRefusedOf (Stored S.Receipt (S.is_of N.place) S.Receipt.number
-        S.Receipt.image) (S.refuses N.place) S.honest recovered.shape e was shelf.new) }
+        → IfErr result (λ e. IsRefusedOf (S.keeps N.place) (S.refuses N.place) S.honest
+        recovered.shape e was shelf.new) }
 {
     let registry = Registry::shared(alloc, records)?;
     let admitted = Admitted::of_manifest(rt, alloc, shelf, &registry, recovered)?;
@@ -61,18 +58,15 @@ fn get_vouched<N: Naming, V: Vouching, S: Finding, R: Wait>(
     requires named { records ≡ N.registry }
     requires shelf { (S.told shelf).place ≡ N.place }
     requires recovered { IsRecovered recovered.journal recovered.shape recovered.rest }
-    requires kept { S.honest → V.holds → KeepsTables (Stored S.Receipt (S.is_of N.place)
-        S.Receipt.number S.Receipt.image) recovered.shape }
+    requires kept { S.honest → V.holds → KeepsTables (S.keeps N.place) recovered.shape }
     ensures answered { (was : Told)
         → Becomes (finding recovered.journal.number recovered.journal.bytes was) (S.told shelf)
-        → IfOk result.0 (λ a. IsAnswered (Stored S.Receipt (S.is_of N.place) S.Receipt.number
-        S.Receipt.image) (S.honest × V.holds) recovered.shape user.now
-        (option_map (λ b. b.items) a) was (S.told result.1)) }
+        → IfOk result.0 (λ a. IsAnswered (S.keeps N.place) (S.honest × V.holds) recovered.shape
+        user.now (option_map (λ b. b.items) a) was (S.told result.1)) }
     ensures refused { (was : Told)
         → Becomes (finding recovered.journal.number recovered.journal.bytes was) (S.told shelf)
-        → IfErr result.0 (λ e. IsRefusedOf (Stored S.Receipt (S.is_of N.place) S.Receipt.number
-        S.Receipt.image) (S.refuses N.place) (S.honest × V.holds) recovered.shape e was
-        (S.told result.1)) }
+        → IfErr result.0 (λ e. IsRefusedOf (S.keeps N.place) (S.refuses N.place)
+        (S.honest × V.holds) recovered.shape e was (S.told result.1)) }
 {
     let vouched: Vouched<V, S> = Vouched::of(shelf);
     let mut named: NamedShelf<N, Vouched<V, S>> = NamedShelf::of(vouched);
@@ -92,14 +86,12 @@ fn get_recovered<S: Finding, R: Wait>(
     requires recovered { IsRecovered recovered.journal recovered.shape recovered.rest }
     ensures answered { (was : Told)
         → Becomes (finding recovered.journal.number recovered.journal.bytes was) (S.told shelf)
-        → IfOk result.0 (λ a. Answers (Stored S.Receipt (S.is_of (S.told shelf).place)
-        S.Receipt.number S.Receipt.image) S.honest user.now (option_map (λ b. b.items) a) was
-        (S.told result.1)) }
+        → IfOk result.0 (λ a. Answers (S.keeps (S.told shelf).place) S.honest user.now
+        (option_map (λ b. b.items) a) was (S.told result.1)) }
     ensures refused { (was : Told)
         → Becomes (finding recovered.journal.number recovered.journal.bytes was) (S.told shelf)
-        → IfErr result.0 (λ e. IsAnswerRefusal (Stored S.Receipt (S.is_of (S.told shelf).place)
-        S.Receipt.number S.Receipt.image) (S.refuses (S.told shelf).place) S.honest e was
-        (S.told result.1)) }
+        → IfErr result.0 (λ e. IsAnswerRefusal (S.keeps (S.told shelf).place)
+        (S.refuses (S.told shelf).place) S.honest e was (S.told result.1)) }
 {
     match Records::new(alloc) {
         Ok(records) => {
@@ -123,11 +115,9 @@ pub fn get_unjudged<S: Finding, R: Wait>(
     shelf: S,
     user: &[u8],
 ) -> (Result<Option<Vec<u8>>, AnswerFault>, S)
-    ensures answered { IfOk result.0 (λ a. Answers (Stored S.Receipt (S.is_of (S.told shelf).place)
-        S.Receipt.number S.Receipt.image) S.honest user.now (option_map (λ b. b.items) a)
-        (S.told shelf) (S.told result.1)) }
-    ensures refused { IfErr result.0 (λ e. IsAnswerRefusal (Stored S.Receipt
-        (S.is_of (S.told shelf).place) S.Receipt.number S.Receipt.image)
+    ensures answered { IfOk result.0 (λ a. Answers (S.keeps (S.told shelf).place) S.honest user.now
+        (option_map (λ b. b.items) a) (S.told shelf) (S.told result.1)) }
+    ensures refused { IfErr result.0 (λ e. IsAnswerRefusal (S.keeps (S.told shelf).place)
         (S.refuses (S.told shelf).place) S.honest e (S.told shelf) (S.told result.1)) }
 {
     // A journal that nothing is sent through has no use for its limit.

@@ -3,7 +3,6 @@
 ghost use Rattle.std.specs.Prelude.{◌≡◌, IfErr, IfOk, OnOk, Some, length, map};
 ghost use Rattle.std.specs.List.Sorted.{IsSortedBy};
 ghost use Rattle.lsm_shelf.specs.Asked.{Load};
-ghost use Rattle.lsm_shelf.specs.Stored.{Stored};
 ghost use Rattle.lsm_table.specs.Told.{Becomes};
 ghost use Rattle.lsm_table.specs.ReadFault.{out_of_memory};
 ghost use Rattle.lsm_verify.specs.CheckFault.{CheckCounted};
@@ -43,9 +42,9 @@ fn find_file<N: Naming, S: Finding, R: Wait>(
     ensures bounds { OnOk result (IsBounds file.now.smallest file.now.largest) }
     ensures receipt { IfOk result (λ r. (S.Receipt.number r ≡ file.now.number)
         × S.is_of N.place r × (length (S.Receipt.image r) ≡ file.now.size)) }
+    ensures kept { IfOk result (λ r. S.keeps N.place file.now.number (S.Receipt.image r)) }
     ensures refused { IfErr result (λ e. IsFileRefusal
-        (λ image. (r : S.Receipt) × S.is_of N.place r × (S.Receipt.number r ≡ file.now.number)
-        × (S.Receipt.image r ≡ image)) (S.refuses N.place (Load file.now.number)) file.now e) }
+        (S.keeps N.place file.now.number) (S.refuses N.place (Load file.now.number)) file.now e) }
     ensures told { Becomes shelf.old shelf.new }
     ensures cause { IfErr result (λ e. CheckCounted e shelf.old shelf.new) }
 {
@@ -98,11 +97,9 @@ fn admit_file<N: Naming, S: Finding, R: Wait>(
     registry: &Registry<N, S>,
     file: &FileMeta,
 ) -> Result<TableRef<N, S>, CheckFault>
-    ensures found { IfOk result (IsFoundFor (Stored S.Receipt (S.is_of N.place) S.Receipt.number
-        S.Receipt.image) file.now) }
+    ensures found { IfOk result (IsFoundFor (S.keeps N.place) file.now) }
     ensures refused { IfErr result (λ e. IsFileRefusal
-        (λ image. (r : S.Receipt) × S.is_of N.place r × (S.Receipt.number r ≡ file.now.number)
-        × (S.Receipt.image r ≡ image)) (S.refuses N.place (Load file.now.number)) file.now e) }
+        (S.keeps N.place file.now.number) (S.refuses N.place (Load file.now.number)) file.now e) }
     ensures told { Becomes shelf.old shelf.new }
     ensures cause { IfErr result (λ e. CheckCounted e shelf.old shelf.new) }
 {
@@ -136,11 +133,10 @@ fn admit_level<N: Naming, S: Finding, R: Wait>(
     registry: &Registry<N, S>,
     files: &[FileMeta],
 ) -> Result<Vec<TableRef<N, S>>, CheckFault>
-    ensures found { IfOk result (λ v. IsLevelFound (Stored S.Receipt (S.is_of N.place)
-        S.Receipt.number S.Receipt.image) files.now v.items) }
+    ensures found { IfOk result (λ v. IsLevelFound (S.keeps N.place) files.now v.items) }
     ensures order { IfOk result (λ v. IsSortedBy stands_before v.items) }
     ensures refused { IfErr result (λ e.
-        IsFilesRefusal (Stored S.Receipt (S.is_of N.place) S.Receipt.number S.Receipt.image)
+        IsFilesRefusal (S.keeps N.place)
         (λ number. S.refuses N.place (Load number)) files.now e) }
     ensures told { Becomes shelf.old shelf.new }
     ensures cause { IfErr result (λ e. CheckCounted e shelf.old shelf.new) }
@@ -161,11 +157,11 @@ pub(crate) fn find_levels<N: Naming, S: Finding, R: Wait>(
     registry: &Registry<N, S>,
     levels: &[List<FileMeta>],
 ) -> Result<Vec<Vec<TableRef<N, S>>>, CheckFault>
-    ensures found { IfOk result (λ v. AreFound (Stored S.Receipt (S.is_of N.place)
-        S.Receipt.number S.Receipt.image) levels.now (map (λ l. l.items) v.items)) }
+    ensures found { IfOk result (λ v.
+        AreFound (S.keeps N.place) levels.now (map (λ l. l.items) v.items)) }
     ensures order { IfOk result (λ v. AreInOrder (map (λ l. l.items) v.items)) }
     ensures refused { IfErr result (λ e.
-        IsFilesRefusal (Stored S.Receipt (S.is_of N.place) S.Receipt.number S.Receipt.image)
+        IsFilesRefusal (S.keeps N.place)
         (λ number. S.refuses N.place (Load number)) (all_files levels.now) e) }
     ensures told { Becomes shelf.old shelf.new }
     ensures cause { IfErr result (λ e. CheckCounted e shelf.old shelf.new) }

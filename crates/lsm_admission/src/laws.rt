@@ -2,22 +2,22 @@
 
 ghost use Rattle.std.specs.Prelude.{◌≡◌};
 ghost use Rattle.lsm_manifest.specs.Shape.{Form};
-ghost use Rattle.lsm_shelf.specs.Stored.{Stored};
 ghost use Rattle.lsm_verify.specs.CheckRefusal.{IsOfShape};
 ghost use Rattle.lsm_verify.specs.Settled.{KeepsAge};
 ghost use Rattle.lsm_version.specs.FileNumbers.{AreDistinct, numbers_of};
 ghost use Rattle.lsm_version.specs.Versions.{Levels, files};
-ghost use Rattle.lsm_admission.specs.Keeping.{GivesOnly, ImagesOf, KeepsTables};
+ghost use Rattle.lsm_admission.specs.Keeping.{KeepsOnly, ImagesOf, KeepsTables};
 
-use lsm_table::{Naming, Shelf};
+use lsm_finding::Finding;
+use lsm_table::Naming;
 
 /// What a judgment found is kept: where a version is of a shape and its ages are in order, as
-/// `lsm_verify::check` gives one over an honest shelf, and the shelf gives for each of its tables
-/// the image that was judged and no other one, it keeps the tables of the shape.
-pub fn judged_tables_are_kept<N: Naming, S: Shelf>()
+/// `lsm_verify::check` gives one over an honest shelf, and the shelf keeps for each of its
+/// tables the image that was judged and no other one, it keeps the tables of the shape.
+pub fn judged_tables_are_kept<N: Naming, S: Finding>()
     ensures { (shape : Form) (v : Levels) → IsOfShape shape v → KeepsAge (files v)
-        → GivesOnly (Stored S.Receipt (S.is_of N.place) S.Receipt.number S.Receipt.image) v
-        → KeepsTables (Stored S.Receipt (S.is_of N.place) S.Receipt.number S.Receipt.image) shape }
+        → KeepsOnly (S.keeps N.place) v
+        → KeepsTables (S.keeps N.place) shape }
 {}
 
 /// So the premise can be met, by each version that a judgment can give: its own images keep the

@@ -5,6 +5,7 @@ use Rattle.boxcar.specs.declared.tag.Tag.{Tag}
 use Rattle.lsm_codec.specs.Lists.{Has}
 use Rattle.lsm_crash.specs.Disk.{Disk, Shows}
 use Rattle.lsm_crash.specs.Refusing.{ReadsShown}
+use Rattle.lsm_folder.specs.declared.contents.Unsaid.{Unsaid}
 use Rattle.lsm_folder.specs.declared.mute.Mute.{Mute}
 use Rattle.lsm_folder.specs.declared.system_mark.SystemMark.{SystemMark}
 use Rattle.lsm_shelf.specs.Told.{Told, Place, at_path}
@@ -18,7 +19,7 @@ abbrev tag_of : List ℕ → Tag
 tag_of bytes = record { marker = record {}; numbers = bytes }
 
 -- a mark of this name and image, as such a folder may have handed it out
-abbrev mark : Shelves → (name image : List ℕ) → SystemMark Mute Tag
+abbrev mark : Shelves → (name image : List ℕ) → SystemMark (Mute Unsaid) Tag
 mark marks name image = record {
   token = record {
     index = 0;
@@ -29,7 +30,7 @@ mark marks name image = record {
   };
 }
 
-abbrev receipt : Shelves → ℕ → (image : List ℕ) → length image ≤ 2 ^ 30 → FileReceipt (SystemMark Mute Tag) marks_of_program
+abbrev receipt : Shelves → ℕ → (image : List ℕ) → length image ≤ 2 ^ 30 → FileReceipt (SystemMark (Mute Unsaid) Tag) marks_of_program
 receipt marks number image limit = record {
   number = number;
   size = length image;

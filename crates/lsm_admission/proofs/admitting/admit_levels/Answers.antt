@@ -12,44 +12,44 @@ use Rattle.lsm_admission.proofs.admitting.admit_levels.Goals as goal
 
 pub judge_layouts-requires-clause-seven : goal.judge_layouts-requires-clause-seven
 judge_layouts-requires-clause-seven g c κs within =
-    let Stored : ℕ → List ℕ → Type 0 = λ number image. (r : g.row.S-Receipt.Denot) × g.S.Shelf.is_of g.N.Naming.place r × (g.S.Receipt.TableReceipt.number r ≡ number) × (g.S.Receipt.TableReceipt.image r ≡ image) in
+    let Keeps : ℕ → List ℕ → Type 0 = g.S.Finding.keeps g.N.Naming.place in
     let r = c.in_ok-levels.ensures.found in
     let shape : length c.args.shape.now.levels ≡ 7 = search rules in
     ap length c.deref.ensures.value ∙ sym (length-map c.in_ok-levels.levels.items (λ l. l.items)) ∙ ap length r.placed ∙ length-placed r.found
-    ∙ same_length Stored c.args.shape.now.levels r.found r.are ∙ shape
+    ∙ same_length Keeps c.args.shape.now.levels r.found r.are ∙ shape
 
 pub judge_layouts-requires-clause-bounded : goal.judge_layouts-requires-clause-bounded
 judge_layouts-requires-clause-bounded g c κs within =
-    let Stored : ℕ → List ℕ → Type 0 = λ number image. (r : g.row.S-Receipt.Denot) × g.S.Shelf.is_of g.N.Naming.place r × (g.S.Receipt.TableReceipt.number r ≡ number) × (g.S.Receipt.TableReceipt.image r ≡ image) in
+    let Keeps : ℕ → List ℕ → Type 0 = g.S.Finding.keeps g.N.Naming.place in
     let r = c.in_ok-levels.ensures.found in
-    subst AreLevelsBounded (sym (ap (map (λ l. l.items)) c.deref.ensures.value ∙ r.placed)) (levels_bounded Stored c.args.shape.now.levels r.found r.are)
+    subst AreLevelsBounded (sym (ap (map (λ l. l.items)) c.deref.ensures.value ∙ r.placed)) (levels_bounded Keeps c.args.shape.now.levels r.found r.are)
 
 pub returns-in_err-levels-clause-refused : goal.returns-in_err-levels-clause-refused
 returns-in_err-levels-clause-refused g c =
-    let Stored : ℕ → List ℕ → Type 0 = λ number image. (r : g.row.S-Receipt.Denot) × g.S.Shelf.is_of g.N.Naming.place r × (g.S.Receipt.TableReceipt.number r ≡ number) × (g.S.Receipt.TableReceipt.image r ≡ image) in
+    let Keeps : ℕ → List ℕ → Type 0 = g.S.Finding.keeps g.N.Naming.place in
     let p = err_from_is_err_and c.from_residual-in_err-levels.result c.from_residual-in_err-levels.ensures.1 in
-    rw (p.1, p.2) (files_refused Stored (λ number. g.S.Shelf.refuses g.N.Naming.place (Load number)) c.args.shape.now c.in_err-levels.field-0.0 c.in_ok-judge_numbers.ensures.ok c.in_err-levels.ensures.refused)
+    rw (p.1, p.2) (files_refused Keeps (λ number. g.S.Shelf.refuses g.N.Naming.place (Load number)) c.args.shape.now c.in_err-levels.field-0.0 c.in_ok-judge_numbers.ensures.ok c.in_err-levels.ensures.refused)
 
 pub returns-in_err-judge_layouts-clause-refused : goal.returns-in_err-judge_layouts-clause-refused
 returns-in_err-judge_layouts-clause-refused g c =
-    let Stored : ℕ → List ℕ → Type 0 = λ number image. (r : g.row.S-Receipt.Denot) × g.S.Shelf.is_of g.N.Naming.place r × (g.S.Receipt.TableReceipt.number r ≡ number) × (g.S.Receipt.TableReceipt.image r ≡ image) in
+    let Keeps : ℕ → List ℕ → Type 0 = g.S.Finding.keeps g.N.Naming.place in
     let fault = c.in_err-judge_layouts.field-0.0 in
     let tables : List (List Table) = map (λ l. l.items) c.in_ok-levels.levels.items in
-    let are : AreTablesFound Stored c.args.shape.now tables = record { numbers = c.in_ok-judge_numbers.ensures.ok; found = c.in_ok-levels.ensures.found; order = c.in_ok-levels.ensures.order } in
+    let are : AreTablesFound Keeps c.args.shape.now tables = record { numbers = c.in_ok-judge_numbers.ensures.ok; found = c.in_ok-levels.ensures.found; order = c.in_ok-levels.ensures.order } in
     let refused : IsLayoutRefusal tables fault =
     subst (λ (ls : List (List Table)). IsLayoutRefusal ls fault) (ap (map (λ l. l.items)) c.deref.ensures.value) c.in_err-judge_layouts.ensures.refused in
     let p = err_from_is_err_and c.from_residual-in_err-judge_layouts.result c.from_residual-in_err-judge_layouts.ensures.1 in
-    rw (p.1, p.2) (layout_refused Stored (λ number. g.S.Shelf.refuses g.N.Naming.place (Load number)) c.args.shape.now tables fault are refused)
+    rw (p.1, p.2) (layout_refused Keeps (λ number. g.S.Shelf.refuses g.N.Naming.place (Load number)) c.args.shape.now tables fault are refused)
 
 pub returns-clause-tables : goal.returns-clause-tables
 returns-clause-tables g c = record { numbers = c.in_ok-judge_numbers.ensures.ok; found = c.in_ok-levels.ensures.found; order = c.in_ok-levels.ensures.order }
 
 pub returns-clause-seven : goal.returns-clause-seven
 returns-clause-seven g c =
-    let Stored : ℕ → List ℕ → Type 0 = λ number image. (r : g.row.S-Receipt.Denot) × g.S.Shelf.is_of g.N.Naming.place r × (g.S.Receipt.TableReceipt.number r ≡ number) × (g.S.Receipt.TableReceipt.image r ≡ image) in
+    let Keeps : ℕ → List ℕ → Type 0 = g.S.Finding.keeps g.N.Naming.place in
     let r = c.in_ok-levels.ensures.found in
     let shape : length c.args.shape.now.levels ≡ 7 = search rules in
-    sym (length-map c.in_ok-levels.levels.items (λ l. l.items)) ∙ ap length r.placed ∙ length-placed r.found ∙ same_length Stored c.args.shape.now.levels r.found r.are ∙ shape
+    sym (length-map c.in_ok-levels.levels.items (λ l. l.items)) ∙ ap length r.placed ∙ length-placed r.found ∙ same_length Keeps c.args.shape.now.levels r.found r.are ∙ shape
 
 pub returns-clause-apart : goal.returns-clause-apart
 returns-clause-apart g c = subst LieInOrder (ap (map (λ l. l.items)) c.deref.ensures.value) c.in_ok-judge_layouts.ensures.ok

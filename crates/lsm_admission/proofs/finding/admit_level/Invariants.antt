@@ -1,4 +1,4 @@
-use Rattle.std.proofs.Common.{◌≡◌, take}
+use Rattle.std.proofs.Common.{take}
 use Rattle.std.specs.List.Sorted.{IsSortedBy}
 use Rattle.lsm_table.specs.Told.{Becomes}
 use Rattle.lsm_version.specs.Versions.{stands_before}
@@ -9,6 +9,6 @@ abbrev pub invariant-loop-file : goal.invariant-loop-file
 invariant-loop-file g l = record {
   told : Becomes l.fn.shelf l.shelf;
   order : IsSortedBy stands_before l.tables.items;
-  found : IsLevelFound (λ number image. (r : g.row.S-Receipt.Denot) × g.S.Shelf.is_of g.N.Naming.place r × (g.S.Receipt.TableReceipt.number r ≡ number) × (g.S.Receipt.TableReceipt.image r ≡ image))
+  found : IsLevelFound (g.S.Finding.keeps g.N.Naming.place)
       (take l.file-index l.files) l.tables.items;
 }

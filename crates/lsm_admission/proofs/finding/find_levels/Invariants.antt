@@ -1,4 +1,4 @@
-use Rattle.std.proofs.Common.{◌≡◌, take, map}
+use Rattle.std.proofs.Common.{take, map}
 use Rattle.lsm_table.specs.Told.{Becomes}
 use Rattle.lsm_version.specs.Versions.{AreInOrder}
 use Rattle.lsm_admission.specs.FoundTables.{AreFound}
@@ -8,6 +8,6 @@ abbrev pub invariant-loop-level : goal.invariant-loop-level
 invariant-loop-level g l = record {
   told : Becomes l.fn.shelf l.shelf;
   order : AreInOrder (map (λ l. l.items) l.tables.items);
-  found : AreFound (λ number image. (r : g.row.S-Receipt.Denot) × g.S.Shelf.is_of g.N.Naming.place r × (g.S.Receipt.TableReceipt.number r ≡ number) × (g.S.Receipt.TableReceipt.image r ≡ image))
+  found : AreFound (g.S.Finding.keeps g.N.Naming.place)
       (take l.level-index l.levels) (map (λ l. l.items) l.tables.items);
 }

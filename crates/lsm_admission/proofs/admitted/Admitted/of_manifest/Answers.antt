@@ -24,13 +24,13 @@ returns-in_err-version-clause-refused g c = λ was told.
 
 pub returns-in_err-taken-clause-refused : goal.returns-in_err-taken-clause-refused
 returns-in_err-taken-clause-refused g c = λ was told.
-    let Stored : ℕ → List ℕ → Type 0 = λ number image. (r : g.row.S-Receipt.Denot) × g.S.Shelf.is_of g.N.Naming.place r × (g.S.Receipt.TableReceipt.number r ≡ number) × (g.S.Receipt.TableReceipt.image r ≡ image) in
+    let Keeps : ℕ → List ℕ → Type 0 = g.S.Finding.keeps g.N.Naming.place in
     let p = err_from_is_err_and c.from_residual-in_err-taken.result c.from_residual-in_err-taken.ensures.1 in
     let r = c.args.recovered in
     let fault = c.in_err-taken.field-0.0 in
     let Refused : Asked → ShelfFault → Type 0 = g.S.Shelf.refuses g.N.Naming.place in
     let asked = want_or (Refused ListTables) fault c.in_err-taken.ensures.refused in
-    rw (p.1, p.2) (unlisted Stored Refused fault r.rest r.journal r.shape c.in_ok-version.version _ c.admit.new.shelf _ c.requires.recovered c.in_ok-version.ensures.shape
+    rw (p.1, p.2) (unlisted Keeps Refused fault r.rest r.journal r.shape c.in_ok-version.version _ c.admit.new.shelf _ c.requires.recovered c.in_ok-version.ensures.shape
     (becomes_then _ _ _ told c.admit.ensures.told) c.in_err-taken.ensures.cause asked c.in_err-taken.ensures.err)
 
 pub returns-in_err-push_numbers-clause-refused : goal.returns-in_err-push_numbers-clause-refused
@@ -49,25 +49,25 @@ returns-in_err-push-clause-refused g c = λ was told.
 
 pub returns-in_err-next-clause-refused : goal.returns-in_err-next-clause-refused
 returns-in_err-next-clause-refused g c = λ was told.
-    let Stored : ℕ → List ℕ → Type 0 = λ number image. (r : g.row.S-Receipt.Denot) × g.S.Shelf.is_of g.N.Naming.place r × (g.S.Receipt.TableReceipt.number r ≡ number) × (g.S.Receipt.TableReceipt.image r ≡ image) in
+    let Keeps : ℕ → List ℕ → Type 0 = g.S.Finding.keeps g.N.Naming.place in
     let p = err_from_is_err_and c.from_residual-in_err-next.result c.from_residual-in_err-next.ensures.1 in
     let r = c.args.recovered in
     let v = c.in_ok-version.version in
     let listed = c.in_ok-taken.taken.items in
     let all : c.deref.result.now ≡ taken_numbers listed v r.journal.number =
     taken_all listed _ _ _ v c.number.result r.journal.number c.deref.ensures.value c.in_ok-push.ensures.items c.in_ok-push_numbers.ensures.ok c.number.ensures in
-    rw (p.1, p.2, c.in_err-next.ensures.err.0) (taken_last Stored r.rest r.journal r.shape v listed _ c.admit.new.shelf _ c.requires.recovered c.in_ok-version.ensures.shape
+    rw (p.1, p.2, c.in_err-next.ensures.err.0) (taken_last Keeps r.rest r.journal r.shape v listed _ c.admit.new.shelf _ c.requires.recovered c.in_ok-version.ensures.shape
     (subst (λ xs. Has xs (2 ^ 64 - 1)) all c.in_err-next.ensures.err.1) (becomes_then _ _ _ told c.admit.ensures.told) c.in_ok-taken.ensures.ok)
 
 pub returns-clause-admitted : goal.returns-clause-admitted
 returns-clause-admitted g c = λ was told.
-    let Stored : ℕ → List ℕ → Type 0 = λ number image. (r : g.row.S-Receipt.Denot) × g.S.Shelf.is_of g.N.Naming.place r × (g.S.Receipt.TableReceipt.number r ≡ number) × (g.S.Receipt.TableReceipt.image r ≡ image) in
+    let Keeps : ℕ → List ℕ → Type 0 = g.S.Finding.keeps g.N.Naming.place in
     let r = c.args.recovered in
     let v = c.in_ok-version.version in
     let listed = c.in_ok-taken.taken.items in
     let all : c.deref.result.now ≡ taken_numbers listed v r.journal.number =
     taken_all listed _ _ _ v c.number.result r.journal.number c.deref.ensures.value c.in_ok-push.ensures.items c.in_ok-push_numbers.ensures.ok c.number.ensures in
-    admitted_there Stored r.journal.limit r.rest r.journal r.shape v listed c.in_ok-next.next _ c.admit.new.shelf _ c.requires.recovered c.in_ok-version.ensures.shape refl
+    admitted_there Keeps r.journal.limit r.rest r.journal r.shape v listed c.in_ok-next.next _ c.admit.new.shelf _ c.requires.recovered c.in_ok-version.ensures.shape refl
     (subst (λ xs. IsLeastFree r.shape.next xs c.in_ok-next.next) all c.in_ok-next.ensures.ok) (omega arith) (becomes_then _ _ _ told c.admit.ensures.told) c.in_ok-taken.ensures.ok
 
 pub returns-clause-found : goal.returns-clause-found
