@@ -6,7 +6,9 @@ use Rattle.std.specs.Io.KnownBytes.{Keeps}
 use Rattle.lsm_folder.specs.Calls.{AreHonest}
 use Rattle.lsm_folder.specs.declared.folder_calls.FolderCalls.{Ghosts}
 use Rattle.lsm_folder.specs.declared.mark.Mark as mark
+use Rattle.lsm_shelf.specs.Place.{Place}
 use Rattle.lsm_shelf.specs.Refusals.{MayRefuse}
+use Rattle.lsm_storage.specs.FileNames.{table_name}
 use Rattle.lsm_storage.specs.declared.file.file_shelf.FileShelf.{FileShelf}
 use Rattle.lsm_requests.specs.declared.directory_line.DirectoryLine.{DirectoryLine}
 use Rattle.lsm_cmd_read.specs.Answers.{IsLookedInto, IsNotLookedInto, asked_by, moment}
@@ -66,7 +68,14 @@ module _ {C M : Type 0} (folders : Ghosts C M) (marks : mark.Ghosts M) where
   FailsToLook line fault old new =
       ((IsFolderFault fault ⊎ (fault ≡ OutOfMemory)) × Keeps old new) ⊎ FailsAt line fault old new
 
-  -- ---- a quick line
+-- ---- a quick line
+
+-- `holds` says of a folder's place which bytes a file of a name holds there.
+module _ {C M : Type 0} (folders : Ghosts C M) (marks : mark.Ghosts M)
+    (holds : Place → (name image : List ℕ) → Type 0) where
+  -- which images the folder of a place keeps under which numbers
+  abbrev pub kept_at : Place → ℕ → List ℕ → Type 0
+  kept_at place number image = holds place (table_name number) image
 
   -- The lock of the folder at the path was held, and this was found beside its tables. On a shelf
   -- of it, which was only read, the command was done; its tables were found, and not judged.
@@ -78,6 +87,7 @@ module _ {C M : Type 0} (folders : Ghosts C M) (marks : mark.Ghosts M) where
     pub ended : FileShelf C M
     pub done :
         LooksQuickly (asked_by line beside)
+        (kept_at (told_by folders begun).place)
         (stored_at folders marks (told_by folders begun).place) (AreHonest folders.calls)
         (moment (told_by folders begun) old) (moment (told_by folders ended) new)
         said_old said_new
@@ -92,6 +102,7 @@ module _ {C M : Type 0} (folders : Ghosts C M) (marks : mark.Ghosts M) where
     pub ended : FileShelf C M
     pub refused :
         FailsQuickly (asked_by line beside)
+        (kept_at (told_by folders begun).place)
         (stored_at folders marks (told_by folders begun).place) MayRefuse
         (AreHonest folders.calls) fault (moment (told_by folders begun) old)
         (moment (told_by folders ended) new)
@@ -109,5 +120,5 @@ module _ {C M : Type 0} (folders : Ghosts C M) (marks : mark.Ghosts M) where
   -- it was not
   abbrev pub FailsAsAsked : DirectoryLine → DirectoryFault → (old new : Option (List ℕ)) → Type 0
   FailsAsAsked line fault old new =
-      FailsToLook line fault old new
+      FailsToLook folders marks line fault old new
       ⊎ (IsTrue (is_quick line.command line.quick) × FailsQuicklyAt line fault old new)

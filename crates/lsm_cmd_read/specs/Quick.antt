@@ -48,13 +48,14 @@ is_quick (Scan options) quick = quick
 -- Between these moments the shelf read its manifest, which has this number and comes to the shape,
 -- and listed its tables; each table of the version was found for a file of the shape, and none was
 -- read till then. So many bytes at the manifest's end hold no whole record, and it has these
--- numbers of the write-ahead log and of the one before it. The shelf gave the tables' images.
-pub record Admits (Stored : ℕ → List ℕ → Type 0) (shape : Shape) (was is : Told) (v : Levels)
+-- numbers of the write-ahead log and of the one before it. `Files` says which images the shelf
+-- keeps under which numbers, and `Stored` which it gave, as it did those of these tables.
+pub record Admits (Files Stored : ℕ → List ℕ → Type 0) (shape : Shape) (was is : Told) (v : Levels)
     (m : NamedManifest) : Type 0 where
   pub held : HeldManifest
   pub limit : ℕ
   pub next : ℕ
-  pub admitted : IsAdmitted Stored shape limit held v m.rest next was is
+  pub admitted : IsAdmitted Files shape limit held v m.rest next was is
   pub numbered : held.number ≡ m.number
   pub logs : held.log ≡ m.log
   pub previous : held.prev_log ≡ m.prev_log
@@ -65,11 +66,12 @@ pub record Admits (Stored : ℕ → List ℕ → Type 0) (shape : Shape) (was is
 -- The directory's tables are admitted, and nothing is left out where that is asked for; where
 -- `Kept` holds, it holds the version as after a judgment of every table. What the command prints of
 -- the version was written (by `get` and `scan`, where `Kept` holds), and standard error is quiet.
-pub record IsQuicklyLookedInto (asked : Asking) (Stored : ℕ → List ℕ → Type 0) (Kept : Type 0)
-    (shape : Shape) (before after : Moment) (said_old said_new : Option (List ℕ)) : Type 0 where
+pub record IsQuicklyLookedInto (asked : Asking) (Files Stored : ℕ → List ℕ → Type 0)
+    (Kept : Type 0) (shape : Shape) (before after : Moment)
+    (said_old said_new : Option (List ℕ)) : Type 0 where
   pub version : Levels
   pub manifest : NamedManifest
-  pub admits : Admits Stored shape before.told after.told version manifest
+  pub admits : Admits Files Stored shape before.told after.told version manifest
   pub holds : Kept → Holds Kept before.told after.told version manifest
   pub whole : IsTrue asked.strict → IsWhole manifest asked.beside
   pub printed : ReliesOn Kept asked.command
@@ -78,20 +80,20 @@ pub record IsQuicklyLookedInto (asked : Asking) (Stored : ℕ → List ℕ → T
 
 -- The shelf gave a manifest; so it was, under `Honest` and where the shelf keeps the tables of the
 -- shape that this manifest comes to.
-abbrev pub LooksQuickly : Asking → (ℕ → List ℕ → Type 0) → Type 0 → (before after : Moment)
-    → (said_old said_new : Option (List ℕ)) → Type 0
-LooksQuickly asked Stored Honest before after said_old said_new =
-    (shape : Shape) × IsQuicklyLookedInto asked Stored (Honest × KeepsTables Stored shape) shape
-    before after said_old said_new
+abbrev pub LooksQuickly : Asking → (Files Stored : ℕ → List ℕ → Type 0) → Type 0
+    → (before after : Moment) → (said_old said_new : Option (List ℕ)) → Type 0
+LooksQuickly asked Files Stored Honest before after said_old said_new =
+    (shape : Shape) × IsQuicklyLookedInto asked Files Stored (Honest × KeepsTables Files shape)
+    shape before after said_old said_new
 
 -- ---- what is not
 
 -- The directory is not opened, and nothing was written.
-pub record IsUnadmitted (Stored : ℕ → List ℕ → Type 0) (Refused : Asked → ShelfFault → Type 0)
+pub record IsUnadmitted (Files : ℕ → List ℕ → Type 0) (Refused : Asked → ShelfFault → Type 0)
     (fault : DirectoryFault) (before after : Moment) : Type 0 where
   pub cause : OpenFault
   pub is : fault ≡ of_open cause
-  pub why : IsOpenRefusal Stored Refused cause before.told after.told
+  pub why : IsOpenRefusal Files Refused cause before.told after.told
   pub left : Keeps before.out after.out
 
 -- Nothing is to be left out, and of the manifest this is; nothing was written.
@@ -99,35 +101,36 @@ abbrev pub IsLeftOut : Asking → NamedManifest → DirectoryFault → (before a
 IsLeftOut asked m fault before after =
     IsTrue asked.strict × IsFirstLeftOut m asked.beside fault × Keeps before.out after.out
 
--- Memory ran out, a write failed, a read of a table was refused (where `Kept` holds, by the shelf or
--- for want of memory), or the key is absent; and what was written before.
+-- Memory ran out, a write failed, a read of a table was refused (where `Kept` holds, by the shelf
+-- or for want of memory), or the key is absent; and what was written before.
 abbrev pub IsStopped : Asking → Type 0 → Levels → DirectoryFault → (before after : Moment) → Type 0
 IsStopped asked Kept v fault before after =
     IsPerformFault Kept asked.command v fault before.told after.told
     × (fault ≢ Write → PrintsBefore asked.form asked.command Kept v before.out after.out)
 
 -- The directory's tables are admitted, and the command was not done.
-pub record IsUnanswered (asked : Asking) (Stored : ℕ → List ℕ → Type 0) (Kept : Type 0)
-    (shape : Shape) (fault : DirectoryFault) (before after : Moment) : Type 0 where
+pub record IsUnanswered (asked : Asking) (Files Stored : ℕ → List ℕ → Type 0)
+    (Kept : Type 0) (shape : Shape) (fault : DirectoryFault) (before after : Moment) : Type 0 where
   pub version : Levels
   pub manifest : NamedManifest
-  pub admits : Admits Stored shape before.told after.told version manifest
+  pub admits : Admits Files Stored shape before.told after.told version manifest
   pub holds : Kept → Holds Kept before.told after.told version manifest
   pub why : IsLeftOut asked manifest fault before after
       ⊎ IsStopped asked Kept version fault before after
 
 -- Either of it.
-abbrev pub IsUndone : Asking → (ℕ → List ℕ → Type 0) → (Asked → ShelfFault → Type 0) → Type 0
-    → Shape → DirectoryFault → (before after : Moment) → Type 0
-IsUndone asked Stored Refused Kept shape fault before after =
-    IsUnadmitted Stored Refused fault before after
-    ⊎ IsUnanswered asked Stored Kept shape fault before after
+abbrev pub IsUndone : Asking → (Files Stored : ℕ → List ℕ → Type 0)
+    → (Asked → ShelfFault → Type 0) → Type 0 → Shape → DirectoryFault → (before after : Moment)
+    → Type 0
+IsUndone asked Files Stored Refused Kept shape fault before after =
+    IsUnadmitted Files Refused fault before after
+    ⊎ IsUnanswered asked Files Stored Kept shape fault before after
 
 -- The directory is not opened; or it is, and under `Honest` and where the shelf keeps the tables of
 -- the shape that its manifest comes to, the command was not done.
-abbrev pub FailsQuickly : Asking → (ℕ → List ℕ → Type 0) → (Asked → ShelfFault → Type 0) → Type 0
-    → DirectoryFault → (before after : Moment) → Type 0
-FailsQuickly asked Stored Refused Honest fault before after =
-    IsUnadmitted Stored Refused fault before after
-    ⊎ ((shape : Shape) × IsUnanswered asked Stored (Honest × KeepsTables Stored shape) shape fault
-    before after)
+abbrev pub FailsQuickly : Asking → (Files Stored : ℕ → List ℕ → Type 0)
+    → (Asked → ShelfFault → Type 0) → Type 0 → DirectoryFault → (before after : Moment) → Type 0
+FailsQuickly asked Files Stored Refused Honest fault before after =
+    IsUnadmitted Files Refused fault before after
+    ⊎ ((shape : Shape) × IsUnanswered asked Files Stored (Honest × KeepsTables Files shape) shape
+    fault before after)

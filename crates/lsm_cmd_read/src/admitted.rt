@@ -30,19 +30,18 @@ pub(crate) fn admit<N: Naming, S: Finding, R: Wait>(
     recovered: Recovered,
 ) -> Result<(Version<N, S>, NamedManifest), OpenFault>
     requires recovered { IsRecovered recovered.journal recovered.shape recovered.rest }
-    requires kept { S.honest → KeepsTables (Stored S.Receipt (S.is_of N.place) S.Receipt.number
-        S.Receipt.image) recovered.shape }
+    requires kept { S.honest → KeepsTables (S.keeps N.place) recovered.shape }
     ensures admitted { (was : Told)
         → Becomes (finding recovered.journal.number recovered.journal.bytes was) shelf.old
-        → IfOk result (λ o. Admits (Stored S.Receipt (S.is_of N.place) S.Receipt.number
-        S.Receipt.image) recovered.shape was shelf.new o.0 o.1) }
+        → IfOk result (λ o. Admits (S.keeps N.place)
+        (Stored S.Receipt (S.is_of N.place) S.Receipt.number S.Receipt.image)
+        recovered.shape was shelf.new o.0 o.1) }
     ensures holds { (was : Told)
         → Becomes (finding recovered.journal.number recovered.journal.bytes was) shelf.old
         → S.honest → IfOk result (λ o. Holds S.honest was shelf.new o.0 o.1) }
     ensures refused { (was : Told)
         → Becomes (finding recovered.journal.number recovered.journal.bytes was) shelf.old
-        → IfErr result (λ e. IsOpenRefusal (Stored S.Receipt (S.is_of N.place) S.Receipt.number
-        S.Receipt.image) (S.refuses N.place) e was shelf.new) }
+        → IfErr result (λ e. IsOpenRefusal (S.keeps N.place) (S.refuses N.place) e was shelf.new) }
 {
     let admitted = Admitted::of_manifest(rt, alloc, shelf, registry, recovered)?;
     tables_are_given(&admitted.version);

@@ -127,11 +127,13 @@ pub fn look_quickly<S: Finding, R: Wait, O: Write, E: Write>(
 ) -> (u8, S)
     requires reads { IsFalse (is_check inquiry.now.command.now) }
     ensures done { result.0 ≡ 0 → LooksQuickly (asking inquiry.now)
+        (S.keeps (S.told shelf).place)
         (Stored S.Receipt (S.is_of (S.told shelf).place) S.Receipt.number S.Receipt.image) S.honest
         (moment (S.told shelf) (O.contents out.old)) (moment (S.told result.1) (O.contents out.new))
         (E.contents err.old) (E.contents err.new) }
     ensures refused { result.0 ≢ 0 → (result.0 ≡ 1)
         × ((fault : DirectoryFault) × FailsQuickly (asking inquiry.now)
+        (S.keeps (S.told shelf).place)
         (Stored S.Receipt (S.is_of (S.told shelf).place) S.Receipt.number S.Receipt.image)
         (S.refuses (S.told shelf).place) S.honest fault (moment (S.told shelf) (O.contents out.old))
         (moment (S.told result.1) (O.contents out.new))) }
@@ -268,9 +270,9 @@ fn look_quickly_at<C: FindingCalls + Send + Sync, P: Paths<C>, R: Wait, O: Write
 where
     C::Mark: Send + Sync,
     requires quick { IsTrue (is_quick line.now.command line.now.quick) }
-    ensures done { OnOk result (LooksAsAsked C.FolderCalls C.Mark.Mark line.now
+    ensures done { OnOk result (LooksAsAsked C.FolderCalls C.Mark.Mark C.holds line.now
         (O.contents out.old) (O.contents out.new) (E.contents err.old) (E.contents err.new)) }
-    ensures refused { IfErr result (λ e. FailsAsAsked C.FolderCalls C.Mark.Mark line.now e
+    ensures refused { IfErr result (λ e. FailsAsAsked C.FolderCalls C.Mark.Mark C.holds line.now e
         (O.contents out.old) (O.contents out.new)) }
 {
     let (shelf, _none, beside) = open_shelf(rt, paths, line.path, 0, reasons)?;
@@ -304,9 +306,9 @@ fn look_as_asked<
 ) -> Result<(), DirectoryFault>
 where
     C::Mark: Send + Sync,
-    ensures done { OnOk result (LooksAsAsked C.FolderCalls C.Mark.Mark line.now
+    ensures done { OnOk result (LooksAsAsked C.FolderCalls C.Mark.Mark C.holds line.now
         (O.contents out.old) (O.contents out.new) (E.contents err.old) (E.contents err.new)) }
-    ensures refused { IfErr result (λ e. FailsAsAsked C.FolderCalls C.Mark.Mark line.now e
+    ensures refused { IfErr result (λ e. FailsAsAsked C.FolderCalls C.Mark.Mark C.holds line.now e
         (O.contents out.old) (O.contents out.new)) }
 {
     if is_quick(&line.command, line.quick) {
@@ -327,10 +329,10 @@ pub fn run_look<
 >(rt: &R, paths: &P, line: &DirectoryLine<'_>, out: &mut O, err: &mut E) -> u8
 where
     C::Mark: Send + Sync,
-    ensures done { result ≡ 0 → LooksAsAsked C.FolderCalls C.Mark.Mark line.now
+    ensures done { result ≡ 0 → LooksAsAsked C.FolderCalls C.Mark.Mark C.holds line.now
         (O.contents out.old) (O.contents out.new) (E.contents err.old) (E.contents err.new) }
     ensures refused { result ≢ 0 → (result ≡ 1) × ((fault : DirectoryFault)
-        × FailsAsAsked C.FolderCalls C.Mark.Mark line.now fault (O.contents out.old)
+        × FailsAsAsked C.FolderCalls C.Mark.Mark C.holds line.now fault (O.contents out.old)
         (O.contents out.new)) }
 {
     let reasons = match Reasons::new(paths.alloc()) {

@@ -40,17 +40,18 @@ fn perform_admitted<N: Naming, S: Finding, R: Wait, O: Write, E: Write>(
     requires named { records ≡ N.registry }
     requires reads { IsFalse (is_check inquiry.now.command.now) }
     requires recovered { IsRecovered recovered.journal recovered.shape recovered.rest }
-    requires kept { S.honest → KeepsTables (Stored S.Receipt (S.is_of N.place) S.Receipt.number
-        S.Receipt.image) recovered.shape }
+    requires kept { S.honest → KeepsTables (S.keeps N.place) recovered.shape }
     ensures done { (was : Told)
         → Becomes (finding recovered.journal.number recovered.journal.bytes was) shelf.old
         → OnOk result (IsQuicklyLookedInto (asking inquiry.now)
+        (S.keeps N.place)
         (Stored S.Receipt (S.is_of N.place) S.Receipt.number S.Receipt.image) S.honest
         recovered.shape (moment was (O.contents out.old)) (moment shelf.new (O.contents out.new))
         (E.contents err.old) (E.contents err.new)) }
     ensures refused { (was : Told)
         → Becomes (finding recovered.journal.number recovered.journal.bytes was) shelf.old
         → IfErr result (λ e. IsUndone (asking inquiry.now)
+        (S.keeps N.place)
         (Stored S.Receipt (S.is_of N.place) S.Receipt.number S.Receipt.image) (S.refuses N.place)
         S.honest recovered.shape e (moment was (O.contents out.old))
         (moment shelf.new (O.contents out.new))) }
@@ -78,11 +79,11 @@ fn perform_vouched<N: Naming, V: Vouching, S: Finding, R: Wait, O: Write, E: Wri
     requires shelf { (S.told shelf).place ≡ N.place }
     requires reads { IsFalse (is_check inquiry.now.command.now) }
     requires recovered { IsRecovered recovered.journal recovered.shape recovered.rest }
-    requires kept { S.honest → V.holds → KeepsTables (Stored S.Receipt (S.is_of N.place)
-        S.Receipt.number S.Receipt.image) recovered.shape }
+    requires kept { S.honest → V.holds → KeepsTables (S.keeps N.place) recovered.shape }
     ensures done { (was : Told)
         → Becomes (finding recovered.journal.number recovered.journal.bytes was) (S.told shelf)
         → OnOk result.0 (IsQuicklyLookedInto (asking inquiry.now)
+        (S.keeps N.place)
         (Stored S.Receipt (S.is_of N.place) S.Receipt.number S.Receipt.image)
         (S.honest × V.holds) recovered.shape (moment was (O.contents out.old))
         (moment (S.told result.1) (O.contents out.new)) (E.contents err.old)
@@ -90,6 +91,7 @@ fn perform_vouched<N: Naming, V: Vouching, S: Finding, R: Wait, O: Write, E: Wri
     ensures refused { (was : Told)
         → Becomes (finding recovered.journal.number recovered.journal.bytes was) (S.told shelf)
         → IfErr result.0 (λ e. IsUndone (asking inquiry.now)
+        (S.keeps N.place)
         (Stored S.Receipt (S.is_of N.place) S.Receipt.number S.Receipt.image) (S.refuses N.place)
         (S.honest × V.holds) recovered.shape e (moment was (O.contents out.old))
         (moment (S.told result.1) (O.contents out.new))) }
@@ -102,6 +104,7 @@ fn perform_vouched<N: Naming, V: Vouching, S: Finding, R: Wait, O: Write, E: Wri
 
 /// The same, with records of its own. The premise is that the shelf keeps the tables of the shape
 /// that was read.
+#[tactic(auto, using(crate::proofs::QuickLaws::quickly_without_records))]
 fn begin_recovered<S: Finding, R: Wait, O: Write, E: Write>(
     rt: &R,
     alloc: Global,
@@ -116,12 +119,14 @@ fn begin_recovered<S: Finding, R: Wait, O: Write, E: Write>(
     ensures done { (was : Told)
         → Becomes (finding recovered.journal.number recovered.journal.bytes was) (S.told shelf)
         → OnOk result.0 (LooksQuickly (asking inquiry.now)
+        (S.keeps (S.told shelf).place)
         (Stored S.Receipt (S.is_of (S.told shelf).place) S.Receipt.number S.Receipt.image) S.honest
         (moment was (O.contents out.old)) (moment (S.told result.1) (O.contents out.new))
         (E.contents err.old) (E.contents err.new)) }
     ensures refused { (was : Told)
         → Becomes (finding recovered.journal.number recovered.journal.bytes was) (S.told shelf)
         → IfErr result.0 (λ e. FailsQuickly (asking inquiry.now)
+        (S.keeps (S.told shelf).place)
         (Stored S.Receipt (S.is_of (S.told shelf).place) S.Receipt.number S.Receipt.image)
         (S.refuses (S.told shelf).place) S.honest e (moment was (O.contents out.old))
         (moment (S.told result.1) (O.contents out.new))) }
@@ -136,6 +141,7 @@ fn begin_recovered<S: Finding, R: Wait, O: Write, E: Write>(
 
 /// Reads the manifest that the directory of a shelf names, finds its tables, and does what a
 /// command that is no check asks. It requires nothing of the shelf: whatever that is, it ends.
+#[tactic(auto, using(crate::proofs::QuickLaws::quickly_unread, crate::proofs::ReadingOutcomes::recover_reads))]
 pub(crate) fn begin_quickly<S: Finding, R: Wait, O: Write, E: Write>(
     rt: &R,
     alloc: Global,
@@ -146,10 +152,12 @@ pub(crate) fn begin_quickly<S: Finding, R: Wait, O: Write, E: Write>(
 ) -> (Result<(), DirectoryFault>, S)
     requires reads { IsFalse (is_check inquiry.now.command.now) }
     ensures done { OnOk result.0 (LooksQuickly (asking inquiry.now)
+        (S.keeps (S.told shelf).place)
         (Stored S.Receipt (S.is_of (S.told shelf).place) S.Receipt.number S.Receipt.image) S.honest
         (moment (S.told shelf) (O.contents out.old)) (moment (S.told result.1) (O.contents out.new))
         (E.contents err.old) (E.contents err.new)) }
     ensures refused { IfErr result.0 (λ e. FailsQuickly (asking inquiry.now)
+        (S.keeps (S.told shelf).place)
         (Stored S.Receipt (S.is_of (S.told shelf).place) S.Receipt.number S.Receipt.image)
         (S.refuses (S.told shelf).place) S.honest e (moment (S.told shelf) (O.contents out.old))
         (moment (S.told result.1) (O.contents out.new))) }

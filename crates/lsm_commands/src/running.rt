@@ -118,10 +118,10 @@ where
     I: Read + Drop,
     O: Write,
     E: Write + Send,
-    ensures done { result ≡ 0 → IsDone C.FolderCalls C.Mark.Mark
+    ensures done { result ≡ 0 → IsDone C.FolderCalls C.Mark.Mark C.holds
         (text_in (I.remaining input) (P.text paths.now)) request.now (O.contents out.old)
         (O.contents out.new) (E.contents err.old) (E.contents err.new) }
-    ensures refused { result ≢ 0 → (result ≡ 1) × IsUndone C.FolderCalls C.Mark.Mark
+    ensures refused { result ≢ 0 → (result ≡ 1) × IsUndone C.FolderCalls C.Mark.Mark C.holds
         (text_in (I.remaining input) (P.text paths.now)) request.now (O.contents out.old)
         (O.contents out.new) }
 {
@@ -173,10 +173,10 @@ where
     I: Read + Drop,
     O: Write,
     E: Write + Send,
-    ensures done { result ≡ 0 → AreDone C.FolderCalls C.Mark.Mark
+    ensures done { result ≡ 0 → AreDone C.FolderCalls C.Mark.Mark C.holds
         (text_in (I.remaining input) (P.text paths.now)) (map S.text words.now)
         (O.contents out.old) (O.contents out.new) (E.contents err.old) (E.contents err.new) }
-    ensures refused { result ≡ 1 → AreUndone C.FolderCalls C.Mark.Mark
+    ensures refused { result ≡ 1 → AreUndone C.FolderCalls C.Mark.Mark C.holds
         (text_in (I.remaining input) (P.text paths.now)) (map S.text words.now)
         (O.contents out.old) (O.contents out.new) }
     ensures usage { result ≡ 2

@@ -1,4 +1,3 @@
-use Rattle.lsm_shelf.specs.Stored.{Stored}
 use Rattle.lsm_admission.specs.Keeping.{KeepsTables}
 use Rattle.lsm_cmd_read.proofs.quick.begin_recovered.Given as goal
 
@@ -9,5 +8,5 @@ ghosts-perform_vouched-N-Naming g a = record { registry = a.records; place = (g.
 -- the premise is that these contents keep the tables of the shape that was read
 abbrev pub ghosts-perform_vouched-V-Vouching : goal.ghosts-perform_vouched-V-Vouching
 ghosts-perform_vouched-V-Vouching g a = record {
-  holds = KeepsTables (Stored g.row.S-Receipt.Denot (g.S.Shelf.is_of (g.S.Shelf.told a.shelf).place) g.S.Receipt.TableReceipt.number g.S.Receipt.TableReceipt.image) a.recovered.shape;
+  holds = KeepsTables (g.S.Finding.keeps (g.S.Shelf.told a.shelf).place) a.recovered.shape;
 }
