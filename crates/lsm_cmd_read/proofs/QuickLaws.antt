@@ -177,12 +177,6 @@ module _ (Files Stored : ℕ → List ℕ → Type 0) (Honest : Type 0) where
       → FailsQuickly asked Files Stored Refused Honest (Manifest e) (moment was old) (moment is old)
   quickly_unread Refused asked e was is old h = inl record { cause = open_faults.Recover e; is = refl; why = h; left = Keeps-refl old }
 
-  -- memory ran out after the manifest was read
-  pub quickly_without_records : (Refused : Asked → ShelfFault → Type 0) (asked : Asking) (shape : Shape) (rest : ℕ) (h : HeldManifest) (was is : Told) (old : Option (List ℕ)) → IsRecovered h shape rest → Becomes (finding h.number h.bytes was) is
-      → FailsQuickly asked Files Stored Refused Honest OutOfMemory (moment was old) (moment is old)
-  quickly_without_records Refused asked shape rest h was is old recovered told =
-      inl record { cause = open_faults.OutOfMemory; is = refl; why = record { held = h; shape = shape; rest = rest; recovered = recovered; told = inl told }; left = Keeps-refl old }
-
   -- ---- quiet after the status
 
   then_quickly : (asked : Asking) (before after : Moment) (said told last : Option (List ℕ)) → LooksQuickly asked Files Stored Honest before after said told → Keeps told last → LooksQuickly asked Files Stored Honest before after said last

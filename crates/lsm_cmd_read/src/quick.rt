@@ -104,7 +104,6 @@ fn perform_vouched<N: Naming, V: Vouching, S: Finding, R: Wait, O: Write, E: Wri
 
 /// The same, with records of its own. The premise is that the shelf keeps the tables of the shape
 /// that was read.
-#[tactic(auto, using(crate::proofs::QuickLaws::quickly_without_records))]
 fn begin_recovered<S: Finding, R: Wait, O: Write, E: Write>(
     rt: &R,
     alloc: Global,
@@ -141,7 +140,6 @@ fn begin_recovered<S: Finding, R: Wait, O: Write, E: Write>(
 
 /// Reads the manifest that the directory of a shelf names, finds its tables, and does what a
 /// command that is no check asks. It requires nothing of the shelf: whatever that is, it ends.
-#[tactic(auto, using(crate::proofs::QuickLaws::quickly_unread, crate::proofs::ReadingOutcomes::recover_reads))]
 pub(crate) fn begin_quickly<S: Finding, R: Wait, O: Write, E: Write>(
     rt: &R,
     alloc: Global,
