@@ -7,3 +7,4 @@ mod FaultLaws
 mod PerformLaws
 mod NoteLaws
 mod LookedLaws
+mod QuickLaws

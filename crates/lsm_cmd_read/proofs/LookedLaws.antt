@@ -18,7 +18,7 @@ use Rattle.lsm_directory.specs.declared.faults.directory_fault.DirectoryFault.{D
 use Rattle.lsm_directory.specs.declared.folder.beside.Beside.{Beside}
 
 module _ (Honest : Type 0) where
-  abbrev then_quiet : (asked : Asking) (before after : Moment) (said told last : Option (List ℕ))
+  abbrev pub then_quiet : (asked : Asking) (before after : Moment) (said told last : Option (List ℕ))
       → IsLookedInto asked Honest before after said told → Keeps told last → IsLookedInto asked Honest before after said last
   then_quiet asked before after said told last done kept = record {
     version = done.version;
@@ -45,7 +45,7 @@ module _ {C M : Type 0} (folders : Ghosts C M) (marks : mark.Ghosts M) where
       record { looks = record { beside = beside; begun = begun; on = on; ended = ended; done = done.looked; reads = reads }; given = done.given }
   looks_at (Err e) line beside begun ended old new said told on done reads = tt
 
-  abbrev looks_quiet : (line : DirectoryLine) (old new said told last : Option (List ℕ)) → LooksAt folders line old new said told → Keeps told last → LooksAt folders line old new said last
+  abbrev pub looks_quiet : (line : DirectoryLine) (old new said told last : Option (List ℕ)) → LooksAt folders line old new said told → Keeps told last → LooksAt folders line old new said last
   looks_quiet line old new said told last looked kept = record {
     beside = looked.beside;
     begun = looked.begun;

@@ -60,7 +60,7 @@ shelf_counted_from shelf_faults.Missing listed number bytes was is c = c
 shelf_counted_from (shelf_faults.Taken n) listed number bytes was is c = c
 
 -- a refusal after the manifest was read and the tables were listed
-counted_from : (e : ReadFault) (listed : List ℕ) (number : ℕ) (bytes : List ℕ) (was is : Told) → ReadCounted e (listing listed (finding number bytes was)) is → ReadCounted e was is
+pub counted_from : (e : ReadFault) (listed : List ℕ) (number : ℕ) (bytes : List ℕ) (was is : Told) → ReadCounted e (listing listed (finding number bytes was)) is → ReadCounted e was is
 counted_from (ShelfOfRead fault) listed number bytes was is k = (k.0, shelf_counted_from fault listed number bytes was is k.1)
 counted_from (TableOfRead fault) listed number bytes was is k = tt
 
@@ -234,7 +234,7 @@ pub reads_none : (t : Told) → OnlyReads t t
 reads_none t = inl (becomes_same t)
 
 -- the manifest was refused
-recover_reads : (Refused : Asked → ShelfFault → Type 0) (e : RecoverFault) (was is : Told) → IsRecoverRefusal Refused e was is → OnlyReads was is
+pub recover_reads : (Refused : Asked → ShelfFault → Type 0) (e : RecoverFault) (was is : Told) → IsRecoverRefusal Refused e was is → OnlyReads was is
 recover_reads Refused (recover_faults.Shelf e) was is r = inl r.0
 recover_reads Refused (recover_faults.Log e) was is r = let gave = r.1 in inr (gave.0, r.0, inl gave.1)
 recover_reads Refused (recover_faults.Edit e) was is r = let gave = r.1 in inr (gave.0, r.0, inl gave.1)

@@ -5,6 +5,7 @@ pub mod JsonLines
 pub mod Scanned
 pub mod Opening
 pub mod Answers
+pub mod Quick
 pub mod Looked
 -- What private functions and proofs cite alone
 pub mod ReadFault

@@ -1,10 +1,23 @@
 //! What holds of what is printed.
 
-ghost use Rattle.std.specs.Prelude.{◌≡◌, ◌++◌, ◌∷◌, [], List, Some, ℕ};
+ghost use Rattle.std.specs.Prelude.{◌≡◌, ◌++◌, ◌∷◌, [], List, Option, Some, ℕ};
 ghost use Rattle.base64.specs.GeneralPurpose.{IsBytes};
 ghost use Rattle.json.specs.Json.{document};
 ghost use Rattle.lsm_model.specs.Scanning.{Pair};
+ghost use Rattle.lsm_folder.specs.Calls.{AreHonest};
+ghost use Rattle.lsm_manifest.specs.Shape.{Form as Shape};
+ghost use Rattle.lsm_admission.specs.Keeping.{KeepsTables};
+ghost use Rattle.lsm_shelf.specs.Place.{Place};
+ghost use Rattle.lsm_shelf.specs.Stored.{Stored};
+ghost use Rattle.lsm_requests.specs.declared.directory_line.DirectoryLine.{DirectoryLine};
+ghost use Rattle.lsm_directory.specs.Folders.{told_by};
+ghost use Rattle.lsm_cmd_read.specs.Answers.{Asking, IsLookedIntoAsGiven, Moment};
 ghost use Rattle.lsm_cmd_read.specs.JsonLines.{json_line, pair_object};
+ghost use Rattle.lsm_cmd_read.specs.Looked.{LooksAtGiven, LooksQuicklyAt, kept_at};
+ghost use Rattle.lsm_cmd_read.specs.Quick.{IsQuicklyLookedInto};
+
+use lsm_finding::Finding;
+use lsm_folder::FindingCalls;
 
 /// A law: the line of a pair is one JSON value and a newline (10); the value is the object of the
 /// key and the value, and no other pair has this line.
@@ -13,4 +26,26 @@ pub fn one_object()
         × (document text ≡ Some (pair_object p)) }
     ensures only { (p q : Pair) → IsBytes p.0 → IsBytes p.1 → IsBytes q.0 → IsBytes q.1
         → json_line p ≡ json_line q → p ≡ q }
+{}
+
+/// A law: where a shelf is honest and keeps the tables of the manifest that it gave, a quick
+/// command did what the same command does after a judgment of every table.
+pub fn quick_looks_are_whole<S: Finding>()
+    ensures { (place : Place) (asked : Asking) (shape : Shape) (before after : Moment)
+        (said told : Option (List ℕ)) → IsQuicklyLookedInto asked (S.keeps place)
+        (Stored S.Receipt (S.is_of place) S.Receipt.number S.Receipt.image)
+        (S.honest × KeepsTables (S.keeps place) shape) shape before after said told
+        → S.honest → KeepsTables (S.keeps place) shape → IsLookedIntoAsGiven asked
+        (Stored S.Receipt (S.is_of place) S.Receipt.number S.Receipt.image) S.honest before after
+        said told }
+{}
+
+/// So of a line: where the folder is honest, and keeps the tables of the manifest that was read.
+pub fn quick_lines_are_whole<C: FindingCalls>()
+    ensures { (line : DirectoryLine) (old new said told : Option (List ℕ))
+        (quick : LooksQuicklyAt C.FolderCalls C.Mark.Mark C.holds line old new said told)
+        → AreHonest C.FolderCalls.calls
+        → KeepsTables (kept_at C.FolderCalls C.Mark.Mark C.holds
+        (told_by C.FolderCalls quick.begun).place) quick.done.0
+        → LooksAtGiven C.FolderCalls C.Mark.Mark line old new said told }
 {}

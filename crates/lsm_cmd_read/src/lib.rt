@@ -2,9 +2,10 @@
 //! `scan`.
 //!
 //! Stands on `lsm_directory` for the folder, its lock and its logs, on `lsm_journal` to find the
-//! database there, and on `lsm_query` to read it. Its contract: `run_look` does what a line of
-//! words asks, and answers the exit status; over an honest shelf what is printed is of the version
-//! that the folder holds, and the folder was only read.
+//! database there, on `lsm_admission` to find it without reading its tables, and on `lsm_query` to
+//! read it. Its contract: `run_look` does what a line of words asks, and answers the exit status;
+//! over an honest shelf what is printed is of the version that the folder holds, and the folder was
+//! only read.
 #![tactic(auto)]
 
 // One run, and what is asked.
@@ -15,6 +16,10 @@ mod program;
 mod given;
 mod opened;
 mod performing;
+
+// The same, without a judgment of its tables.
+mod admitted;
+mod quick;
 
 // A command each.
 mod answering;
@@ -32,6 +37,6 @@ mod progress;
 mod laws;
 
 pub use inquiry::Inquiry;
-pub use laws::one_object;
+pub use laws::{one_object, quick_lines_are_whole, quick_looks_are_whole};
 pub use opened::{Opened, open};
-pub use program::{look, run_look};
+pub use program::{look, look_quickly, run_look};

@@ -8,10 +8,12 @@ ghost use Rattle.lsm_model.specs.Files.{all_entries};
 ghost use Rattle.lsm_version.specs.Versions.{files};
 ghost use Rattle.lsm_cmd_read.specs.Answers.{IsLookFault, IsLookedIntoAsGiven, IsPerformFault};
 ghost use Rattle.lsm_cmd_read.specs.Answers.{Leaves, Prints, PrintsBefore, ReliesOn, asking, moment};
+ghost use Rattle.lsm_cmd_read.specs.Quick.{is_check};
 ghost use Rattle.lsm_cmd_read.specs.Directory.{AreGiven, Holds, OnlyReads};
 ghost use Rattle.lsm_cmd_read.specs.Opening.{IsOpenRefusal};
 ghost use Rattle.lsm_cmd_read.specs.Listing.{IsChecked, shown_answer};
 ghost use Rattle.lsm_directory.specs.declared.faults.directory_fault.DirectoryFault.TheVariants.{Write as WriteFault};
+ghost use Rattle.lsm_directory.specs.declared.folder.named_manifest.NamedManifest.{NamedManifest};
 ghost use Rattle.lsm_shelf.specs.Stored.{Stored};
 
 use crate::answering::shown_answer;
@@ -78,6 +80,52 @@ fn checked<N: Naming, S: Shelf>(
     Ok(text)
 }
 
+/// Does what a command that is no check asks of a version.
+#[tactic(auto, using(crate::proofs::PerformLaws::perform_from_output, crate::proofs::PerformLaws::perform_from_answer, lsm_directory::proofs::CallerLemmas::keeps_same))]
+pub(crate) fn read_on<N: Naming, S: Shelf, O: Write, E: Write>(
+    shelf: &mut NamedShelf<N, S>,
+    alloc: Global,
+    registry: &Registry<N, S>,
+    version: &Version<N, S>,
+    inquiry: &Inquiry<'_>,
+    out: &mut O,
+    err: &mut E,
+) -> Result<(), DirectoryFault>
+    requires reads { IsFalse (is_check inquiry.now.command.now) }
+    ensures done { (manifest : NamedManifest) → ReliesOn S.honest inquiry.now.command.now
+        → OnOk result (Prints inquiry.now.form inquiry.now.command.now version.now manifest
+        inquiry.now.beside.now (O.contents out.old) (O.contents out.new)) }
+    ensures left { IfErr result (λ e. e ≢ WriteFault
+        → PrintsBefore inquiry.now.form inquiry.now.command.now S.honest version.now
+        (O.contents out.old) (O.contents out.new)) }
+    ensures fault { IfErr result (λ e. IsPerformFault S.honest inquiry.now.command.now
+        version.now e shelf.old shelf.new) }
+    ensures told { Becomes shelf.old shelf.new }
+    ensures quiet { IsFalse inquiry.now.progress → Keeps (E.contents err.old) (E.contents err.new) }
+{
+    let text = match inquiry.command {
+        DirectoryCommand::Check(_) => unreachable!(),
+        DirectoryCommand::List => list_files(alloc, inquiry.form, registry, version)?,
+        DirectoryCommand::Get(key, output) => {
+            answer_of(shelf, alloc, version, inquiry.form, key, *output)?
+        }
+        DirectoryCommand::Scan(options) => {
+            return print_scan(
+                shelf,
+                alloc,
+                version,
+                inquiry.form,
+                options,
+                inquiry.progress,
+                out,
+                err,
+            );
+        }
+    };
+    write_output(out, text.as_slice())?;
+    Ok(())
+}
+
 /// Does what a command asks of a directory that is open.
 #[tactic(auto, using(crate::proofs::PerformLaws::perform_from_output, crate::proofs::PerformLaws::perform_from_answer, lsm_directory::proofs::CallerLemmas::keeps_same))]
 fn perform_on<N: Naming, S: Shelf, O: Write, E: Write>(
@@ -100,28 +148,16 @@ fn perform_on<N: Naming, S: Shelf, O: Write, E: Write>(
     ensures told { Becomes shelf.old shelf.new }
     ensures quiet { IsFalse inquiry.now.progress → Keeps (E.contents err.old) (E.contents err.new) }
 {
-    let version = &opened.version;
-    let text = match inquiry.command {
-        DirectoryCommand::Check(_) => checked(alloc, registry, opened, inquiry)?,
-        DirectoryCommand::List => list_files(alloc, inquiry.form, registry, version)?,
-        DirectoryCommand::Get(key, output) => {
-            answer_of(shelf, alloc, version, inquiry.form, key, *output)?
+    match inquiry.command {
+        DirectoryCommand::Check(_) => {
+            let text = checked(alloc, registry, opened, inquiry)?;
+            write_output(out, text.as_slice())?;
+            Ok(())
         }
-        DirectoryCommand::Scan(options) => {
-            return print_scan(
-                shelf,
-                alloc,
-                version,
-                inquiry.form,
-                options,
-                inquiry.progress,
-                out,
-                err,
-            );
+        DirectoryCommand::List | DirectoryCommand::Get(_, _) | DirectoryCommand::Scan(_) => {
+            read_on(shelf, alloc, registry, &opened.version, inquiry, out, err)
         }
-    };
-    write_output(out, text.as_slice())?;
-    Ok(())
+    }
 }
 
 /// Opens the directory of a shelf to read, by a thread for each of the other ones, and says of each

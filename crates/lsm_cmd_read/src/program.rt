@@ -1,6 +1,6 @@
 //! One run of a command on a directory.
 
-ghost use Rattle.std.specs.Prelude.{◌≡◌, ◌≢◌, ◌⊎◌, All, IfErr, IfOk, OnOk};
+ghost use Rattle.std.specs.Prelude.{◌≡◌, ◌≢◌, ◌⊎◌, All, IfErr, IfOk, IsFalse, IsTrue, OnOk};
 ghost use Rattle.lsm_storage.specs.FileShelf.{file_told};
 ghost use Rattle.lsm_shelf.specs.Stored.{Stored};
 ghost use Rattle.lsm_cmd_read.specs.Answers.{IsLookedIntoAsGiven, IsNotLookedInto, asking};
@@ -9,16 +9,19 @@ ghost use Rattle.lsm_cmd_read.specs.Directory.{OnlyReads};
 ghost use Rattle.lsm_directory.specs.Beside.{LooksBeside};
 ghost use Rattle.lsm_directory.specs.Folders.{IsShelfAt};
 ghost use Rattle.lsm_directory.specs.Holding.{IsFolderFault};
-ghost use Rattle.lsm_cmd_read.specs.Looked.{FailsToLook, LooksAt, LooksAtGiven};
+ghost use Rattle.lsm_cmd_read.specs.Looked.{FailsAsAsked, FailsToLook, LooksAsAsked, LooksAtGiven};
+ghost use Rattle.lsm_cmd_read.specs.Quick.{FailsQuickly, LooksQuickly, is_check, is_quick};
 ghost use Rattle.lsm_directory.specs.declared.faults.directory_fault.DirectoryFault.{DirectoryFault};
 ghost use Rattle.lsm_directory.specs.declared.faults.directory_fault.DirectoryFault.TheVariants.{OutOfMemory};
 
 use crate::inquiry::Inquiry;
 use crate::performing::perform_as;
+use crate::quick::begin_quickly;
 use lsm_directory::{
     Beside, DirectoryFault, Known, Paths, look_beside, open_at, refuse, status_of,
 };
-use lsm_folder::{FolderCalls, Reasons};
+use lsm_finding::Finding;
+use lsm_folder::{FindingCalls, FolderCalls, Reasons};
 use lsm_requests::{DirectoryCommand, DirectoryLine};
 use lsm_storage::FileShelf;
 use lsm_table::{Records, Shelf};
@@ -100,6 +103,43 @@ pub fn look<S: Shelf, R: Threads + Wait + Sync, O: Write, E: Write + Send>(
     ensures reads { OnlyReads (S.told shelf) (S.told result.1) }
 {
     let (done, shelf) = begin(rt, alloc, shelf, shelves, inquiry, out, err);
+    let known = Known {
+        writes: &[],
+        reasons: inquiry.reasons,
+        names_files: names_files(inquiry.command),
+    };
+    (status_of(done, known, err), shelf)
+}
+
+/// As `look`, without a judgment of the tables: they are found, and no table is read that the
+/// command does not come to. No check can be asked so. It requires nothing of the shelf: whatever
+/// that is, this ends, and only reads.
+///
+/// Where the shelf is honest and keeps the tables of the manifest that it gives, what is done is
+/// what `look` does (`quick_looks_are_whole`). Else what `get` and `scan` print is not said.
+pub fn look_quickly<S: Finding, R: Wait, O: Write, E: Write>(
+    rt: &R,
+    alloc: Global,
+    shelf: S,
+    inquiry: &Inquiry<'_>,
+    out: &mut O,
+    err: &mut E,
+) -> (u8, S)
+    requires reads { IsFalse (is_check inquiry.now.command.now) }
+    ensures done { result.0 ≡ 0 → LooksQuickly (asking inquiry.now)
+        (S.keeps (S.told shelf).place)
+        (Stored S.Receipt (S.is_of (S.told shelf).place) S.Receipt.number S.Receipt.image) S.honest
+        (moment (S.told shelf) (O.contents out.old)) (moment (S.told result.1) (O.contents out.new))
+        (E.contents err.old) (E.contents err.new) }
+    ensures refused { result.0 ≢ 0 → (result.0 ≡ 1)
+        × ((fault : DirectoryFault) × FailsQuickly (asking inquiry.now)
+        (S.keeps (S.told shelf).place)
+        (Stored S.Receipt (S.is_of (S.told shelf).place) S.Receipt.number S.Receipt.image)
+        (S.refuses (S.told shelf).place) S.honest fault (moment (S.told shelf) (O.contents out.old))
+        (moment (S.told result.1) (O.contents out.new))) }
+    ensures reads { OnlyReads (S.told shelf) (S.told result.1) }
+{
+    let (done, shelf) = begin_quickly(rt, alloc, shelf, inquiry, out, err);
     let known = Known {
         writes: &[],
         reasons: inquiry.reasons,
@@ -208,10 +248,80 @@ where
     done
 }
 
-/// Does what a line asks of the folder at its path, and answers the exit status, as `look` does.
-/// `Shelf` of `Device` where it is no folder that can be opened; the refusals of `look_beside`.
+/// Whether a command is quick, by whether its line says so.
+fn is_quick(command: &DirectoryCommand, quick: bool) -> bool
+    ensures { result ≡ is_quick command.now quick }
+{
+    match command {
+        DirectoryCommand::Check(_) => false,
+        DirectoryCommand::List | DirectoryCommand::Get(_, _) | DirectoryCommand::Scan(_) => quick,
+    }
+}
+
+/// Does what a quick line asks of the folder at its path.
+fn look_quickly_at<C: FindingCalls + Send + Sync, P: Paths<C>, R: Wait, O: Write, E: Write>(
+    rt: &R,
+    paths: &P,
+    line: &DirectoryLine<'_>,
+    reasons: &Reasons,
+    out: &mut O,
+    err: &mut E,
+) -> Result<(), DirectoryFault>
+where
+    C::Mark: Send + Sync,
+    requires quick { IsTrue (is_quick line.now.command line.now.quick) }
+    ensures done { OnOk result (LooksAsAsked C.FolderCalls C.Mark.Mark C.holds line.now
+        (O.contents out.old) (O.contents out.new) (E.contents err.old) (E.contents err.new)) }
+    ensures refused { IfErr result (λ e. FailsAsAsked C.FolderCalls C.Mark.Mark C.holds line.now e
+        (O.contents out.old) (O.contents out.new)) }
+{
+    let (shelf, _none, beside) = open_shelf(rt, paths, line.path, 0, reasons)?;
+    let inquiry = Inquiry {
+        command: &line.command,
+        form: line.form,
+        beside: &beside,
+        strict: line.strict,
+        progress: line.progress,
+        reasons: Some(reasons),
+    };
+    let (done, _shelf) = begin_quickly(rt, paths.alloc(), shelf, &inquiry, out, err);
+    done
+}
+
+/// Does what a line asks of the folder at its path: with a judgment of every table, or, where it is
+/// quick, without.
+fn look_as_asked<
+    C: FindingCalls + Send + Sync,
+    P: Paths<C>,
+    R: Threads + Wait + Sync,
+    O: Write,
+    E: Write + Send,
+>(
+    rt: &R,
+    paths: &P,
+    line: &DirectoryLine<'_>,
+    reasons: &Reasons,
+    out: &mut O,
+    err: &mut E,
+) -> Result<(), DirectoryFault>
+where
+    C::Mark: Send + Sync,
+    ensures done { OnOk result (LooksAsAsked C.FolderCalls C.Mark.Mark C.holds line.now
+        (O.contents out.old) (O.contents out.new) (E.contents err.old) (E.contents err.new)) }
+    ensures refused { IfErr result (λ e. FailsAsAsked C.FolderCalls C.Mark.Mark C.holds line.now e
+        (O.contents out.old) (O.contents out.new)) }
+{
+    if is_quick(&line.command, line.quick) {
+        return look_quickly_at(rt, paths, line, reasons, out, err);
+    }
+    look_at(rt, paths, line, reasons, out, err)
+}
+
+/// Does what a line asks of the folder at its path, and answers the exit status, as `look` does, or
+/// as `look_quickly` where the line is quick and its command no check. `Shelf` of `Device` where it
+/// is no folder that can be opened; the refusals of `look_beside`.
 pub fn run_look<
-    C: FolderCalls + Send + Sync,
+    C: FindingCalls + Send + Sync,
     P: Paths<C>,
     R: Threads + Wait + Sync,
     O: Write,
@@ -219,19 +329,17 @@ pub fn run_look<
 >(rt: &R, paths: &P, line: &DirectoryLine<'_>, out: &mut O, err: &mut E) -> u8
 where
     C::Mark: Send + Sync,
-    ensures done { result ≡ 0 → LooksAt C.FolderCalls line.now (O.contents out.old)
-        (O.contents out.new) (E.contents err.old) (E.contents err.new) }
-    ensures given { result ≡ 0 → LooksAtGiven C.FolderCalls C.Mark.Mark line.now
+    ensures done { result ≡ 0 → LooksAsAsked C.FolderCalls C.Mark.Mark C.holds line.now
         (O.contents out.old) (O.contents out.new) (E.contents err.old) (E.contents err.new) }
     ensures refused { result ≢ 0 → (result ≡ 1) × ((fault : DirectoryFault)
-        × FailsToLook C.FolderCalls C.Mark.Mark line.now fault (O.contents out.old)
+        × FailsAsAsked C.FolderCalls C.Mark.Mark C.holds line.now fault (O.contents out.old)
         (O.contents out.new)) }
 {
     let reasons = match Reasons::new(paths.alloc()) {
         Ok(reasons) => reasons,
         Err(fault) => return refuse(DirectoryFault::from(fault), err),
     };
-    let done = look_at(rt, paths, line, &reasons, out, err);
+    let done = look_as_asked(rt, paths, line, &reasons, out, err);
     let known = Known {
         writes: &[],
         reasons: Some(&reasons),

@@ -7,6 +7,7 @@ use Rattle.std.specs.Io.KnownBytes.{Appends, Keeps}
 use Rattle.clap.specs.Words.{Text}
 use Rattle.lsm_folder.specs.declared.folder_calls.FolderCalls.{Ghosts}
 use Rattle.lsm_folder.specs.declared.mark.Mark as mark
+use Rattle.lsm_shelf.specs.Place.{Place}
 use Rattle.lsm_text.specs.Printing.{Begins}
 use Rattle.lsm_grammar.specs.Requests.{AskHelp, AskNothing, Asks, HaveUsageFault}
 use Rattle.lsm_requests.specs.declared.input.Input.{Input}
@@ -30,7 +31,7 @@ use Rattle.lsm_cmd_recover.specs.Recovered.{FailsToRecover, RecoversAt}
 use Rattle.lsm_cmd_recover.specs.declared.bring_fault.BringFault.{BringFault}
 use Rattle.lsm_cmd_levels.specs.Layout.{FailsToLayOut, LaysOutAt}
 use Rattle.lsm_cmd_load.specs.LoadedAt.{FailsToLoad, LoadsAt}
-use Rattle.lsm_cmd_read.specs.Looked.{FailsToLook, LooksAtGiven}
+use Rattle.lsm_cmd_read.specs.Looked.{FailsAsAsked, LooksAsAsked}
 use Rattle.lsm_cmd_shell.specs.Talked.{FailsToTalk, TalksAt}
 use Rattle.lsm_cmd_write.specs.Cleaned.{FailsToClean, IsCleanedAt}
 use Rattle.lsm_cmd_compact.specs.Compacted.{IsCompactedAt, IsUncompacted}
@@ -47,7 +48,9 @@ module _ {C M : Type 0} (folders : Ghosts C M) where
   IsWritten text path (WriteKey w options) old new = ComesInAt folders path options (w ∷ []) old new
   IsWritten text path (Clean options) old new = IsCleanedAt folders path options old new
 
-module _ {C M : Type 0} (folders : Ghosts C M) (marks : mark.Ghosts M) where
+-- `holds` says of a folder's place which bytes a file of a name holds there.
+module _ {C M : Type 0} (folders : Ghosts C M) (marks : mark.Ghosts M)
+    (holds : Place → (name image : List ℕ) → Type 0) where
   -- ---- what status 0 means
 
   -- what was done, and what stands on standard output and standard error
@@ -56,7 +59,7 @@ module _ {C M : Type 0} (folders : Ghosts C M) (marks : mark.Ghosts M) where
   IsDone text (Convert conversion input) old new said_old said_new =
       IsConverted conversion (text input) old new × Keeps said_old said_new
   IsDone text (Look line) old new said_old said_new =
-      LooksAtGiven folders marks line old new said_old said_new
+      LooksAsAsked folders marks holds line old new said_old said_new
   IsDone text (Levels line) old new said_old said_new =
       LaysOutAt folders line old new said_old said_new
   IsDone text (WriteFolder line) old new said_old said_new =
@@ -100,14 +103,17 @@ module _ {C M : Type 0} (folders : Ghosts C M) (marks : mark.Ghosts M) where
   IsUnwritten text path (Clean options) old new =
       (fault : WriterFault) × FailsToClean folders marks path options fault old new
 
+module _ {C M : Type 0} (folders : Ghosts C M) (marks : mark.Ghosts M)
+    (holds : Place → (name image : List ℕ) → Type 0) where
   -- why it was not done, and what stands on standard output
   abbrev pub IsUndone : (Input → Option (List ℕ)) → Request → (old new : Option (List ℕ)) → Type 0
   IsUndone text (Convert conversion input) old new = IsUnconverted conversion (text input) old new
   IsUndone text (Look line) old new =
-      (fault : DirectoryFault) × FailsToLook folders marks line fault old new
+      (fault : DirectoryFault) × FailsAsAsked folders marks holds line fault old new
   IsUndone text (Levels line) old new =
       (fault : DirectoryFault) × FailsToLayOut folders line fault old new
-  IsUndone text (WriteFolder line) old new = IsUnwritten text line.path.now line.command old new
+  IsUndone text (WriteFolder line) old new =
+      IsUnwritten folders marks text line.path.now line.command old new
   IsUndone text (Load line) old new =
       FailsToLoad folders marks line.path.now line.options (text line.input) old new
   IsUndone text (Import line) old new =

@@ -19,7 +19,7 @@ use lsm_cmd_recover::run_recover;
 use lsm_cmd_shell::run_shell;
 use lsm_cmd_write::{run_clean, run_ingest, run_write};
 use lsm_directory::{Known, Paths, refuse, status_of};
-use lsm_folder::FolderCalls;
+use lsm_folder::{FindingCalls, FolderCalls};
 use lsm_grammar::{CommandLine, Request, WritingCommand, WritingLine, read_line};
 use lsm_text::{Fault, write_output};
 use std::convert::AsStr;
@@ -111,17 +111,17 @@ fn obey<C, P, R, I, O, E>(
     err: &mut E,
 ) -> u8
 where
-    C: FolderCalls + Send + Sync,
+    C: FindingCalls + Send + Sync,
     C::Mark: Send + Sync,
     P: Paths<C>,
     R: Threads + Wait + Clock + Sync,
     I: Read + Drop,
     O: Write,
     E: Write + Send,
-    ensures done { result ≡ 0 → IsDone C.FolderCalls C.Mark.Mark
+    ensures done { result ≡ 0 → IsDone C.FolderCalls C.Mark.Mark C.holds
         (text_in (I.remaining input) (P.text paths.now)) request.now (O.contents out.old)
         (O.contents out.new) (E.contents err.old) (E.contents err.new) }
-    ensures refused { result ≢ 0 → (result ≡ 1) × IsUndone C.FolderCalls C.Mark.Mark
+    ensures refused { result ≢ 0 → (result ≡ 1) × IsUndone C.FolderCalls C.Mark.Mark C.holds
         (text_in (I.remaining input) (P.text paths.now)) request.now (O.contents out.old)
         (O.contents out.new) }
 {
@@ -165,7 +165,7 @@ pub fn run<C, P, R, S, I, O, E>(
     err: &mut E,
 ) -> u8
 where
-    C: FolderCalls + Send + Sync,
+    C: FindingCalls + Send + Sync,
     C::Mark: Send + Sync,
     P: Paths<C>,
     R: Threads + Wait + Clock + Sync,
@@ -173,10 +173,10 @@ where
     I: Read + Drop,
     O: Write,
     E: Write + Send,
-    ensures done { result ≡ 0 → AreDone C.FolderCalls C.Mark.Mark
+    ensures done { result ≡ 0 → AreDone C.FolderCalls C.Mark.Mark C.holds
         (text_in (I.remaining input) (P.text paths.now)) (map S.text words.now)
         (O.contents out.old) (O.contents out.new) (E.contents err.old) (E.contents err.new) }
-    ensures refused { result ≡ 1 → AreUndone C.FolderCalls C.Mark.Mark
+    ensures refused { result ≡ 1 → AreUndone C.FolderCalls C.Mark.Mark C.holds
         (text_in (I.remaining input) (P.text paths.now)) (map S.text words.now)
         (O.contents out.old) (O.contents out.new) }
     ensures usage { result ≡ 2

@@ -1,16 +1,11 @@
-use Rattle.lsm_cmd_read.proofs.LookedLaws.{given_on, looked_on}
+use Rattle.lsm_cmd_read.proofs.QuickLaws.{asked_on}
 use Rattle.lsm_directory.proofs.CallerLemmas.{stopped_by}
 use Rattle.lsm_cmd_read.proofs.program.run_look.Goals as goal
 
 pub returns-clause-done : goal.returns-clause-done
 returns-clause-done g c =
-    looked_on g.C.FolderCalls g.C.Mark.Mark c.look_at-done.result c.status_of.result c.args.line.now _ _ _ _ _ c.status_of.ensures.err c.look_at-done.ensures.done
-    c.status_of.ensures.quiet
-
-pub returns-clause-given : goal.returns-clause-given
-returns-clause-given g c =
-    given_on g.C.FolderCalls g.C.Mark.Mark c.look_at-done.result c.status_of.result c.args.line.now _ _ _ _ _ c.status_of.ensures.err c.look_at-done.ensures.done
+    asked_on g.C.FolderCalls g.C.Mark.Mark g.C.FindingCalls.holds c.look_as_asked-done.result c.status_of.result c.args.line.now _ _ _ _ _ c.status_of.ensures.err c.look_as_asked-done.ensures.done
     c.status_of.ensures.quiet
 
 pub returns-clause-refused : goal.returns-clause-refused
-returns-clause-refused g c = stopped_by c.look_at-done.result c.status_of.result _ c.status_of.ensures.ok c.status_of.ensures.err c.look_at-done.ensures.refused
+returns-clause-refused g c = stopped_by c.look_as_asked-done.result c.status_of.result _ c.status_of.ensures.ok c.status_of.ensures.err c.look_as_asked-done.ensures.refused

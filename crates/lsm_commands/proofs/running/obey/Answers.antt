@@ -1,4 +1,4 @@
 use Rattle.lsm_commands.proofs.running.obey.Goals as goal
 
 pub returns-in-Look-clause-done : goal.returns-in-Look-clause-done
-returns-in-Look-clause-done g c = rw c.in-Look.is c.run_look.ensures.given
+returns-in-Look-clause-done g c = rw c.in-Look.is c.run_look.ensures.done
