@@ -9,3 +9,5 @@ pub mod JudgedKept
 pub mod FreeNumbers
 pub mod Opening
 pub mod AnswerLaws
+pub mod KnownKept
+pub mod AnyImage
