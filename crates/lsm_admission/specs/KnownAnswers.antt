@@ -1,8 +1,6 @@
 -- What a user key answers where a program knows its tables (this project's rule).
 use Rattle.std.specs.Prelude.{◌≡◌, ℕ, List, Option}
-use Rattle.lsm_codec.specs.Entries.{answer}
 use Rattle.lsm_manifest.specs.Shape.{Form}
-use Rattle.lsm_model.specs.Files.{all_entries}
 use Rattle.lsm_shelf.specs.Told.{Told}
 use Rattle.lsm_verify.specs.CheckRefusal.{IsOfShape}
 use Rattle.lsm_verify.specs.Settled.{KeepsAge}
