@@ -6,11 +6,11 @@ use Rattle.lsm_shelf.specs.declared.shelf_fault.ShelfFault.{ShelfFault}
 use Rattle.lsm_shelf.specs.Told.{Told}
 use Rattle.lsm_admission.specs.Answered.{Answers, IsAnswerRefusal}
 use Rattle.lsm_admission.specs.Keeping.{KeepsTables}
-use Rattle.lsm_admission.specs.KnownAnswers.{AreTablesOf, KnownAnswers, KnownImage}
+use Rattle.lsm_admission.specs.KnownAnswers.{KnowsTables, KnownAnswers, KnownImage}
 use Rattle.lsm_admission.specs.declared.answer_fault.AnswerFault.{AnswerFault}
 use Rattle.lsm_admission.proofs.JudgedKept.{judged_kept}
 
-pub known_kept : (images : ℕ → List ℕ) (shape : Form) → AreTablesOf images shape
+pub known_kept : (images : ℕ → List ℕ) (shape : Form) → KnowsTables images shape
     → KeepsTables (KnownImage images) shape
 known_kept images shape k = judged_kept (KnownImage images) shape k.version k.of_shape k.ages
     (λ n t image h kept. kept ∙ k.known n t h)

@@ -11,3 +11,4 @@ pub mod Opening
 pub mod AnswerLaws
 pub mod KnownKept
 pub mod AnyImage
+pub mod ImagesOf

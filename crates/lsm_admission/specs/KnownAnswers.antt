@@ -13,7 +13,7 @@ abbrev pub KnownImage : (ℕ → List ℕ) → ℕ → List ℕ → Type 0
 KnownImage images number image = image ≡ images number
 
 -- The known images are the tables of a version of this shape, whose ages are in order.
-pub record AreTablesOf (images : ℕ → List ℕ) (shape : Form) : Type 0 where
+pub record KnowsTables (images : ℕ → List ℕ) (shape : Form) : Type 0 where
   pub version : Levels
   pub of_shape : IsOfShape shape version
   pub ages : KeepsAge (files version)
@@ -23,4 +23,4 @@ pub record AreTablesOf (images : ℕ → List ℕ) (shape : Form) : Type 0 where
 -- of all entries. Nothing is asked of the shelf.
 abbrev pub KnownAnswers : (ℕ → List ℕ) → List ℕ → Option (List ℕ) → Told → Told → Type 0
 KnownAnswers images user a was is =
-    (shape : Form) × IsAnswered (KnownImage images) (AreTablesOf images shape) shape user a was is
+    (shape : Form) × IsAnswered (KnownImage images) (KnowsTables images shape) shape user a was is

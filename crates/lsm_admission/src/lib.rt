@@ -32,7 +32,7 @@ pub use answer_fault::AnswerFault;
 pub use answering::get_unjudged;
 pub use known::{Known, KnownReceipt, KnownTables, get_known};
 pub use laws::{
-    any_image_keeps_no_file, judged_tables_are_kept, known_tables_are_kept,
+    any_image_keeps_no_file, judged_tables_are_kept, known_tables_are_kept, versions_can_be_known,
     versions_keep_their_tables,
 };
 pub use lsm_finding::{Finding, Vouched, Vouching};
