@@ -9,3 +9,6 @@ pub mod JudgedKept
 pub mod FreeNumbers
 pub mod Opening
 pub mod AnswerLaws
+pub mod KnownKept
+pub mod AnyImage
+pub mod ImagesOf

@@ -4,3 +4,5 @@ pub mod Keeping
 pub mod AdmitRefusal
 pub mod Admitted
 pub mod Answered
+pub mod KnownImages
+pub mod KnownAnswers

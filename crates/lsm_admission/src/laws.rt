@@ -1,13 +1,19 @@
 //! Laws of what a shelf keeps. Each function's contract is one law; its body is empty.
 
 ghost use Rattle.std.specs.Prelude.{◌≡◌};
+ghost use Rattle.lsm_codec.specs.Lists.{Has};
+ghost use Rattle.lsm_manifest.specs.FileOrder.{TableFile};
 ghost use Rattle.lsm_manifest.specs.Shape.{Form};
 ghost use Rattle.lsm_verify.specs.CheckRefusal.{IsOfShape};
+ghost use Rattle.lsm_verify.specs.Loading.{all_files};
 ghost use Rattle.lsm_verify.specs.Settled.{KeepsAge};
 ghost use Rattle.lsm_version.specs.FileNumbers.{AreDistinct, numbers_of};
 ghost use Rattle.lsm_version.specs.Versions.{Levels, files};
+ghost use Rattle.lsm_admission.specs.KnownImages.{images_of};
+ghost use Rattle.lsm_admission.specs.KnownAnswers.{KnowsTables, KnownImage};
 ghost use Rattle.lsm_admission.specs.Keeping.{KeepsOnly, ImagesOf, KeepsTables};
 
+use crate::known::KnownTables;
 use lsm_finding::Finding;
 use lsm_table::Naming;
 
@@ -26,4 +32,26 @@ pub fn versions_keep_their_tables()
     ensures { (shape : Form) (v : Levels) → IsOfShape shape v
         → AreDistinct (numbers_of shape.levels) → KeepsAge (files v)
         → KeepsTables (ImagesOf v) shape }
+{}
+
+/// What a program knows is kept: where its images are the tables of a version that a judgment can
+/// give, each shape of that version is kept by them, whatever lies on the shelf.
+pub fn known_tables_are_kept<K: KnownTables>()
+    ensures { (shape : Form) → KnowsTables K.images shape
+        → KeepsTables (KnownImage K.images) shape }
+{}
+
+/// A shelf that keeps any image under any number, as one in memory does, keeps the tables of no
+/// shape with a file: there the premise is met by nothing.
+pub fn any_image_keeps_no_file()
+    ensures { (shape : Form) (file : TableFile) → Has (all_files shape.levels) file
+        → KeepsTables (λ number image. Unit {0}) shape → ⊥ }
+{}
+
+/// What a program has to know can be met: each version that a judgment can give has images by which
+/// its tables are known.
+pub fn versions_can_be_known()
+    ensures { (shape : Form) (v : Levels) → IsOfShape shape v
+        → AreDistinct (numbers_of shape.levels) → KeepsAge (files v)
+        → KnowsTables (images_of v.tables) shape }
 {}

@@ -23,11 +23,16 @@ mod answer_fault;
 mod answering;
 
 // Where its tables are kept.
+mod known;
 mod laws;
 
 pub use admitted::{Admitted, recover_manifest};
 pub use admitting::admit;
 pub use answer_fault::AnswerFault;
 pub use answering::get_unjudged;
-pub use laws::{judged_tables_are_kept, versions_keep_their_tables};
+pub use known::{Known, KnownReceipt, KnownTables, get_known};
+pub use laws::{
+    any_image_keeps_no_file, judged_tables_are_kept, known_tables_are_kept, versions_can_be_known,
+    versions_keep_their_tables,
+};
 pub use lsm_finding::{Finding, Vouched, Vouching};
