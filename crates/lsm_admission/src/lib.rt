@@ -1,9 +1,10 @@
 //! Opening a database in the number of its tables: they are found on the shelf, and not read.
 //!
 //! Stands on `lsm_finding` for shelves that find tables, on `lsm_journal` for what a manifest says,
-//! on `lsm_verify` for what a judgment is, and on `lsm_version` and `lsm_query` for versions and
-//! their reads. Its contract: what is admitted has a table on the shelf for each file of the
-//! manifest; and where the shelf keeps its tables, it is what a judgment of every table finds.
+//! on `lsm_verify` for what a judgment is, on `lsm_version` and `lsm_query` for versions and their
+//! reads, and on `lsm_storage` for the shelf in memory that `Known` wraps. Its contract: what is
+//! admitted has a table on the shelf for each file of the manifest; and where the shelf keeps its
+//! tables, it is what a judgment of every table finds.
 #![tactic(auto)]
 
 // What a manifest says of its files.
