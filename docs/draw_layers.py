@@ -55,6 +55,7 @@ CRATES = {
     "lsm_slots": ("part", "versions by slot"),
     "lsm_merge": ("part", "jobs, drops, outputs"),
     "lsm_picker": ("part", "which compaction is next"),
+    "lsm_admission": ("part", "opened, tables unread"),
     "lsm_pins": ("part", "board of readers' pins"),
     "lsm_version": ("part", "tables at levels"),
     "lsm_history": ("part", "all that ever came in"),
@@ -70,6 +71,7 @@ CRATES = {
     "lsm_snappy": ("file", "raw Snappy, read"),
     "lsm_inflate": ("file", "Snappy's tables made plain"),
     "lsm_shelf": ("file", "what a shelf promises"),
+    "lsm_finding": ("file", "tables found, unread"),
     "lsm_block": ("file", "blocks"),
     "lsm_folder": ("file", "calls on a folder"),
 }
