@@ -1,5 +1,6 @@
 -- Where what a judgment found is kept.
 use Rattle.std.proofs.Common.{◌≡◌, ℕ, zero, suc, ◌+◌, Bool, true, false, not, List, [], ◌∷◌, ◌++◌}
+use Rattle.std.specs.Prelude.{length}
 use Rattle.std.proofs.Common.{refl, sym, ◌∙◌, ap, subst, inl, inr}
 use Rattle.std.specs.Prelude.{◌⊎◌}
 use Rattle.std.specs.List.{filter}
@@ -91,13 +92,14 @@ image_kept last file t image i e = subst (IsImageOf last file) (sym e) i.image
 
 pub images_kept : (Keeps : ℕ → List ℕ → Type 0) (shape : Form) (v : Levels) → IsOfShape shape v
     → KeepsOnly Keeps v → (file : TableFile) (image : List ℕ) → Has (all_files shape.levels) file
-    → Keeps file.number image → IsImageOf shape.last file image
-images_kept Keeps shape v of only file image h kept =
+    → Keeps file.number image → length image ≡ file.size → IsImageOf shape.last file image
+images_kept Keeps shape v of only file image h kept size =
     let r = table_at shape.last shape.levels of.read file of.files h in
     let there : Has (level_in v.tables r.0) r.1 = subst (λ (ls : List (List Table)). Has
     (level_in ls r.0) r.1) (sym of.placed) (level_read of.read r.0 r.1 r.2) in
     image_kept shape.last file r.1 image r.3
-    (only r.0 r.1 image there (subst (λ (n : ℕ). Keeps n image) (sym r.3.number) kept))
+    (only r.0 r.1 image there (subst (λ (n : ℕ). Keeps n image) (sym r.3.number) kept)
+    (size ∙ sym r.3.image.size))
 
 -- ---- what is found is what was read
 
@@ -107,6 +109,7 @@ record IsAs (Keeps : ℕ → List ℕ → Type 0) (u t : Table) : Type 0 where
   smallest : u.smallest ≡ t.smallest
   largest : u.largest ≡ t.largest
   kept : Keeps t.number u.image
+  size : length u.image ≡ length t.image
 
 abbrev OneAs : (ℕ → List ℕ → Type 0) → Table → List Table → Type 0
 OneAs Keeps u ts = (t : Table) × Has ts t × IsAs Keeps u t
@@ -118,6 +121,7 @@ as_file Keeps last file u t f i = record {
   smallest = f.smallest ∙ sym i.smallest;
   largest = f.largest ∙ sym i.largest;
   kept = subst (λ (n : ℕ). Keeps n u.image) (f.number ∙ sym i.number) f.kept;
+  size = f.size ∙ sym i.image.size;
 }
 
 one_as : (Keeps : ℕ → List ℕ → Type 0) (last : ℕ) (files : List TableFile)
@@ -176,14 +180,14 @@ found_is_file Keeps shape v w of only f F h =
     let t = one.0 in
     let there : Has (level_in v.tables n) t = subst (λ (ls : List (List Table)). Has
     (level_in ls n) t) (sym of.placed) (level_read of.read n t one.1) in
-    let image : u.image ≡ t.image = only n t u.image there one.2.kept in
+    let image : u.image ≡ t.image = only n t u.image there one.2.kept one.2.size in
     subst (Has (files v)) (same_file (0 + n) u t one.2.number one.2.smallest one.2.largest image
     ∙ at.3) (in_files 0 v.tables n t there)
 
 pub judged_kept : (Keeps : ℕ → List ℕ → Type 0) (shape : Form) (v : Levels) → IsOfShape shape v
     → KeepsAge (files v) → KeepsOnly Keeps v → KeepsTables Keeps shape
 judged_kept Keeps shape v of ages only = record {
-  images = λ file image h kept size. images_kept Keeps shape v of only file image h kept;
+  images = λ file image h kept size. images_kept Keeps shape v of only file image h kept size;
   ages = λ w f F G x y hF hG. ages F G x y (found_is_file Keeps shape v w of only f F hF)
       (found_is_file Keeps shape v w of only f G hG);
 }
@@ -245,7 +249,8 @@ one_table (x ∷ ts) d t u (inr h) (inr k) e = one_table ts
 
 -- of one number a version has one image
 pub one_image : (shape : Form) (v : Levels) → IsOfShape shape v → AreDistinct (numbers_of shape.levels)
-    → KeepsOnly (ImagesOf v) v
+    → (n : ℕ) (t : Table) (image : List ℕ) → Has (level_in v.tables n) t
+    → ImagesOf v t.number image → image ≡ t.image
 one_image shape v of own n t image h s =
     let placed = of.placed in
     let here : Has (level_in of.read n) t = level_placed of.read n t
@@ -260,4 +265,4 @@ one_image shape v of own n t image h s =
 pub version_kept : (shape : Form) (v : Levels) → IsOfShape shape v
     → AreDistinct (numbers_of shape.levels) → KeepsAge (files v) → KeepsTables (ImagesOf v) shape
 version_kept shape v of own ages = judged_kept (ImagesOf v) shape v of ages
-    (one_image shape v of own)
+    (λ n t image h s size. one_image shape v of own n t image h s)

@@ -13,7 +13,7 @@ use Rattle.lsm_admission.proofs.JudgedKept.{judged_kept}
 pub known_kept : (images : ℕ → List ℕ) (shape : Form) → KnowsTables images shape
     → KeepsTables (KnownImage images) shape
 known_kept images shape k = judged_kept (KnownImage images) shape k.version k.of_shape k.ages
-    (λ n t image h kept. kept ∙ k.known n t h)
+    (λ n t image h kept size. kept ∙ k.known n t h)
 
 known_answers : (images : ℕ → List ℕ) (user : List ℕ) (a : Option (List ℕ)) (was is : Told)
     → Answers (KnownImage images) (Unit {0}) user a was is → KnownAnswers images user a was is

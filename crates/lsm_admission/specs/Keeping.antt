@@ -22,10 +22,11 @@ pub record KeepsTables (Keeps : ℕ → List ℕ → Type 0) (shape : Form) : Ty
 
 -- ---- where that is so
 
--- Under the number of a table of the version the shelf keeps that table's image, or none.
+-- Under the number of a table of the version the shelf keeps, of images of that length, the table's
+-- image, or none.
 abbrev pub KeepsOnly : (ℕ → List ℕ → Type 0) → Levels → Type 0
 KeepsOnly Keeps v = (n : ℕ) (t : Table) (image : List ℕ) → Has (level_in v.tables n) t
-    → Keeps t.number image → image ≡ t.image
+    → Keeps t.number image → length image ≡ length t.image → image ≡ t.image
 
 -- The images of a version's tables, under their numbers.
 abbrev pub ImagesOf : Levels → ℕ → List ℕ → Type 0

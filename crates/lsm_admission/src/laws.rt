@@ -18,8 +18,8 @@ use lsm_finding::Finding;
 use lsm_table::Naming;
 
 /// What a judgment found is kept: where a version is of a shape and its ages are in order, as
-/// `lsm_verify::check` gives one over an honest shelf, and the shelf keeps for each of its
-/// tables the image that was judged and no other one, it keeps the tables of the shape.
+/// `lsm_verify::check` gives one over an honest shelf, and the shelf keeps, for each of its tables,
+/// of images of that length the one that was judged alone, it keeps the tables of the shape.
 pub fn judged_tables_are_kept<N: Naming, S: Finding>()
     ensures { (shape : Form) (v : Levels) → IsOfShape shape v → KeepsAge (files v)
         → KeepsOnly (S.keeps N.place) v
