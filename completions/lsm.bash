@@ -13,10 +13,10 @@ _lsm() {
     manifest) options='--help' places='FILE' ;;
     script) options='--help' places='FILE' ;;
     check) options='--workers --strict --progress --help' places='DIR' ;;
-    list) options='--text --strict --help' places='DIR' ;;
+    list) options='--text --quick --strict --help' places='DIR' ;;
     levels) options='--text --files --svg --strict --help' places='DIR' ;;
-    get) options='--text --raw --exists --strict --help' places='DIR KEY' ;;
-    scan) options='--from --to --prefix --limit --text --keys --json --count --strict --progress --help' places='DIR' ;;
+    get) options='--text --raw --exists --quick --strict --help' places='DIR KEY' ;;
+    scan) options='--from --to --prefix --limit --text --keys --json --count --quick --strict --progress --help' places='DIR' ;;
     ingest) options='--text --begin --beside-log --help' places='DIR FILE' ;;
     put) options='--text --begin --beside-log --help' places='DIR KEY VALUE' ;;
     delete) options='--text --begin --beside-log --help' places='DIR KEY' ;;
