@@ -145,21 +145,12 @@ def one_opening_and_the_folder():
     assert subprocess.run([program, "check", "twelve"], capture_output=True).returncode == 0
 
 
-def ask_until_there_is_room(shell, line):
-    """The reply to a line that is sent again as long as level 0 is full; workers make room there."""
-    ends = time.monotonic() + 60
-    while True:
-        reply = shell.ask(line)
-        if reply != "refused 40 LevelZeroFull" or time.monotonic() > ends:
-            return reply
-
-
 def workers_beside():
     shell = Shell("beside", "--text", "--workers", "2")
-    want(ask_until_there_is_room(shell, "put key0 first"), "file 2 first 1 last 1")
+    want(shell.ask("put key0 first"), "file 2 first 1 last 1")
     want(shell.ask("snapshot"), "snapshot 1 seq 1")
     for n in range(1, 200):
-        said = ask_until_there_is_room(shell, f"put key{n % 20} {n}").split()
+        said = shell.ask(f"put key{n % 20} {n}").split()
         want(said[2:], ["first", str(n + 1), "last", str(n + 1)])
         want(shell.ask(f"get key{n % 20}"), f"value {n}")
     want(shell.ask("get key0 1"), "value first")
@@ -178,6 +169,19 @@ def workers_beside():
     for count in ("0", "17", "x"):
         status, _said = Shell("beside", "--workers", count).end()
         want(status, 2)
+
+
+def lines_wait_for_room():
+    """Lines that are sent at once: none is refused where level 0 is full, since workers make room there."""
+    lines = "".join(f"put key{n * 77 % 1000:04} {n}\n" for n in range(600))
+    for workers in ("1", "2"):
+        os.mkdir(f"waits{workers}")
+        done = subprocess.run(
+            [program, "shell", f"waits{workers}", "--text", "--workers", workers], input=lines, capture_output=True, text=True
+        )
+        want((done.returncode, done.stderr), (0, ""))
+        want([it for it in done.stdout.splitlines() if not it.startswith("file ")], [])
+        want(done.stdout.count("\n"), 600)
 
 
 def what_the_status_tells():
@@ -238,6 +242,6 @@ def a_reply_that_is_not_written():
     assert child.returncode == 1 and err.startswith(b"write fault"), (child.returncode, err)
 
 
-for part in (lines_and_lists, batches, all_that_is_due, one_opening_and_the_folder, workers_beside, what_the_status_tells, bail_ends_it, a_kill_loses_nothing_that_was_said, a_folder_that_is_refused, a_reply_that_is_not_written):
+for part in (lines_and_lists, batches, all_that_is_due, one_opening_and_the_folder, workers_beside, lines_wait_for_room, what_the_status_tells, bail_ends_it, a_kill_loses_nothing_that_was_said, a_folder_that_is_refused, a_reply_that_is_not_written):
     part()
     print(part.__name__.replace("_", " ") + ": as wanted")
