@@ -280,9 +280,9 @@ error names each write-ahead log (`N.log`) that is not read: what was written
 last may stand there.
 
 With --quick no table is verified first: of those where KEY may be three blocks
-are read, and only they are verified. So it answers in milliseconds however
-large DIR is. The answer is the same where the tables are what was written; in a
-damaged or forged folder it may be another one, which `lsm check` would tell.
+are read, and only they are verified. Where a table is not the one that its
+manifest tells of, or an older one has newer entries, the answer may be another
+one, which `lsm check` would find.
 
 With --strict it is refused where such a line would be written: `refused 51
 UnflushedLog N`, and `refused 61 TornManifest B` where the last B bytes of the
@@ -324,7 +324,9 @@ too. Nothing is written in DIR. A line on standard error names each write-ahead
 log (`N.log`) that is not read: what was written last may stand there.
 
 With --quick no table is verified first: what is printed is read, and only that
-is verified. So the first line comes in milliseconds however large DIR is.
+is verified. Where a table is not the one that its manifest tells of, or an older
+one has newer entries, other lines may be printed, which `lsm check` would find;
+and a refusal names no file.
 
 With --strict it is refused where such a line would be written: `refused 51
 UnflushedLog N`, and `refused 61 TornManifest B` where the last B bytes of the
