@@ -9,7 +9,8 @@ use Rattle.lsm_folder.specs.declared.mark.Mark as mark
 use Rattle.lsm_shelf.specs.Refusals.{MayRefuse}
 use Rattle.lsm_storage.specs.declared.file.file_shelf.FileShelf.{FileShelf}
 use Rattle.lsm_requests.specs.declared.directory_line.DirectoryLine.{DirectoryLine}
-use Rattle.lsm_cmd_read.specs.Answers.{Asking, IsLookedInto, IsLookedIntoAsGiven, IsNotLookedInto, Moment, asked_by, moment}
+use Rattle.lsm_cmd_read.specs.Answers.{Asking, IsLookedInto, IsLookedIntoAsGiven, IsNotLookedInto}
+use Rattle.lsm_cmd_read.specs.Answers.{Moment, asked_by, moment}
 use Rattle.lsm_cmd_read.specs.Directory.{OnlyReads}
 use Rattle.lsm_directory.specs.Folders.{IsShelfAt, stored_at, told_by}
 use Rattle.lsm_directory.specs.Beside.{LooksBeside}
@@ -18,8 +19,10 @@ use Rattle.lsm_directory.specs.declared.faults.directory_fault.DirectoryFault.{D
 use Rattle.lsm_directory.specs.declared.folder.beside.Beside.{Beside}
 
 module _ (Honest : Type 0) where
-  abbrev pub then_quiet : (asked : Asking) (before after : Moment) (said told last : Option (List ℕ))
-      → IsLookedInto asked Honest before after said told → Keeps told last → IsLookedInto asked Honest before after said last
+  abbrev pub then_quiet : (asked : Asking) (before after : Moment)
+      (said told last : Option (List ℕ))
+      → IsLookedInto asked Honest before after said told → Keeps told last
+      → IsLookedInto asked Honest before after said last
   then_quiet asked before after said told last done kept = record {
     version = done.version;
     manifest = done.manifest;
@@ -29,46 +32,98 @@ module _ (Honest : Type 0) where
     quiet = λ quiet none. Keeps-trans said told last (done.quiet quiet none) kept;
   }
 
-  pub done_on : {T F : Type 0} (r : Result T F) (status : ℕ) (asked : Asking) (Stored : ℕ → List ℕ → Type 0) (before after : Moment) (said told last : Option (List ℕ))
-      → OnErr r (status ≡ 1) → OnOk r (IsLookedIntoAsGiven asked Stored Honest before after said told)
-      → (status ≡ 0 → Keeps told last) → status ≡ 0 → IsLookedIntoAsGiven asked Stored Honest before after said last
+  pub done_on : {T F : Type 0} (r : Result T F) (status : ℕ) (asked : Asking) (Stored : ℕ → List ℕ
+      → Type 0) (before after : Moment) (said told last : Option (List ℕ))
+      → OnErr r (status ≡ 1)
+      → OnOk r (IsLookedIntoAsGiven asked Stored Honest before after said told)
+      → (status ≡ 0 → Keeps told last) → status ≡ 0
+      → IsLookedIntoAsGiven asked Stored Honest before after said last
   done_on (Ok x) status asked Stored before after said told last err done kept zero =
-      record { looked = then_quiet asked before after said told last done.looked (kept zero); given = done.given }
-  done_on (Err e) status asked Stored before after said told last err done kept zero = absurd (omega (arith, err, zero))
+      record {
+        looked = then_quiet asked before after said told last done.looked (kept zero);
+        given = done.given;
+      }
+  done_on (Err e) status asked Stored before after said told last err done kept zero =
+      absurd (omega (arith, err, zero))
 
 module _ {C M : Type 0} (folders : Ghosts C M) (marks : mark.Ghosts M) where
-  pub looks_at : {T F : Type 0} (r : Result T F) (line : DirectoryLine) (beside : Beside) (begun ended : FileShelf C M) (old new said told : Option (List ℕ))
+  pub looks_at : {T F : Type 0} (r : Result T F) (line : DirectoryLine) (beside : Beside)
+      (begun ended : FileShelf C M) (old new said told : Option (List ℕ))
       → IsShelfAt folders line.path.now (LooksBeside beside) begun
-      → OnOk r (IsLookedIntoAsGiven (asked_by line beside) (stored_at folders marks (told_by folders begun).place) (AreHonest folders.calls) (moment (told_by folders begun) old) (moment (told_by folders ended) new) said told)
-      → OnlyReads (told_by folders begun) (told_by folders ended) → OnOk r (LooksAtGiven folders marks line old new said told)
+      → OnOk r (IsLookedIntoAsGiven (asked_by line beside)
+      (stored_at folders marks (told_by folders begun).place) (AreHonest folders.calls)
+      (moment (told_by folders begun) old) (moment (told_by folders ended) new) said told)
+      → OnlyReads (told_by folders begun) (told_by folders ended)
+      → OnOk r (LooksAtGiven folders marks line old new said told)
   looks_at (Ok x) line beside begun ended old new said told on done reads =
-      record { looks = record { beside = beside; begun = begun; on = on; ended = ended; done = done.looked; reads = reads }; given = done.given }
+      record {
+        looks =
+            record {
+              beside = beside;
+              begun = begun;
+              on = on;
+              ended = ended;
+              done =
+                  done.looked;
+              reads = reads;
+            };
+        given = done.given;
+      }
   looks_at (Err e) line beside begun ended old new said told on done reads = tt
 
-  abbrev pub looks_quiet : (line : DirectoryLine) (old new said told last : Option (List ℕ)) → LooksAt folders line old new said told → Keeps told last → LooksAt folders line old new said last
+  abbrev pub looks_quiet : (line : DirectoryLine) (old new said told last : Option (List ℕ))
+      → LooksAt folders line old new said told → Keeps told last
+      → LooksAt folders line old new said last
   looks_quiet line old new said told last looked kept = record {
     beside = looked.beside;
     begun = looked.begun;
     on = looked.on;
     ended = looked.ended;
-    done = then_quiet (AreHonest folders.calls) (asked_by line looked.beside) (moment (told_by folders looked.begun) old) (moment (told_by folders looked.ended) new) said told last looked.done kept;
+    done = then_quiet (AreHonest folders.calls) (asked_by line looked.beside)
+        (moment (told_by folders looked.begun) old) (moment (told_by folders looked.ended) new) said
+        told last looked.done kept;
     reads = looked.reads;
   }
 
-  pub given_on : {T F : Type 0} (r : Result T F) (status : ℕ) (line : DirectoryLine) (old new said told last : Option (List ℕ)) → OnErr r (status ≡ 1)
-      → OnOk r (LooksAtGiven folders marks line old new said told) → (status ≡ 0 → Keeps told last) → status ≡ 0 → LooksAtGiven folders marks line old new said last
+  pub given_on : {T F : Type 0} (r : Result T F) (status : ℕ) (line : DirectoryLine)
+      (old new said told last : Option (List ℕ)) → OnErr r (status ≡ 1)
+      → OnOk r (LooksAtGiven folders marks line old new said told) → (status ≡ 0 → Keeps told last)
+      → status ≡ 0 → LooksAtGiven folders marks line old new said last
   given_on (Ok x) status line old new said told last err looked kept zero =
-      record { looks = looks_quiet line old new said told last looked.looks (kept zero); given = looked.given }
-  given_on (Err e) status line old new said told last err looked kept zero = absurd (omega (arith, err, zero))
+      record {
+        looks = looks_quiet line old new said told last looked.looks (kept zero);
+        given =
+            looked.given;
+      }
+  given_on (Err e) status line old new said told last err looked kept zero =
+      absurd (omega (arith, err, zero))
 
-  pub looked_on : {T F : Type 0} (r : Result T F) (status : ℕ) (line : DirectoryLine) (old new said told last : Option (List ℕ)) → OnErr r (status ≡ 1)
-      → OnOk r (LooksAtGiven folders marks line old new said told) → (status ≡ 0 → Keeps told last) → status ≡ 0 → LooksAt folders line old new said last
-  looked_on r status line old new said told last err looked kept zero = (given_on r status line old new said told last err looked kept zero).looks
+  pub looked_on : {T F : Type 0} (r : Result T F) (status : ℕ) (line : DirectoryLine)
+      (old new said told last : Option (List ℕ)) → OnErr r (status ≡ 1)
+      → OnOk r (LooksAtGiven folders marks line old new said told) → (status ≡ 0 → Keeps told last)
+      → status ≡ 0 → LooksAt folders line old new said last
+  looked_on r status line old new said told last err looked kept zero =
+      (given_on r status line old new said told last err looked kept zero).looks
 
 module _ {C M : Type 0} (folders : Ghosts C M) (marks : mark.Ghosts M) where
-  pub fails_at : {T : Type 0} (r : Result T DirectoryFault) (line : DirectoryLine) (beside : Beside) (begun ended : FileShelf C M) (old new : Option (List ℕ))
+  pub fails_at : {T : Type 0} (r : Result T DirectoryFault) (line : DirectoryLine) (beside : Beside)
+      (begun ended : FileShelf C M) (old new : Option (List ℕ))
       → IsShelfAt folders line.path.now (LooksBeside beside) begun
-      → IfErr r (λ e. IsNotLookedInto (asked_by line beside) (stored_at folders marks (told_by folders begun).place) MayRefuse (AreHonest folders.calls) e (moment (told_by folders begun) old) (moment (told_by folders ended) new))
-      → OnlyReads (told_by folders begun) (told_by folders ended) → IfErr r (λ e. FailsToLook folders marks line e old new)
+      → IfErr r
+      (λ e. IsNotLookedInto (asked_by line beside)
+      (stored_at folders marks (told_by folders begun).place) MayRefuse
+      (AreHonest folders.calls) e (moment (told_by folders begun) old)
+      (moment (told_by folders ended) new))
+      → OnlyReads (told_by folders begun) (told_by folders ended)
+      → IfErr r (λ e. FailsToLook folders marks line e old new)
   fails_at (Ok x) line beside begun ended old new on refused reads = tt
-  fails_at (Err e) line beside begun ended old new on refused reads = inr record { beside = beside; begun = begun; on = on; ended = ended; refused = refused; reads = reads }
+  fails_at (Err e) line beside begun ended old new on refused reads =
+      inr record {
+        beside = beside;
+        begun = begun;
+        on = on;
+        ended = ended;
+        refused =
+            refused;
+        reads = reads;
+      }

@@ -4,4 +4,5 @@ use Rattle.lsm_cmd_read.specs.Listing.{level_line, level_texts}
 use Rattle.lsm_cmd_read.proofs.checking.describe.Given as goal
 
 abbrev pub invariant-loop-level : goal.invariant-loop-level
-invariant-loop-level g l = l.text.items ≡ level_texts (λ n. level_line n (level_in l.opened.version.tables n)) l.level
+invariant-loop-level g l =
+    l.text.items ≡ level_texts (λ n. level_line n (level_in l.opened.version.tables n)) l.level

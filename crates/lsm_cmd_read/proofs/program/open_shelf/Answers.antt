@@ -7,9 +7,13 @@ use Rattle.lsm_cmd_read.proofs.program.open_shelf.Goals as goal
 
 pub returns-clause-found : goal.returns-clause-found
 returns-clause-found g c =
-    shelf_over g.C.FolderCalls c.args.path.now (LooksBeside c.in_ok-beside.beside) c.in_ok-folder.folder c.look_beside.new.folder c.over.result c.in_ok-folder.ensures.place
-    c.in_ok-folder.ensures.calls c.in_ok-beside.ensures.told c.look_beside.ensures.place c.over.ensures.folder c.over.ensures.fresh
+    shelf_over g.C.FolderCalls c.args.path.now (LooksBeside c.in_ok-beside.beside)
+    c.in_ok-folder.folder c.look_beside.new.folder c.over.result c.in_ok-folder.ensures.place
+    c.in_ok-folder.ensures.calls c.in_ok-beside.ensures.told c.look_beside.ensures.place
+    c.over.ensures.folder c.over.ensures.fresh
 
 pub returns-clause-place : goal.returns-clause-place
 returns-clause-place g c =
-    subst (λ (p : Place). All (λ s. (file_told g.C.FolderCalls.place s).place ≡ p) c.in_ok-shelves.shelves.items) (sym (ap (λ (t : Told). t.place) c.over.ensures.fresh)) c.in_ok-shelves.ensures
+    subst (λ (p : Place). All (λ s. (file_told g.C.FolderCalls.place s).place ≡ p)
+    c.in_ok-shelves.shelves.items) (sym (ap (λ (t : Told). t.place) c.over.ensures.fresh))
+    c.in_ok-shelves.ensures

@@ -6,6 +6,9 @@ use Rattle.lsm_cmd_read.proofs.program.shelves_on.Goals as goal
 
 pub loop-preserved : goal.loop-preserved
 loop-preserved g c =
-    All-same (λ s. (file_told g.C.FolderCalls.place s).place ≡ g.C.FolderCalls.place c.args.folder.now) _ _ c.in_ok-push.ensures.items
-    (All-push (λ s. (file_told g.C.FolderCalls.place s).place ≡ g.C.FolderCalls.place c.args.folder.now) _ c.over-shelf.result c.loop.invariant
+    All-same (λ s. (file_told g.C.FolderCalls.place s).place ≡ g.C.FolderCalls.place
+    c.args.folder.now) _ _ c.in_ok-push.ensures.items
+    (All-push
+    (λ s. (file_told g.C.FolderCalls.place s).place ≡ g.C.FolderCalls.place c.args.folder.now) _
+    c.over-shelf.result c.loop.invariant
     (ap (λ (t : Told). t.place) c.over-shelf.ensures.fresh ∙ c.in-Ok.ensures.fork.1))

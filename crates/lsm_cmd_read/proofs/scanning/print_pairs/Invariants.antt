@@ -14,5 +14,6 @@ invariant-loop-passed g l = record {
   ascending : g.S.Shelf.honest → UsersAscend l.scan.left;
   few : l.printed ≤ l.passed;
   fits : Fits l.options.limit l.printed;
-  printed : g.S.Shelf.honest → Passes l.form l.options l.fn.scan.left l.scan.left 0 l.printed (g.O.Write.contents l.fn.out) (g.O.Write.contents l.out);
+  printed : g.S.Shelf.honest → Passes l.form l.options l.fn.scan.left l.scan.left 0 l.printed
+      (g.O.Write.contents l.fn.out) (g.O.Write.contents l.out);
 }

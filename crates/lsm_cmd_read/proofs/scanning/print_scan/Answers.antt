@@ -19,14 +19,18 @@ returns-clause-done g c honest =
     let from = c.first_within-from.result.now in
     done_scan c.args.form c.print_open.result c.args.options.now v c.in_ok-scan.scan.left _ _
     (shows v c.args.options.now.bounds from c.in_ok-scan.scan.left (c.last.ensures.sound honest)
-    (subst (λ last. IsScan last (at_or_past from (all_entries (files v))) c.in_ok-scan.scan.left) c.last.ensures.last (c.in_ok-scan.ensures.scanned honest)) c.first_within-from.ensures)
+    (subst (λ last. IsScan last (at_or_past from (all_entries (files v))) c.in_ok-scan.scan.left)
+    c.last.ensures.last (c.in_ok-scan.ensures.scanned honest)) c.first_within-from.ensures)
     (c.print_open.ensures.done honest)
 
 pub returns-clause-left : goal.returns-clause-left
 returns-clause-left g c =
     let v = c.args.version.now in
     let from = c.first_within-from.result.now in
-    left_scan c.args.form c.print_open.result g.S.Shelf.honest c.args.options.now v c.in_ok-scan.scan.left _ _
-    (λ honest. shows v c.args.options.now.bounds from c.in_ok-scan.scan.left (c.last.ensures.sound honest)
-    (subst (λ last. IsScan last (at_or_past from (all_entries (files v))) c.in_ok-scan.scan.left) c.last.ensures.last (c.in_ok-scan.ensures.scanned honest)) c.first_within-from.ensures)
+    left_scan c.args.form c.print_open.result g.S.Shelf.honest c.args.options.now v
+    c.in_ok-scan.scan.left _ _
+    (λ honest. shows v c.args.options.now.bounds from c.in_ok-scan.scan.left
+    (c.last.ensures.sound honest)
+    (subst (λ last. IsScan last (at_or_past from (all_entries (files v))) c.in_ok-scan.scan.left)
+    c.last.ensures.last (c.in_ok-scan.ensures.scanned honest)) c.first_within-from.ensures)
     c.print_open.ensures.left
