@@ -5,7 +5,16 @@ use Rattle.std.specs.Str.{bytes_eq}
 use Rattle.std.proofs.lemmas.Slice.Eq.{bytes_eq-Decides}
 use Rattle.lsm_directory.specs.FileNames.{HasNoEnding, IsFileName, IsNumberBehind}
 use Rattle.lsm_directory.specs.declared.folder.file_kind.FileKind.{FileKind}
-use Rattle.lsm_directory.specs.declared.folder.file_kind.FileKind.TheVariants.{Table, OldTable, Manifest, Temporary, Log, Current, Lock, Other}
+use Rattle.lsm_directory.specs.declared.folder.file_kind.FileKind.TheVariants.{
+  Table,
+  OldTable,
+  Manifest,
+  Temporary,
+  Log,
+  Current,
+  Lock,
+  Other,
+}
 
 -- texts that a comparison tells apart
 pub not_same : (answer : Bool) (a b : List ℕ) → answer ≡ bytes_eq a b → answer ≡ false → a ≡ b → ⊥

@@ -1,9 +1,47 @@
 -- Logs among the files of a folder.
-use Rattle.std.proofs.Common.{◌≡◌, ◌≢◌, ℕ, ◌+◌, ◌<◌, ◌≤◌, List, [], ◌∷◌, ◌++◌, Some, None, length, get_or, take, drop, drop-cons, add-one, refl, sym, ap, ◌∙◌, subst, append_assoc, append-nil, inl, inr, arith}
+use Rattle.std.proofs.Common.{
+  ◌≡◌,
+  ◌≢◌,
+  ℕ,
+  ◌+◌,
+  ◌<◌,
+  ◌≤◌,
+  List,
+  [],
+  ◌∷◌,
+  ◌++◌,
+  Some,
+  None,
+  length,
+  get_or,
+  take,
+  drop,
+  drop-cons,
+  add-one,
+  refl,
+  sym,
+  ap,
+  ◌∙◌,
+  subst,
+  append_assoc,
+  append-nil,
+  inl,
+  inr,
+  arith,
+}
 use Rattle.std.specs.Prelude.{string_bytes}
 use Rattle.std.proofs.lemmas.Grind.{flat_map-append}
 use Rattle.std.proofs.lemmas.List.{take-append-drop, take_all, take_more}
-use Rattle.lsm_directory.specs.Logs.{AppendsLogs, AreThose, IsFirstUnread, IsLogName, IsReached, IsUnread, NoneUnread, log_lines}
+use Rattle.lsm_directory.specs.Logs.{
+  AppendsLogs,
+  AreThose,
+  IsFirstUnread,
+  IsLogName,
+  IsReached,
+  IsUnread,
+  NoneUnread,
+  log_lines,
+}
 use Rattle.lsm_directory.specs.declared.folder.folder_file.FolderFile.{FolderFile}
 
 -- ---- one file

@@ -1,5 +1,29 @@
 -- Looks at a folder one after another.
-use Rattle.std.proofs.Common.{◌≡◌, ◌≢◌, ℕ, ◌+◌, ◌<◌, List, [], ◌∷◌, ◌++◌, refl, sym, ap, ◌∙◌, subst, append_assoc, append-nil, inl, inr, length, map, arith, String, Vec}
+use Rattle.std.proofs.Common.{
+  ◌≡◌,
+  ◌≢◌,
+  ℕ,
+  ◌+◌,
+  ◌<◌,
+  List,
+  [],
+  ◌∷◌,
+  ◌++◌,
+  refl,
+  sym,
+  ap,
+  ◌∙◌,
+  subst,
+  append_assoc,
+  append-nil,
+  inl,
+  inr,
+  length,
+  map,
+  arith,
+  String,
+  Vec,
+}
 use Rattle.std.specs.Prelude.{Result, Ok, Err, IfErr, IfOk, reverse, string_bytes}
 use Rattle.std.specs.Cmp.Lexicographic.{slice_cmp}
 use Rattle.std.specs.List.Sorted.{IsPermutation, IsSorted}
@@ -16,7 +40,20 @@ use Rattle.lsm_storage.specs.FolderFault.{device_of}
 use Rattle.lsm_shelf.specs.declared.shelf_fault.ShelfFault.{ShelfFault}
 use Rattle.lsm_shelf.specs.declared.shelf_fault.ShelfFault.TheVariants as shelf
 use Rattle.lsm_directory.specs.Logs.{AreThose}
-use Rattle.lsm_directory.specs.Looking.{AddsLog, Asked, AsksSizes, EndsLikeLog, IsLook, IsSizeOrGone, LooksStopped, OnlyLooks, after, named, size_in, sized}
+use Rattle.lsm_directory.specs.Looking.{
+  AddsLog,
+  Asked,
+  AsksSizes,
+  EndsLikeLog,
+  IsLook,
+  IsSizeOrGone,
+  LooksStopped,
+  OnlyLooks,
+  after,
+  named,
+  size_in,
+  sized,
+}
 use Rattle.lsm_directory.specs.declared.folder.folder_file.FolderFile.{FolderFile}
 
 pub looks_same : (a : List Call) → OnlyLooks a a

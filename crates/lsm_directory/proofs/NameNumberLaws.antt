@@ -1,10 +1,38 @@
 -- Numbers in names.
-use Rattle.std.proofs.Common.{◌≡◌, ◌≢◌, ℕ, ◌-◌, ◌<◌, ◌^◌, List, [], ◌∷◌, ◌++◌, length, get_or, take, drop, sym, ap, ◌∙◌, subst, arith, Option, Some}
+use Rattle.std.proofs.Common.{
+  ◌≡◌,
+  ◌≢◌,
+  ℕ,
+  ◌-◌,
+  ◌<◌,
+  ◌^◌,
+  List,
+  [],
+  ◌∷◌,
+  ◌++◌,
+  length,
+  get_or,
+  take,
+  drop,
+  sym,
+  ap,
+  ◌∙◌,
+  subst,
+  arith,
+  Option,
+  Some,
+}
 use Rattle.std.specs.Prelude.{Result, Ok, Err}
 use Rattle.std.specs.Char.{digit_value}
 use Rattle.std.specs.Str.Parse.{AllDigits, IsNumeral, ParsesUnsigned, digits_value}
 use Rattle.std.proofs.lemmas.List.{append_cancel_left, append_cancel_right}
-use Rattle.std.proofs.lemmas.Str.Parse.{IsNumeralModel, numerals_by_value, tells_digits, parse_gives, parse_plain}
+use Rattle.std.proofs.lemmas.Str.Parse.{
+  IsNumeralModel,
+  numerals_by_value,
+  tells_digits,
+  parse_gives,
+  parse_plain,
+}
 use Rattle.lsm_directory.specs.FileNames.{IsDecimal, IsNumberBefore, IsNumberBehind}
 
 own : IsNumeralModel (AllDigits 10) (digits_value 10)

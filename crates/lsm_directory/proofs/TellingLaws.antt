@@ -1,5 +1,21 @@
 -- The line of a fault, put together.
-use Rattle.std.proofs.Common.{◌≡◌, ◌≢◌, ℕ, List, Bool, Option, IfErr, OnErr, OnOk, ◌++◌, [], ◌∷◌, sym, subst, append_assoc}
+use Rattle.std.proofs.Common.{
+  ◌≡◌,
+  ◌≢◌,
+  ℕ,
+  List,
+  Bool,
+  Option,
+  IfErr,
+  OnErr,
+  OnOk,
+  ◌++◌,
+  [],
+  ◌∷◌,
+  sym,
+  subst,
+  append_assoc,
+}
 use Rattle.std.specs.Prelude.{Result, Ok, Err, Some, None, IfSome, codes}
 use Rattle.std.specs.Io.KnownBytes.{Appends, Keeps}
 use Rattle.std.specs.Option.{option_map}

@@ -1,7 +1,14 @@
 use Rattle.std.proofs.Common.{◌∙◌, ap, map}
 use Rattle.std.specs.Prelude.{string_bytes}
 use Rattle.std.proofs.lemmas.Result.{err_from_is_err_and}
-use Rattle.lsm_directory.proofs.LookLaws.{looks_then, none_left, one_less, refused_later, so_far_all, so_far_more}
+use Rattle.lsm_directory.proofs.LookLaws.{
+  looks_then,
+  none_left,
+  one_less,
+  refused_later,
+  so_far_all,
+  so_far_more,
+}
 use Rattle.lsm_directory.proofs.folder.looking.logs_among.Goals as goal
 
 pub loop-name-preserved : goal.loop-name-preserved
