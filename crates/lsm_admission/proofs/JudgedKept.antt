@@ -248,7 +248,8 @@ one_table (x ∷ ts) d t u (inr h) (inr k) e = one_table ts
     (distinct_rest x.number (table_numbers ts) d) t u h k e
 
 -- of one number a version has one image
-pub one_image : (shape : Form) (v : Levels) → IsOfShape shape v → AreDistinct (numbers_of shape.levels)
+pub one_image : (shape : Form) (v : Levels) → IsOfShape shape v
+    → AreDistinct (numbers_of shape.levels)
     → (n : ℕ) (t : Table) (image : List ℕ) → Has (level_in v.tables n) t
     → ImagesOf v t.number image → image ≡ t.image
 one_image shape v of own n t image h s =
