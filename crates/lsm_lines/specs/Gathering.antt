@@ -15,7 +15,8 @@ use Rattle.lsm_lines.specs.declared.gathered.BatchEnd.{BatchEnd}
 use Rattle.lsm_lines.specs.declared.gathered.BatchEnd.TheVariants.{Full, End, Stopped}
 use Rattle.lsm_lines.specs.declared.write_line_fault.WriteLineFault.{WriteLineFault}
 use Rattle.lsm_lines.specs.declared.write_line_fault.WriteLineFault.TheVariants.{BadLine, LongLine}
-use Rattle.lsm_lines.specs.declared.write_line_fault.WriteLineFault.TheVariants.{LargeWrite, NoNewline}
+use Rattle.lsm_lines.specs.declared.write_line_fault.WriteLineFault.TheVariants.{LargeWrite}
+use Rattle.lsm_lines.specs.declared.write_line_fault.WriteLineFault.TheVariants.{NoNewline}
 use Rattle.lsm_lines.specs.declared.write_line_fault.WriteLineFault.TheVariants.{OutOfMemory, Read}
 
 -- ---- lines
