@@ -1,6 +1,7 @@
 // The writes of one kind of writer, by a LevelDB that stays open: leveldb DIR KIND BATCH SIZE. For each
 // line `FIRST COUNT` of its input it writes so many from this one on, and prints a line: how many bytes
 // the folder's files have after each eighth of them, and how many bytes it has written since it opened.
+// From the second eighth on it holds a snapshot.
 // The keys are those of soak.py.
 #include <cinttypes>
 #include <cstdio>
@@ -59,6 +60,7 @@ static bool round_of(leveldb::DB* db, char** words, std::uint64_t first, std::ui
   const std::string kind = words[2];
   const std::uint64_t batch = strtoull(words[3], nullptr, 10), size = strtoull(words[4], nullptr, 10);
   leveldb::WriteBatch writes;
+  const leveldb::Snapshot* held = nullptr;
   std::uint64_t eighths = 0;
   for (std::uint64_t i = first; i < first + all; i++) {
     char key[20], value[32];
@@ -72,9 +74,13 @@ static bool round_of(leveldb::DB* db, char** words, std::uint64_t first, std::ui
       if (!db->Write(leveldb::WriteOptions(), &writes).ok()) return false;
       writes.Clear();
       const std::uint64_t done = i - first + 1;
-      for (; eighths < 8 && done * 8 >= all * (eighths + 1); eighths++) printf("%llu ", used(words[1]));
+      for (; eighths < 8 && done * 8 >= all * (eighths + 1); eighths++) {
+        printf("%llu ", used(words[1]));
+        if (eighths == 1) held = db->GetSnapshot();
+      }
     }
   }
+  if (held != nullptr) db->ReleaseSnapshot(held);
   return true;
 }
 

@@ -1,13 +1,19 @@
-"""What a database costs that is written for long: soak.py LSM LEVELDB FOLDER SECONDS.
+"""What a database costs that is written for long: soak.py LSM LEVELDB FOLDER SECONDS [PLOT].
 
 Writers of each kind bring their keys in by `lsm shell --workers 1`, round after round, each kind into
 a folder of its own, with single puts and with batches; and slow ones single puts over 25 MB that were
 there before, each after the worker has come to rest: at random, at both ends of them, and behind them.
-After each eighth of a round the folder is looked at, and once more after the round, when the worker has
-come to rest; the shell is asked how many tables and bytes the levels have. LevelDB has the same writes,
-stays open too, and its folder is looked at after the same ones. At the end each database is closed and
-opened twice. A line is printed for each round, and at the first figure that is out of its bounds the
-status is 1.
+After each eighth of a round the folder is looked at, a value that came in is asked for, and a range of
+keys; and once more after the round, when the worker has come to rest; the shell is asked how many
+tables and bytes the levels have. From the second eighth on a snapshot is held to the end of the round,
+at which a value is asked for that it has. LevelDB has the same writes, stays open too, holds a snapshot
+as long, and its folder is looked at after the same ones. At the end each shell is killed in the midst
+of some more writes, and its database opened: all that was answered is there; and closed and opened
+twice.
+
+In 600 seconds or more three writers come first that bring a million single puts in, ascending,
+descending and at random. A line is printed for each round, at the first figure that is out of its
+bounds the status is 1, and PLOT, where it is said, is a drawing (SVG) of what each round measured.
 """
 
 import os
@@ -26,6 +32,12 @@ BATCHES = (1, 10, 1000)
 # How many puts a round has; a slow one's, how many puts it comes behind, and how long it pauses.
 ROUND = {1: 2000, 10: 10000, 1000: 50000}
 SLOW, LOADED, PAUSE = 500, 200000, 0.03
+# How many puts a long writer has, of which kinds, in how many seconds at least, and how many times the
+# bytes that LevelDB writes it may write.
+LONG, LONG_KINDS, LONG_FROM, TIMES = 1000000, ("ascending", "descending", "random"), 600, 4
+# In seconds, what one batch in a hundred may take at least. How many bytes of memory a shell may come
+# to, and how many more for each batch, whose tables have records that are never given back.
+SLOWEST, MEMORY, RECORDS = 1.0, 64 << 20, 512
 # Bytes written for a byte that came in, at most. LevelDB itself, at a million puts, writes 2.2 (single
 # ones), 2.0 and 2.0 where they are in order, 4.6 to 6.6, 4.3 and 3.5 at random. The aim is four times as
 # many; single puts may cost more, since each is a table first, and is gathered at level 0. Behind loaded
@@ -118,8 +130,12 @@ class Shell:
         self.folder = folder
         self.replied = 0
         self.was_refused = False
+        self.lsm = lsm
+        self.begin()
+
+    def begin(self):
         self.child = subprocess.Popen(
-            [lsm, "shell", folder, "--text", "--begin", "--workers", "1"],
+            [self.lsm, "shell", self.folder, "--text", "--begin", "--workers", "1"],
             stdin=subprocess.PIPE,
             stdout=subprocess.PIPE,
         )
@@ -174,8 +190,35 @@ class Shell:
                     return int(line.split()[1]) - self.replied
         sys.exit("no wchar")
 
-    def get(self, key):
-        return self.ask(f"get {key}")
+    def memory(self):
+        """How much memory the shell had at most."""
+        with open(f"/proc/{self.child.pid}/status") as file:
+            for line in file:
+                if line.startswith("VmHWM:"):
+                    return int(line.split()[1]) * 1024
+        sys.exit("no VmHWM")
+
+    def get(self, key, snapshot=""):
+        return self.ask(f"get {key} {snapshot}".rstrip())
+
+    def snapshot(self):
+        return self.ask("snapshot").split()[1]
+
+    def scan(self, key):
+        """The first pairs from a key on."""
+        pairs, said = [], self.ask(f"scan {key} limit 10")
+        while said != "end":
+            pairs.append(said)
+            said = self.reply()
+        return pairs
+
+    def kill(self):
+        """Kills the shell, and opens its database again."""
+        self.child.kill()
+        self.child.wait()
+        self.replied = 0
+        self.was_refused = False
+        self.begin()
 
     def end(self):
         self.child.stdin.close()
@@ -220,7 +263,9 @@ class Writer:
         # What was there before its first round: puts, and bytes that they and we wrote for them.
         self.loaded = self.they_had = self.we_had = 0
         self.all, self.pause = ROUND[batch], 0
-        self.newest = {}
+        # The newest value of some keys, and of those that were answered last.
+        self.newest, self.last = {}, {}
+        self.bad, self.rounds = [], []
         self.shell = Shell(lsm, os.path.join(folder, self.name))
 
     def slow(self):
@@ -237,45 +282,84 @@ class Writer:
         self.we_had = self.shell.written()
         return self
 
+    def write(self, first):
+        """Brings the batch in that begins with this put. How long that took."""
+        pairs = {}
+        for i in range(first, first + self.batch):
+            key, value = pair_at(self.kind, i)
+            pairs[key] = value
+            if len(self.newest) < 2000 or key in self.newest:
+                self.newest[key] = value
+        start = time.monotonic()
+        self.shell.bring_in(list(pairs.items()))
+        took = time.monotonic() - start
+        for key in pairs:
+            self.last.pop(key, None)
+        self.last = dict([*self.last.items(), *pairs.items()][-20:])
+        return took
+
+    def read(self, held):
+        """Asks for a value, also at the snapshot that is held, and for some pairs from it on."""
+        key = random.choice(list(self.newest))
+        pair = f"{key}={self.newest[key]}"
+        self.expect(f"get {key}", self.shell.get(key), f"value {self.newest[key]}")
+        self.expect(f"scan {key}", self.shell.scan(key)[:1], [pair])
+        if held:
+            snapshot, key, value = held
+            self.expect(f"get {key} {snapshot}", self.shell.get(key, snapshot), f"value {value}")
+
+    def expect(self, asked, said, wanted):
+        if said != wanted:
+            self.bad.append(f"{asked} was answered {said}, and not {wanted}")
+
+    def hold(self):
+        """Takes a snapshot: with a key, and its value."""
+        key = random.choice(list(self.newest))
+        return self.shell.snapshot(), key, self.newest[key]
+
+    def long(self):
+        """The same writer, whose round is a million puts."""
+        self.all = LONG
+        return self
+
     def round(self):
         all_ = self.all
-        began = time.monotonic()
-        worst = 0.0
+        took = []
         ours = []
+        held = None
         for first in range(self.count, self.count + all_, self.batch):
-            pairs = {}
-            for i in range(first, first + self.batch):
-                key, value = pair_at(self.kind, i)
-                pairs[key] = value
-                if len(self.newest) < 2000 or key in self.newest:
-                    self.newest[key] = value
-            start = time.monotonic()
-            self.shell.bring_in(list(pairs.items()))
-            worst = max(worst, time.monotonic() - start)
+            took.append(self.write(first))
             time.sleep(self.pause)
             while (first - self.count + self.batch) * 8 >= all_ * (len(ours) + 1):
                 ours.append(used(self.shell.folder))
-        took = time.monotonic() - began
+                self.read(held)
+                if len(ours) == 2:
+                    held = self.hold()
+        self.expect("release", self.shell.ask(f"release {held[0]}"), "released")
         theirs, self.they_wrote = self.other.bring_in(self.count, all_)
         self.count += all_
-        return took, worst, list(zip(ours, theirs, strict=True))
+        return sorted(took), list(zip(ours, theirs, strict=True))
 
-    def judge(self, took, worst, looks):
+    def judge(self, took, looks):
         disk, theirs = at_rest(self.shell.folder), used(self.theirs)
         tables, total = self.shell.levels()
         came = (self.count - self.loaded) * (16 + SIZE)
         wrote = self.shell.written() - self.we_had
         each, ratio = wrote / came, wrote / (self.they_wrote - self.they_had)
-        midst, rest = max(our / their for our, their in looks), disk / theirs
+        midst, rest = max(our / (their + MORE / IN_THE_MIDST) for our, their in looks), disk / theirs
         most = 64 + 4 * total / TARGET
+        slow, memory = took[len(took) * 99 // 100], self.shell.memory()
         print(
-            f"{self.name}: {self.count} puts, {took / self.all * 1e6:.0f} us each, worst {worst * 1e3:.0f} ms;"
-            f" {tables} tables of {total} bytes; disk {disk}, {rest:.2f} of LevelDB's, before at most {midst:.2f};"
-            f" {manifests(self.shell.folder)} manifests; written {each:.1f} a byte, {ratio:.2f} of LevelDB's",
+            f"{self.name}: {self.count} puts, {sum(took) / self.all * 1e6:.0f} us each, of 100 batches one"
+            f" {slow * 1e3:.0f} ms, the worst {took[-1] * 1e3:.0f}; {tables} tables of {total} bytes; disk {disk},"
+            f" {rest:.2f} of LevelDB's, before at most {midst:.2f} of LevelDB's and 0.5 MiB;"
+            f" {manifests(self.shell.folder)} manifests; {memory >> 10} KiB of memory; written {each:.1f} a byte,"
+            f" {ratio:.2f} of LevelDB's",
             flush=True,
         )
-        self.figures = (tables / most, each, ratio, midst, rest, worst)
-        bad = []
+        self.figures = (tables / most, each, ratio, midst, rest, slow, memory)
+        self.rounds.append((disk, theirs, *self.figures))
+        bad, self.bad = self.bad, []
         for our, their in looks:
             if our >= IN_THE_MIDST * their + MORE:
                 bad.append(f"in the midst it had {our} bytes on the disk, LevelDB {their}")
@@ -287,11 +371,34 @@ class Writer:
             bad.append(f"{tables} tables are not below {most:.0f}")
         if each >= MOST[self.kind][self.batch]:
             bad.append(f"it wrote {each:.1f} bytes for a byte that came in")
+        if self.all == LONG and ratio >= TIMES:
+            bad.append(f"it wrote {ratio:.2f} times what LevelDB wrote")
+        if slow >= SLOWEST:
+            bad.append(f"one batch in a hundred took {slow:.2f} s")
+        if memory >= MEMORY + RECORDS * ((self.count - self.loaded) // self.batch):
+            bad.append(f"it had {memory} bytes of memory")
         for key in random.sample(sorted(self.newest), min(20, len(self.newest))):
             said = self.shell.get(key)
             if said != f"value {self.newest[key]}":
                 bad.append(f"get {key} was answered {said}")
         return [f"{self.name}: {it}" for it in bad]
+
+    def killed(self):
+        """Kills the shell in the midst of as many writes as a quarter of a round has. All that was
+        answered before is there."""
+        count = self.count
+        all_ = max(min(self.all, ROUND[self.batch]) // 4 // self.batch, 2) * self.batch
+        for first in range(count, count + all_, self.batch):
+            self.write(first)
+            if first - count == all_ // self.batch // 2 * self.batch:
+                self.shell.kill()
+                for key in random.sample(sorted(self.newest), min(20, len(self.newest))):
+                    self.expect(f"get {key}", self.shell.get(key), f"value {self.newest[key]}")
+                for key, value in self.last.items():
+                    self.expect(f"get {key}", self.shell.get(key), f"value {value}")
+        self.other.bring_in(count, all_)
+        self.count += all_
+        return [f"{self.name}: behind a kill {it}" for it in self.bad]
 
     def open_again(self):
         """Closes the database, and opens it twice, as a program would that runs now and then."""
@@ -315,28 +422,72 @@ class Writer:
         return [f"{self.name}: {it}" for it in bad]
 
 
+PANELS = (
+    ("bytes on the disk at rest for one of LevelDB's", lambda it: it[0] / it[1]),
+    ("tables, of their bound", lambda it: it[2]),
+    ("bytes written for one of LevelDB's", lambda it: it[4]),
+    ("one batch in a hundred took longer, ms", lambda it: it[7] * 1e3),
+    ("memory, MiB", lambda it: it[8] / (1 << 20)),
+)
+WIDE, HIGH, EDGE = 640, 150, 40
+
+
+def drawn(writers):
+    """A drawing with a panel for each kind of figure, a line for each writer, over their rounds."""
+    parts = []
+    for panel, (title, figure) in enumerate(PANELS):
+        top = EDGE + panel * (HIGH + EDGE)
+        lines = [(writer.name, [figure(it) for it in writer.rounds]) for writer in writers if writer.rounds]
+        most = max(max(line) for _, line in lines) or 1
+        longest = max(max(len(line) for _, line in lines) - 1, 1)
+        parts.append(f'<text x="{EDGE}" y="{top - 6}">{title}: up to {most:.3g}</text>')
+        parts.append(f'<rect x="{EDGE}" y="{top}" width="{WIDE}" height="{HIGH}" fill="none" stroke="#ccc"/>')
+        for i, (name, line) in enumerate(lines):
+            points = [
+                f"{EDGE + at * WIDE / longest:.1f},{top + HIGH - value * HIGH / most:.1f}" for at, value in enumerate(line)
+            ]
+            points += points[-1:] if len(points) > 1 else [f"{EDGE + 6},{points[0].split(',')[1]}"]
+            colour = f"hsl({i * 360 // len(lines)},70%,45%)"
+            parts.append(f'<polyline points="{" ".join(points)}" fill="none" stroke="{colour}"><title>{name}</title></polyline>')
+            if not panel:
+                parts.append(f'<text x="{WIDE + EDGE + 10}" y="{EDGE + 12 + i * 14}" fill="{colour}">{name}</text>')
+    wide, high = WIDE + EDGE + 180, len(PANELS) * (HIGH + EDGE) + EDGE
+    head = f'<svg xmlns="http://www.w3.org/2000/svg" width="{wide}" height="{high}" font-family="sans-serif" font-size="12">'
+    return "\n".join([head, *parts, "</svg>", ""])
+
+
 def main():
-    lsm, leveldb, folder, seconds = sys.argv[1:]
+    lsm, leveldb, folder, seconds, *plot = sys.argv[1:]
     end = time.monotonic() + float(seconds)
+    bad = []
+    worst_of = [0.0] * 7
+    done = []
+    if float(seconds) >= LONG_FROM:
+        for kind in LONG_KINDS:
+            writer = Writer(lsm, leveldb, folder, kind, 1, "-million").long()
+            done.append(writer)
+            bad += writer.judge(*writer.round()) + writer.killed() + writer.open_again()
+            worst_of = [max(pair) for pair in zip(worst_of, writer.figures)]
     writers = [Writer(lsm, leveldb, folder, kind, batch) for kind in KINDS for batch in BATCHES]
     writers += [Writer(lsm, leveldb, folder, kind, 1, "-slow").slow() for kind in SLOW_KINDS]
-    bad = []
     rounds = 0
-    worst_of = [0.0] * 6
     while (time.monotonic() < end or not rounds) and not bad:
         rounds += 1
         for writer in writers:
             bad += writer.judge(*writer.round())
             worst_of = [max(pair) for pair in zip(worst_of, writer.figures)]
     for writer in writers:
-        bad += writer.open_again()
+        bad += writer.killed() + writer.open_again()
     for it in bad:
         print(it)
-    full, each, ratio, midst, rest, worst = worst_of
+    for file in plot:
+        with open(file, "w") as out:
+            out.write(drawn(done + writers))
+    full, each, ratio, midst, rest, slow, memory = worst_of
     print(
         f"{rounds} rounds of {len(writers)} writers: tables at most {full:.2f} of their bound; written at most {each:.1f} a byte"
-        f" and {ratio:.1f} times LevelDB's; disk at most {midst:.2f} times LevelDB's in the midst and"
-        f" {rest:.2f} at rest; a batch at most {worst * 1e3:.0f} ms"
+        f" and {ratio:.1f} times LevelDB's; disk at most {midst:.2f} times LevelDB's and 0.5 MiB in the midst, {rest:.2f} times"
+        f" LevelDB's at rest; of 100 batches one at most {slow * 1e3:.0f} ms; {memory >> 20} MiB of memory"
     )
     return 1 if bad else 0
 

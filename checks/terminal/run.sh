@@ -2,8 +2,8 @@
 # What `lsm` shows of how far it is, where standard error is a terminal: one line, which each later
 # one replaces, and which is gone at the end, also in a window of 40 columns; nothing where it is
 # none or dumb, or where a `scan` writes anywhere but into a file; with --progress lines that stay; a
-# refusal, and which lines are in, stay too. Needs python3, and tmux for a look at the screen, which
-# is left out where there is none.
+# refusal, and which lines are in, stay too. Lines of `lsm shell` are edited by rlwrap. Needs
+# python3; what needs tmux, for a look at the screen, or rlwrap is left out where they are not.
 # LSM=/path/to/lsm names a built program.
 set -euo pipefail
 here=$(cd "$(dirname "$0")" && pwd)
@@ -48,3 +48,30 @@ see 40 "$program check narrow --workers 1 > out; printf '%s\n' $long"
 printf '%s\n' "${long:0:40}" "${long:40}" "status N" > wanted
 cmp found wanted || { cat seen >&2; exit 1; }
 echo "a narrow screen: as wanted"
+
+if ! command -v rlwrap > /dev/null; then
+  echo "not tried: line editing: rlwrap is not installed"
+  exit
+fi
+
+# a shell whose lines are edited and come again: the second put is the first one with another value
+type_line() { # KEYS..: and looks until the screen has rested
+  tmux -L "$name" send-keys "$@"
+  sleep 1
+}
+
+mkdir edited
+tmux -L "$name" new-session -d -x 80 -y 30 "rlwrap $program shell edited --text; sleep 60"
+for _ in $(seq 100); do
+  [[ $(tmux -L "$name" capture-pane -p | head -n 1) != "lsm>"* ]] || break
+  sleep 0.1
+done
+type_line "put apple red" Enter
+type_line Up BSpace BSpace BSpace "blue" Enter
+type_line "get apple" Enter
+tmux -L "$name" capture-pane -p | sed '/^$/d; s/ *$//' > found
+tmux -L "$name" kill-server
+printf '%s\n' "lsm> put apple red" "file 2 first 1 last 1" "lsm> put apple blue" \
+  "file 3 first 2 last 2" "lsm> get apple" "value blue" "lsm>" > wanted
+cmp found wanted || { cat found >&2; exit 1; }
+echo "a shell in rlwrap: lines are edited, and come again"

@@ -1,5 +1,5 @@
 -- A key that shares its front with the key before it, before it is put together.
-use Rattle.std.specs.Prelude.{ℕ, ◌<◌, ◌≤◌, List, ◌++◌, length, take, slice_index}
+use Rattle.std.specs.Prelude.{◌≡◌, ℕ, ◌<◌, ◌≤◌, List, ◌++◌, length, take, slice_index}
 
 -- the key before it, how much of that it shares, and its own bytes
 pub record KeyParts : Type 0 where
@@ -16,3 +16,10 @@ pub record AreParts (key : KeyParts) : Type 0 where
   pub within : key.shared ≤ length key.before
   pub before_fits : (i : ℕ) → slice_index key.before i < 256
   pub own_fits : (i : ℕ) → slice_index key.own i < 256
+
+-- the first list is below the second at this place, and the same before it
+pub record IsBelowAt (place : ℕ) (a b : List ℕ) : Type 0 where
+  pub same : take place a ≡ take place b
+  pub first : place < length a
+  pub second : place < length b
+  pub less : slice_index a place < slice_index b place

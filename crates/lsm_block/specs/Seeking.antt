@@ -4,7 +4,7 @@ use Rattle.std.specs.Prelude.{[], ◌∷◌, length, take, drop, Option, Some, N
 use Rattle.std.specs.List.{flat_map, AllByRecursion}
 use Rattle.std.specs.Ordering.{is_lt}
 use Rattle.std.specs.Int.{w32, to_le_bytes, from_le_bytes}
-use Rattle.lsm_codec.specs.Keys.{InternalKey, key_cmp, is_internal, key_at}
+use Rattle.lsm_codec.specs.Keys.{InternalKey, key_bytes, key_cmp, is_internal, key_at}
 use Rattle.lsm_codec.specs.Entries.{Entry, internal_key}
 use Rattle.lsm_block.specs.Block.{entry_of, Spells, Ascends, Rises}
 use Rattle.lsm_block.specs.Reading.{Piece, entry_at, entry}
@@ -67,3 +67,10 @@ Steps text offset before offset' before' None =
 Steps text offset before offset' before' (Some value) =
     (is_internal before' ≡ true) × (readable (length text) before (drop offset text)
     ≡ entry_of (key_at before') value ∷ readable (length text) before' (drop offset' text))
+
+-- Where a search from one offset on may go on: there, or elsewhere after the bytes of the key
+-- itself, in place of the key before.
+abbrev pub PassesTo : List ℕ → ℕ → InternalKey → ℕ → Type 0
+PassesTo text start key offset = (offset ≡ start)
+    ⊎ (not_below key (readable (length text) (key_bytes key) (drop offset text))
+    ≡ not_below key (readable (length text) [] (drop start text)))

@@ -1,11 +1,15 @@
 -- One walk over the entries of a block and its restart offsets side by side.
-use Rattle.std.specs.Prelude.{ℕ, zero, suc, ◌&&◌, Bool, true, false, nat_lt, nat_le, ◌==◌}
-use Rattle.std.specs.Prelude.{if◌then◌else◌, List, [], ◌∷◌, ◌++◌, take, Option, Some, None}
+use Rattle.std.specs.Prelude.{◌≡◌, ◌<◌, ◌≤◌, ◌-◌, ◌⊎◌, ℕ, zero, suc, ◌&&◌, Bool, true, false}
+use Rattle.std.specs.Prelude.{nat_lt, nat_le, ◌==◌, if◌then◌else◌, List, [], ◌∷◌, ◌++◌, length}
+use Rattle.std.specs.Prelude.{take, Option, Some, None}
 use Rattle.std.specs.List.{list_all}
+use Rattle.std.specs.Option.{option_map}
+use Rattle.lsm_codec.specs.Keys.{is_internal}
 use Rattle.lsm_block.specs.declared.entry.RawEntry.{RawEntry}
 use Rattle.lsm_block.specs.declared.fault.BlockFault.{BlockFault}
+use Rattle.lsm_block.specs.KeyParts.{IsBelowAt}
 use Rattle.lsm_block.specs.declared.fault.BlockFault.TheVariants.{BadEntry}
-use Rattle.lsm_block.specs.Reading.{Piece, Scan, starts_of, rises, disorder, entry_fault}
+use Rattle.lsm_block.specs.Reading.{Piece, Scan, entry_at, starts_of, rises, disorder, entry_fault}
 use Rattle.lsm_block.specs.Reading.{restart_fault}
 
 -- what is seen of an entry that was read: how much of its key is shared, its key, its value, and
@@ -19,6 +23,22 @@ raw_key before e = take e.shared before ++ e.own.now
 
 abbrev pub raw_seen : List ℕ → RawEntry → ℕ × List ℕ × List ℕ × List ℕ
 raw_seen before e = (e.shared, raw_key before e, e.value.now, e.after.now)
+
+-- An entry that has the last eight bytes of its key itself: it is read so after each key that has
+-- as many bytes as it shares.
+pub record ReadsOwn (before_len : ℕ) (text : List ℕ) (e : RawEntry) : Type 0 where
+  pub within : e.shared ≤ before_len
+  pub internal : is_internal e.own.now ≡ true
+  pub read : (before : List ℕ) → e.shared ≤ length before
+      → Some (raw_seen before e) ≡ option_map seen (entry_at before text)
+
+-- Where the next key is below a user key, when the key before it is below at a place: there, if it
+-- shares more than so many bytes, and else by its own bytes.
+abbrev pub GoesOn : ℕ → ℕ → List ℕ → RawEntry → Type 0
+GoesOn place next user e =
+    ((place < e.shared) × (next ≡ place))
+    ⊎ ((e.shared ≤ place)
+    × IsBelowAt next (take e.shared user ++ take (length e.own.now - 8) e.own.now) user)
 
 -- The offset before the walk, and those that are left: the first is passed where it is 0. Where it
 -- is not, none follows it, since it does not rise above itself.

@@ -10,7 +10,7 @@ ghost use Rattle.std.specs.Prelude.{◌≡◌, ◌≤◌, [], ℕ, List, length,
 ghost use Rattle.std.specs.Option.{option_map};
 ghost use Rattle.lsm_block.specs.Reading.{number_at, numbers_at, piece_of, entry_at};
 ghost use Rattle.lsm_codec.specs.Keys.{IsKey, key_at};
-ghost use Rattle.lsm_block.specs.Walking.{seen, raw_key, raw_seen};
+ghost use Rattle.lsm_block.specs.Walking.{seen, raw_key, raw_seen, ReadsOwn};
 
 use crate::shared_key::SharedKey;
 use lsm_codec::{get_varint32, is_internal_key};
@@ -106,6 +106,31 @@ impl<'a> RawEntry<'a> {
     {
         let (shared, unshared, len, rest) = numbers(text)?;
         RawEntry::of(before, shared, unshared, len, rest)
+    }
+
+    /// The entry at the front of a text, after a key of this length that is not at hand. `None`
+    /// also where the last eight bytes of its key are not all its own.
+    pub(crate) fn read_own(before_len: usize, text: &'a [u8]) -> Option<RawEntry<'a>>
+        ensures { IfSome result (ReadsOwn before_len text.now) }
+    {
+        let (shared, unshared, len, rest) = numbers(text)?;
+        if shared as usize > before_len {
+            return None;
+        }
+        if rest.len() < unshared as usize + len as usize {
+            return None;
+        }
+        let (own, after) = rest.split_at(unshared as usize);
+        if !is_internal_key(own) {
+            return None;
+        }
+        let (value, after) = after.split_at(len as usize);
+        Some(RawEntry {
+            shared,
+            own,
+            value,
+            after,
+        })
     }
 }
 

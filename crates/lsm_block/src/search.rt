@@ -1,19 +1,22 @@
 //! Going through the entries of a block, and the search for a key.
 
-ghost use Rattle.std.specs.Prelude.{◌≡◌, [], ◌*◌, ◌+◌, ◌/◌, ◌≤◌, ◌<◌, ℕ, List, length, drop, false};
-ghost use Rattle.std.specs.Prelude.{IfOk, OnErr};
+ghost use Rattle.std.specs.Prelude.{◌≡◌, [], ◌*◌, ◌+◌, ◌-◌, ◌/◌, ◌≤◌, ◌<◌, ◌++◌, ℕ, List, length};
+ghost use Rattle.std.specs.Prelude.{take, drop, false, IfOk, IfSome, IfNone, OnErr};
 ghost use Rattle.std.specs.Option.{option_map};
 ghost use Rattle.lsm_codec.specs.KeyRef.{key_of};
 ghost use Rattle.lsm_codec.specs.Entries.{Entry};
 ghost use Rattle.lsm_block.specs.Seeking.{readable, not_below, word_of, ArePartsOf, starts_below};
-ghost use Rattle.lsm_block.specs.Seeking.{StartsSearch, Steps};
+ghost use Rattle.lsm_block.specs.Seeking.{StartsSearch, PassesTo, Steps};
+ghost use Rattle.lsm_block.specs.KeyParts.{IsBelowAt};
+ghost use Rattle.lsm_block.specs.Walking.{GoesOn};
 ghost use Rattle.lsm_block.specs.Held.{Kept, last_of};
 ghost use Rattle.lsm_block.specs.Standing.{StepStands, SharesFront};
 
 use crate::entry::{RawEntry, first_key};
+use crate::entry_text::common_prefix;
 use crate::key::is_below;
 use crate::shared_key::{SharedKey, put_together};
-use lsm_codec::KeyRef;
+use lsm_codec::{KeyRef, push_key};
 use std::alloc::AllocError;
 
 /// What follows an offset.
@@ -72,17 +75,75 @@ pub(crate) fn find_restart(text: &[u8], offsets: &[u8], key: &KeyRef<'_>) -> usi
     word_at(offsets, low) as usize
 }
 
-/// Goes on from a restart to the first entry that is not below the key: its offset, and `before` is
-/// the key before it.
-pub(crate) fn scan_to(
+/// Where a key is below a user key, at a byte that is its own: both have so many bytes in common at
+/// their fronts. `None` also where it is not below, or has no such byte.
+fn place_below(shared: usize, own: &[u8], user: &[u8]) -> Option<usize>
+    requires own { 8 ≤ length own.now }
+    requires within { shared ≤ length user.now }
+    ensures { IfSome result (λ place. IsBelowAt place
+        (take shared user.now ++ take (length own.now - 8) own.now) user.now) }
+{
+    let (own, _) = own.split_at(own.len() - 8);
+    let (_, rest) = user.split_at(shared);
+    let common = common_prefix(own, rest);
+    if common < own.len() && common < rest.len() && own[common] < rest[common] {
+        Some(shared + common)
+    } else {
+        None
+    }
+}
+
+/// The same for the next entry, behind a key that is below at this place. What shares more with
+/// that key than so many bytes is below at the same place.
+fn next_place(place: usize, entry: &RawEntry<'_>, user: &[u8]) -> Option<usize>
+    requires own { 8 ≤ length entry.now.own.now }
+    requires within { place ≤ length user.now }
+    ensures some { IfSome result (λ next. GoesOn place next user.now entry.now) }
+    ensures none { IfNone result (entry.now.shared ≤ place) }
+{
+    let shared = entry.shared as usize;
+    if shared > place {
+        return Some(place);
+    }
+    place_below(shared, entry.own, user)
+}
+
+/// Passes entries from a restart on whose user keys are below the key's: the offset behind them.
+/// Looks at a key only where it differs, and puts none together. Where an entry's own bytes do not
+/// tell its place it gives up, and is where it began.
+fn pass_below(text: &[u8], start: usize, key: &KeyRef<'_>) -> usize
+    ensures { PassesTo text.now start (key_of key.now) result }
+{
+    let mut offset = start;
+    // How long the key before is, and where it is below.
+    let mut len: usize = 0;
+    let mut place: usize = 0;
+    while offset < text.len() {
+        let Some(entry) = RawEntry::read_own(len, rest_from(text, offset)) else {
+            return start;
+        };
+        let Some(next) = next_place(place, &entry, key.user) else {
+            return offset;
+        };
+        place = next;
+        len = entry.shared as usize + entry.own.len();
+        offset = text.len() - entry.after.len();
+    }
+    offset
+}
+
+/// Goes on from an offset and the key before it to the first entry that is not below the key: its
+/// offset, and `before` is the key before it.
+fn scan_on(
     text: &[u8],
     start: usize,
     key: &KeyRef<'_>,
     before: &mut Vec<u8>,
 ) -> Result<usize, AllocError>
-    requires { before.old.items ≡ [] }
+    requires { Kept (last_of before.old.items) before.old.items }
     ensures found { IfOk result (λ o. readable (length text.now) before.new.items (drop o text.now)
-        ≡ not_below (key_of key.now) (readable (length text.now) [] (drop start text.now))) }
+        ≡ not_below (key_of key.now)
+        (readable (length text.now) before.old.items (drop start text.now))) }
     ensures kept { IfOk result (λ _. Kept (last_of before.new.items) before.new.items) }
 {
     let mut offset = start;
@@ -99,6 +160,28 @@ pub(crate) fn scan_to(
         offset = text.len() - entry.after.len();
     }
     Ok(offset)
+}
+
+/// Goes on from a restart to the first entry that is not below the key: its offset, and `before`
+/// has of the key before it what that entry shares.
+pub(crate) fn scan_to(
+    text: &[u8],
+    start: usize,
+    key: &KeyRef<'_>,
+    before: &mut Vec<u8>,
+) -> Result<usize, AllocError>
+    requires { before.old.items ≡ [] }
+    ensures found { IfOk result (λ o. readable (length text.now) before.new.items (drop o text.now)
+        ≡ not_below (key_of key.now) (readable (length text.now) [] (drop start text.now))) }
+    ensures kept { IfOk result (λ _. Kept (last_of before.new.items) before.new.items) }
+{
+    let offset = pass_below(text, start, key);
+    if offset == start {
+        return scan_on(text, start, key, before);
+    }
+    before.reserve(key.user.len() + 8)?;
+    push_key(before, key.user, key.seq, key.kind)?;
+    scan_on(text, offset, key, before)
 }
 
 /// Reads the entry at an offset, whose key goes to `before`, and lends its value; the numbers are

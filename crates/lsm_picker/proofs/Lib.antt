@@ -9,3 +9,4 @@ pub mod Choosing
 pub mod Ranges
 pub mod FirstLaws
 pub mod GatheringLaws
+pub mod JoiningLaws

@@ -1,9 +1,10 @@
 -- Which files below level 0 are joined, so that small ones become larger (this project's rule).
-use Rattle.std.specs.Prelude.{◌≡◌, ℕ, ◌+◌, ◌-◌, ◌*◌, ◌<◌, ◌≤◌, ◌⊎◌, List, Some, length}
-use Rattle.std.specs.Prelude.{slice_get, slice_range}
+use Rattle.std.specs.Prelude.{◌≡◌, ℕ, ◌+◌, ◌-◌, ◌*◌, ◌<◌, ◌≤◌, ◌⊎◌, Bool, true, false, not, List}
+use Rattle.std.specs.Prelude.{Some, length, slice_get, slice_range}
 use Rattle.lsm_codec.specs.Keys.{UserKey}
 use Rattle.lsm_table.specs.Registry.{Table, bytes_of}
 use Rattle.lsm_version.specs.Versions.{Levels, level_in, user_of}
+use Rattle.lsm_picker.specs.Stairs.{IsStair, foremost}
 
 -- the files of a level that meet a range of user keys, both ends included
 pub record Span : Type 0 where
@@ -51,19 +52,45 @@ pub record IsInnermost (target_size : ℕ) (ts : List Table) (at : ℕ) : Type 0
   pub innermost : (Falls ts × NoRunBehind target_size ts at)
       ⊎ ((Falls ts → ⊥) × NoRunBefore target_size ts at)
 
--- the range of the innermost run
-pub record IsOverInnermostRun (target_size : ℕ) (ts : List Table) (from to : UserKey)
+-- which way the files of a level go
+abbrev pub Goes : List Table → (rising : Bool) → Type 0
+Goes ts true = Falls ts → ⊥
+Goes ts false = Falls ts
+
+-- a file of the level lies further in than the run that begins at this index
+abbrev pub LeavesOne : List Table → (rising : Bool) → (at : ℕ) → Type 0
+LeavesOne ts true at = 0 < at
+LeavesOne ts false at = at + 12 < length ts
+
+-- The innermost file of a level that lies beyond all deeper ones, where the run that begins at this
+-- index leaves it.
+pub record GoesFirst (v : Levels) (level at : ℕ) (t : Table) : Type 0 where
+  pub rising : Bool
+  pub goes : Goes (level_in v.tables level) rising
+  pub leaves : LeavesOne (level_in v.tables level) rising at
+  pub innermost : foremost (not rising) (level_in v.tables level) ≡ Some t
+  pub stair : IsStair v rising level
+
+-- from the least user key of a file to its greatest one
+abbrev pub IsOverFile : Table → (from to : UserKey) → Type 0
+IsOverFile t from to = (from ≡ user_of t.smallest) × (to ≡ user_of t.largest)
+
+-- the range of the file that goes before the level's innermost run, or of that run
+pub record IsOverInnermost (v : Levels) (target_size level : ℕ) (from to : UserKey)
     : Type 0 where
   pub at : ℕ
-  pub innermost : IsInnermost target_size ts at
-  pub over : IsOverRun ts at from to
+  pub innermost : IsInnermost target_size (level_in v.tables level) at
+  pub over : ((t : Table) × GoesFirst v level at t × IsOverFile t from to)
+      ⊎ (((t : Table) → GoesFirst v level at t → ⊥)
+      × IsOverRun (level_in v.tables level) at from to)
 
--- What is joined: the range of the innermost run of the first level, 1 to 5, that has one.
+-- What is joined: of the first level, 1 to 5, that has a run, the range of the innermost one, or of
+-- the file that goes before it.
 pub record IsJoined (v : Levels) (target_size : ℕ) (s : Span) : Type 0 where
   pub below : 1 ≤ s.level
   pub inside : s.level ≤ 5
   pub none_above : NoRunAbove target_size v s.level
-  pub over : IsOverInnermostRun target_size (level_in v.tables s.level) s.from s.to
+  pub over : IsOverInnermost v target_size s.level s.from s.to
 
 -- none of these levels has a run
 abbrev pub IsSettled : Levels → ℕ → Type 0

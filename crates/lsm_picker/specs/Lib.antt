@@ -9,6 +9,7 @@ pub mod PlanFault
 pub mod Gathering
 pub mod Joining
 pub mod Outermost
+pub mod Stairs
 pub mod Manual
 -- What private functions and proofs cite alone
 pub mod TableRanges

@@ -1,18 +1,13 @@
 -- Which file of level 0 goes down although it is small, for nothing is ever to be merged with it
 -- where keys only rise, or only fall (this project's rule).
-use Rattle.std.specs.Prelude.{◌≡◌, ℕ, suc, ◌-◌, ◌<◌, ◌≤◌, ◌⊎◌, Bool, true, false, not, ◌||◌}
-use Rattle.std.specs.Prelude.{Option, Some, List, length, slice_get}
-use Rattle.lsm_codec.specs.Keys.{user_le}
+use Rattle.std.specs.Prelude.{◌≡◌, ℕ, ◌<◌, ◌≤◌, ◌⊎◌, Bool, true, false, ◌||◌, List, length}
 use Rattle.lsm_codec.specs.Lists.{Has}
 use Rattle.lsm_table.specs.Registry.{Table}
 use Rattle.lsm_version.specs.Versions.{Levels, level_in, user_of}
 use Rattle.lsm_picker.specs.Joining.{Span}
 use Rattle.lsm_picker.specs.Reservations.{Reserved}
 use Rattle.lsm_picker.specs.Scores.{free_tables}
-
--- the user keys of t are below all of u
-abbrev pub is_before : Table → Table → Bool
-is_before t u = not (user_le (user_of u.smallest) (user_of t.largest))
+use Rattle.lsm_picker.specs.Stairs.{IsBeyondFrom, IsStair, is_before}
 
 -- no user key lies in the ranges of both
 abbrev pub are_apart : Table → Table → Bool
@@ -25,30 +20,6 @@ MayGoBefore t u = (t.number ≤ u.number) × (t.number < u.number → are_apart 
 -- it may go before each of these: it is the oldest one, and meets no other one
 abbrev pub MayGoFirst : List Table → Table → Type 0
 MayGoFirst ts t = (u : Table) → Has ts u → MayGoBefore t u
-
--- the last file of a sorted level where keys rise, the first one where they fall
-abbrev pub foremost : (rising : Bool) → List Table → Option Table
-foremost true ts = slice_get ts (length ts - 1)
-foremost false ts = slice_get ts 0
-
--- t lies beyond u, in the direction in which keys go
-abbrev pub is_beyond : (rising : Bool) → Table → Table → Bool
-is_beyond true t u = is_before u t
-is_beyond false t u = is_before t u
-
--- it lies beyond all of a sorted level
-abbrev pub IsBeyond : (rising : Bool) → Table → List Table → Type 0
-IsBeyond rising t ts = (u : Table) → foremost rising ts ≡ Some u → is_beyond rising t u ≡ true
-
--- it lies beyond all levels from the first one to level 6
-abbrev pub IsBeyondFrom : Levels → (rising : Bool) → Table → (first : ℕ) → Type 0
-IsBeyondFrom v rising t first =
-    (level : ℕ) → first ≤ level → level ≤ 6 → IsBeyond rising t (level_in v.tables level)
-
--- each file of this level lies beyond all deeper levels, for its innermost one does
-abbrev pub IsStair : Levels → (rising : Bool) → (level : ℕ) → Type 0
-IsStair v rising level = (t : Table) → foremost (not rising) (level_in v.tables level) ≡ Some t
-    → IsBeyondFrom v rising t (suc level)
 
 -- the deeper a level lies, the further its keys lie back
 abbrev pub AreStairs : Levels → (rising : Bool) → Type 0

@@ -1,11 +1,14 @@
 //! Which range of files below level 0 is joined, so that small files become larger ones.
 
 ghost use Rattle.std.specs.Prelude.{◌≡◌, ◌+◌, ◌≤◌, ◌↔◌, IsTrue, MatchOption, length};
-ghost use Rattle.lsm_table.specs.Registry.{bytes_of};
-ghost use Rattle.lsm_picker.specs.Joining.{Falls, HasNoRun, IsInnermost, IsJoined};
-ghost use Rattle.lsm_picker.specs.Joining.{IsOverInnermostRun, IsRun, IsSettled, NoRunBefore};
-ghost use Rattle.lsm_picker.specs.Joining.{NoRunBehind};
+ghost use Rattle.std.specs.Prelude.{option_copied};
+ghost use Rattle.lsm_table.specs.Registry.{Table, bytes_of};
+ghost use Rattle.lsm_version.specs.Versions.{level_in};
+ghost use Rattle.lsm_picker.specs.Joining.{Falls, Goes, GoesFirst, HasNoRun, IsInnermost};
+ghost use Rattle.lsm_picker.specs.Joining.{IsJoined, IsOverInnermost, IsRun, IsSettled, LeavesOne};
+ghost use Rattle.lsm_picker.specs.Joining.{NoRunBefore, NoRunBehind};
 
+use crate::outermost::{foremost, is_stair};
 use crate::span::Span;
 use lsm_table::{Naming, Registry, Shelf, TableReceipt, TableRef};
 use lsm_version::{Version, high_of, low_of};
@@ -102,16 +105,68 @@ fn innermost_run<N: Naming, S: Shelf>(
     }
 }
 
-/// The range of the innermost run of a level.
-fn over_innermost_run<'a, N: Naming, S: Shelf>(
+/// Whether a level rises; else it falls.
+#[tactic(auto, using(crate::proofs::JoiningLaws::goes_so))]
+fn rises<N: Naming, S: Shelf>(registry: &Registry<N, S>, tables: &[TableRef<N, S>]) -> bool
+    ensures { Goes tables.now result }
+{
+    !falls(registry, tables)
+}
+
+/// Whether a file of a level lies further in than the run that begins at an index.
+fn leaves_one<N: Naming, S: Shelf>(tables: &[TableRef<N, S>], rising: bool, at: usize) -> bool
+    requires { at + 12 ≤ length tables.now }
+    ensures { IsTrue result ↔ LeavesOne tables.now rising at }
+{
+    if rising {
+        at > 0
+    } else {
+        at + RUN < tables.len()
+    }
+}
+
+/// The innermost file of a level that lies beyond all deeper ones, where the run that begins at an
+/// index leaves it; none where the level is no such one, or the run leaves none.
+#[tactic(auto, using(crate::proofs::JoiningLaws::first_left, crate::proofs::JoiningLaws::none_left))]
+fn file_before<'a, N: Naming, S: Shelf>(
+    registry: &Registry<N, S>,
+    version: &'a Version<N, S>,
+    level: usize,
+    at: usize,
+) -> Option<&'a TableRef<N, S>>
+    requires level { level ≤ 5 }
+    requires inside { at + 12 ≤ length (level_in version.now.tables level) }
+    ensures { MatchOption (option_copied result)
+        ((t : Table) → GoesFirst version.now level at t → ⊥) (λ t.
+        GoesFirst version.now level at t) }
+{
+    let tables = version.level(level);
+    let rising = rises(registry, tables);
+    if !leaves_one(tables, rising, at) {
+        return None;
+    }
+    if !is_stair(registry, version, rising, level) {
+        return None;
+    }
+    foremost(!rising, tables)
+}
+
+/// The range of the innermost run of a level, or of the file that goes before it.
+fn over_innermost<'a, N: Naming, S: Shelf>(
     registry: &'a Registry<N, S>,
-    tables: &[TableRef<N, S>],
+    version: &Version<N, S>,
+    level: usize,
     target_size: u64,
 ) -> Option<(&'a [u8], &'a [u8])>
-    ensures { MatchOption result (HasNoRun target_size tables.now) (λ r.
-        IsOverInnermostRun target_size tables.now r.0.now r.1.now) }
+    requires { level ≤ 5 }
+    ensures { MatchOption result (HasNoRun target_size (level_in version.now.tables level)) (λ r.
+        IsOverInnermost version.now target_size level r.0.now r.1.now) }
 {
+    let tables = version.level(level);
     let at = innermost_run(registry, tables, target_size)?;
+    if let Some(table) = file_before(registry, version, level, at) {
+        return Some((low_of(registry, table), high_of(registry, table)));
+    }
     let from = low_of(registry, &tables[at]);
     let to = high_of(registry, &tables[at + (RUN - 1)]);
     Some((from, to))
@@ -121,6 +176,8 @@ fn over_innermost_run<'a, N: Naming, S: Shelf>(
 /// to be joined: the range of the innermost run, twelve neighbours with at most three target sizes
 /// of bytes together, of the first level from 1 to 5 that has one. Innermost is the last run of a
 /// level that falls, whose first file is newer than its last one, and the first run of any other.
+/// Where that run leaves a file further in, and the level lies beyond all deeper ones, it is the
+/// range of the innermost file, which goes down first: nothing that is deeper meets it.
 ///
 /// Where keys only fall, the newest files of a level are its first ones, where they only rise its
 /// last ones: what is joined lies next to the deeper files, so that levels stay the stairs that
@@ -137,8 +194,8 @@ pub fn span_to_join<'a, N: Naming, S: Shelf>(
         IsJoined version.now target_size s) }
 {
     for level in 1..6u8 {
-        let tables = version.level(usize::from(level));
-        if let Some((from, to)) = over_innermost_run(registry, tables, target_size) {
+        let there = usize::from(level);
+        if let Some((from, to)) = over_innermost(registry, version, there, target_size) {
             return Some(Span { level, from, to });
         }
     }

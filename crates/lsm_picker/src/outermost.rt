@@ -1,10 +1,10 @@
 //! Which file of level 0 goes down although it is small: where keys only rise, or only fall.
 
 ghost use Rattle.std.specs.Prelude.{◌≡◌, ◌≤◌, ◌↔◌, IsTrue, MatchOption, option_copied};
-ghost use Rattle.lsm_picker.specs.Outermost.{AreStairs, GoesOn, HasNoOutermost, IsBeyond};
-ghost use Rattle.lsm_picker.specs.Outermost.{IsBeyondFrom, IsOverOutermost, IsStair, LiesOutside};
-ghost use Rattle.lsm_picker.specs.Outermost.{MayGoBefore, MayGoFirst, are_apart, foremost};
-ghost use Rattle.lsm_picker.specs.Outermost.{is_before, is_beyond};
+ghost use Rattle.lsm_picker.specs.Outermost.{AreStairs, GoesOn, HasNoOutermost, IsOverOutermost};
+ghost use Rattle.lsm_picker.specs.Outermost.{LiesOutside, MayGoBefore, MayGoFirst, are_apart};
+ghost use Rattle.lsm_picker.specs.Stairs.{IsBeyond, IsBeyondFrom, IsStair, foremost, is_before};
+ghost use Rattle.lsm_picker.specs.Stairs.{is_beyond};
 
 use crate::level_scores::free_count;
 use crate::reservation::Reservation;
@@ -66,7 +66,7 @@ fn may_go_first<N: Naming, S: Shelf>(
 
 /// The table of a level that is met first from outside: the last one where keys rise, the first one
 /// where they fall.
-fn foremost<'a, N: Naming, S: Shelf>(
+pub(crate) fn foremost<'a, N: Naming, S: Shelf>(
     rising: bool,
     tables: &'a [TableRef<N, S>],
 ) -> Option<&'a TableRef<N, S>>
@@ -129,7 +129,7 @@ fn is_beyond_from<N: Naming, S: Shelf>(
 }
 
 /// Whether a level lies beyond all deeper ones, or is empty.
-fn is_stair<N: Naming, S: Shelf>(
+pub(crate) fn is_stair<N: Naming, S: Shelf>(
     registry: &Registry<N, S>,
     version: &Version<N, S>,
     rising: bool,

@@ -1,7 +1,7 @@
 //! Ingests.
 
 ghost use Rattle.std.specs.Prelude.{◌≡◌, suc, ◌+◌, ◌<◌, ◌^◌, ◌↔◌, ◌⊎◌, length, IfErr, IfOk};
-ghost use Rattle.std.specs.Prelude.{◌++◌, OnErr, OnOk};
+ghost use Rattle.std.specs.Prelude.{◌++◌, IsTrue, OnErr, OnOk};
 ghost use Rattle.lsm_codec.specs.Entries.{Entry};
 ghost use Rattle.lsm_codec.specs.Lists.{Has};
 ghost use Rattle.lsm_model.specs.Files.{all_entries};
@@ -11,9 +11,10 @@ ghost use Rattle.lsm_model.specs.Plain as machine;
 ghost use Rattle.lsm_state.specs.Asked.{IngestRefused, OnShelf, PutRefused};
 ghost use Rattle.lsm_state.specs.Collecting.{SameCounts};
 ghost use Rattle.lsm_state.specs.Held.{IsLawfulState, plain};
-ghost use Rattle.lsm_state.specs.Ingesting.{FailsToBuild, FailsToPut, Ingests, IsEarlyRefusal};
-ghost use Rattle.lsm_state.specs.Ingesting.{IsIngestRefusal, IsTableOf, IsWelcome, coming_in};
-ghost use Rattle.lsm_state.specs.Ingesting.{entries_of, numbers_needed, table_bytes_of};
+ghost use Rattle.lsm_state.specs.Ingesting.{FailsToBuild, FailsToPut, HasRoom, Ingests};
+ghost use Rattle.lsm_state.specs.Ingesting.{IsEarlyRefusal, IsIngestRefusal, IsTableOf, IsWelcome};
+ghost use Rattle.lsm_state.specs.Ingesting.{coming_in, entries_of, numbers_needed};
+ghost use Rattle.lsm_state.specs.Ingesting.{table_bytes_of};
 
 use crate::coming::entries_of_batch;
 use crate::state::State;
@@ -92,6 +93,14 @@ impl<N: Boarded, S: Shelf> State<N, S> {
         if self.journal.is_at_limit() { 2 } else { 1 }
     }
 
+    /// Whether level 0 has room for a batch. Where it has none, `ingest` refuses what it would else
+    /// bring in: `LevelZeroFull`.
+    pub fn has_room(&self) -> bool
+        ensures { IsTrue result ↔ HasRoom self.now }
+    {
+        self.slots.version().level(0).len() < FULL
+    }
+
     // Whether a batch may come in now, as far as this can be tested first.
     fn may_ingest(&self, batch: &Batch) -> Result<(), StateFault>
         ensures ok { OnOk result (IsWelcome self.now batch.now) }
@@ -101,11 +110,10 @@ impl<N: Boarded, S: Shelf> State<N, S> {
             return Err(StateFault::Halted);
         }
         batch.check()?;
-        let version = self.slots.version();
-        if version.level(0).len() >= FULL {
+        if !self.has_room() {
             return Err(StateFault::LevelZeroFull);
         }
-        let last = version.last();
+        let last = self.slots.version().last();
         if last > MAX_SEQ || batch.len() as u64 > MAX_SEQ - last {
             return Err(StateFault::SequencesSpent);
         }

@@ -1,8 +1,6 @@
 //! What a program has of the workers beside it.
 
-ghost use Rattle.std.specs.Prelude.{◌≡◌, ◌<◌, ◌↔◌, All, IfErr, IfOk, IsTrue, false, length};
-ghost use Rattle.std.specs.Prelude.{true, vec_len};
-ghost use Rattle.lsm_version.specs.Versions.{level_in};
+ghost use Rattle.std.specs.Prelude.{◌≡◌, All, IfErr, IfOk, false, true, vec_len};
 ghost use Rattle.lsm_store.specs.Background.{BringsIn, IsBroughtIn, IsIngestStep, IsKeptByIngest};
 ghost use Rattle.lsm_store.specs.Background.{IsKeptOut, KeepsOut};
 ghost use Rattle.lsm_store.specs.Compacting.{IsKeptByCompaction};
@@ -25,23 +23,12 @@ use std::alloc::{AllocFailed, Global};
 use std::sync::Wait;
 use std::thread::Threads;
 
-/// How many files of level 0 leave no room for a batch, as `State::ingest` has it.
-const FULL: usize = 12;
-
-/// Whether level 0 of a state has room for a batch.
-fn has_room<N: Boarded, S: Shelf>(state: &State<N, S>) -> bool
-    ensures { IsTrue result ↔ length (level_in state.now.slots.version.tables 0) < 12 }
-{
-    let (_id, version) = state.current();
-    version.level(0).len() < FULL
-}
-
 /// Whether level 0 of a store has room for a batch.
 fn has_room_under_lock<N: Boarded, S: Shelf, K: Invariant, R: Wait>(
     rt: &R,
     store: &Store<N, S, K>,
 ) -> bool {
-    has_room(&store.lock(rt).state)
+    store.lock(rt).state.has_room()
 }
 
 /// Brings the batch into the state, and remembers the history with it. Where it came in the bell is
@@ -175,7 +162,8 @@ impl Background {
     /// Compacts what is picked with workers of the caller's own, one for each shelf, as
     /// `run_workers_by` does, while these work on. Until its end they count among the workers that
     /// may make room at level 0: a writer that found it full waits for them too, and tries again
-    /// before each of their merges and once they have ended.
+    /// before each of their merges and once they have ended. Just then the thread that sweeps
+    /// removes the tables that nothing needs any more, too.
     pub fn compact<N: Boarded, S: Shelf, K: Invariant, R: Threads + Wait + Sync>(
         &self,
         rt: &R,
@@ -194,6 +182,7 @@ impl Background {
         let bell = &self.bell;
         bell.enter(rt);
         let returned = run_workers_by(rt, alloc, store, shelves, &Ringing { rt, bell }, picks);
+        bell.installed(rt);
         bell.leave(rt);
         returned
     }

@@ -17,8 +17,7 @@ fn digits_of(alloc: Global, number: u64) -> Result<String, AllocError>
 pub(crate) fn table_file(alloc: Global, number: u64) -> Result<String, AllocError>
     ensures { IfOk result (λ s. string_bytes s ≡ table_name number) }
 {
-    let digits = digits_of(alloc, number)?;
-    format!(in alloc; "{digits}.ldb")
+    format!(in alloc; "{number:06}.ldb")
 }
 
 /// The name of a manifest's file: `MANIFEST-N`.

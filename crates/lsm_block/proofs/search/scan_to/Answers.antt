@@ -1,63 +1,44 @@
-use Rattle.std.proofs.Common.{ℕ, List, length, drop, sym, ap, ◌∙◌, subst, arith}
+use Rattle.std.proofs.Common.{◌++◌, ◌∙◌, List, ℕ, length, drop, subst, sym, ap, inl, inr}
+use Rattle.std.proofs.lemmas.Result.{IfOk-weaker}
 use Rattle.lsm_codec.specs.KeyRef.{key_of}
-use Rattle.lsm_block.specs.Block.{entry_of}
-use Rattle.lsm_codec.specs.Keys.{key_at}
-use Rattle.lsm_block.specs.Seeking.{readable, not_below}
+use Rattle.lsm_codec.specs.Keys.{IsKey, InternalKey, key_bytes}
+use Rattle.lsm_codec.proofs.CallerLemmas.{key_again}
 use Rattle.lsm_block.specs.Held.{Kept, last_of}
+use Rattle.lsm_block.specs.Seeking.{readable, not_below}
 use Rattle.lsm_block.proofs.KeyLaws.{none_kept, kept_as}
-use Rattle.lsm_block.proofs.OrderLaws.{below-step, below-stop, below-nothing}
-use Rattle.lsm_block.proofs.SeekLaws.{read_on_some, read_on_none, scan_ends}
 use Rattle.lsm_block.proofs.search.scan_to.Goals as goal
 
-pub loop-offset-init : goal.loop-offset-init
-loop-offset-init c = (
-  ap (λ (b : List ℕ). not_below (key_of c.args.key.now) (readable (length c.args.text.now) b (drop c.args.start c.args.text.now))) c.requires,
-  subst (λ (b : List ℕ). Kept (last_of b) b) (sym c.requires) none_kept,
-)
+pub scan_on-requires : goal.scan_on-requires
+scan_on-requires c = subst (λ (b : List ℕ). Kept (last_of b) b) (sym c.requires) none_kept
 
-pub returns-in_default-clause-found : goal.returns-in_default-clause-found
-returns-in_default-clause-found c =
-    let read = rw (c.rest_from-rest.ensures, c.deref.ensures.value) at c.in_default.ensures.reads in
-    let none = read_on_none c.args.text.now c.loop-offset.before.items c.loop-offset.offset read in
-    none ∙ sym (below-nothing (key_of c.args.key.now)) ∙ ap (not_below (key_of c.args.key.now)) (sym none) ∙ c.loop-offset.invariant.0
-
-pub is_below-requires : goal.is_below-requires
-is_below-requires c =
-    let read = rw (c.rest_from-rest.ensures, c.deref.ensures.value) at c.in-Some.ensures.reads in
-    let m = read_on_some c.args.text.now c.loop-offset.before.items c.loop-offset.offset _ _ _ _ (λ i. omega (arith, c.type_inv.text i)) (omega (arith, c.loop-offset-test.true)) read in
-    rw (c.of.ensures, c.deref-in-loop-offset.ensures.value) m.internal
-
-pub returns-then-not-is_below-clause-found : goal.returns-then-not-is_below-clause-found
-returns-then-not-is_below-clause-found c =
+pub scan_on-requires-2 : goal.scan_on-requires-2
+scan_on-requires-2 c =
     let key = key_of c.args.key.now in
-    let read = rw (c.rest_from-rest.ensures, c.deref.ensures.value) at c.in-Some.ensures.reads in
-    let m = read_on_some c.args.text.now c.loop-offset.before.items c.loop-offset.offset _ _ _ _ (λ i. omega (arith, c.type_inv.text i)) (omega (arith, c.loop-offset-test.true)) read in
-    let above = rw (c.of.ensures, c.deref-in-loop-offset.ensures.value) at (sym c.is_below.ensures ∙ c.if-not-is_below.true) in
-    m.moves ∙ sym (below-stop key (entry_of (key_at _) _) _ above) ∙ ap (not_below key) (sym m.moves) ∙ c.loop-offset.invariant.0
+    let there = c.in_ok-push_key.ensures.ok
+    ∙ ap (λ (b : List ℕ). b ++ key_bytes key) (c.reserve.ensures.items ∙ c.requires) in
+    let is = c.in_ok-push_key.ensures.is_key in
+    let kept = kept_as (key_bytes key) (subst (λ (k : InternalKey). IsKey (key_bytes key) k)
+    (sym (key_again key is.fits)) is) in
+    subst (λ (b : List ℕ). Kept (last_of b) b) (sym there) kept
 
-pub overflow_sub-offset : goal.overflow_sub-offset
-overflow_sub-offset c =
-    let read = rw (c.rest_from-rest.ensures, c.deref.ensures.value) at c.in-Some.ensures.reads in
-    let m = read_on_some c.args.text.now c.loop-offset.before.items c.loop-offset.offset _ _ _ _ (λ i. omega (arith, c.type_inv.text i)) (omega (arith, c.loop-offset-test.true)) read in
-    omega (arith, m.shorter)
-
-pub loop-offset-smaller : goal.loop-offset-smaller
-loop-offset-smaller c =
-    let read = rw (c.rest_from-rest.ensures, c.deref.ensures.value) at c.in-Some.ensures.reads in
-    let m = read_on_some c.args.text.now c.loop-offset.before.items c.loop-offset.offset _ _ _ _ (λ i. omega (arith, c.type_inv.text i)) (omega (arith, c.loop-offset-test.true)) read in
-    omega (arith, m.shorter, c.loop-offset-test.true)
-
-pub loop-offset-preserved : goal.loop-offset-preserved
-loop-offset-preserved c =
-    let key = key_of c.args.key.now in
-    let read = rw (c.rest_from-rest.ensures, c.deref.ensures.value) at c.in-Some.ensures.reads in
-    let m = read_on_some c.args.text.now c.loop-offset.before.items c.loop-offset.offset _ _ _ _ (λ i. omega (arith, c.type_inv.text i)) (omega (arith, c.loop-offset-test.true)) read in
-    let below = rw (c.of.ensures, c.deref-in-loop-offset.ensures.value) at (sym c.is_below.ensures ∙ c.if-not-is_below.false) in
-    let kept = kept_as _ (rw c.deref.ensures.value at c.in-Some.ensures.kept) in
-    rw c.in_ok-put_together.ensures.ok
-    (sym (below-step key (entry_of (key_at _) _) _ below) ∙ ap (not_below key) (sym m.moves) ∙ c.loop-offset.invariant.0, kept)
+pub returns-then-offset-start-clause-found : goal.returns-then-offset-start-clause-found
+returns-then-offset-start-clause-found c =
+    let text = c.args.text.now in
+    let old = ap (λ (b : List ℕ). not_below (key_of c.args.key.now)
+    (readable (length text) b (drop c.args.start text))) c.requires in
+    IfOk-weaker c.scan_on.result _ _ (λ o h. h ∙ old) c.scan_on.ensures.found
 
 pub returns-clause-found : goal.returns-clause-found
 returns-clause-found c =
-    let none = scan_ends c.args.text.now c.loop-offset.before.items c.loop-offset.offset (omega (arith, c.loop-offset-test.false)) in
-    none ∙ sym (below-nothing (key_of c.args.key.now)) ∙ ap (not_below (key_of c.args.key.now)) (sym none) ∙ c.loop-offset.invariant.0
+    let key = key_of c.args.key.now in
+    let text = c.args.text.now in
+    let offset = c.pass_below-offset.result in
+    let there = c.in_ok-push_key.ensures.ok
+    ∙ ap (λ (b : List ℕ). b ++ key_bytes key) (c.reserve.ensures.items ∙ c.requires) in
+    let old = ap (λ (b : List ℕ). not_below key (readable (length text) b (drop offset text))) there
+    in
+    elim c.pass_below-offset.ensures [
+      | inl here ↦ absurd (c.if-offset-start.false here)
+      | inr same ↦ IfOk-weaker c.scan_on-2.result _ _ (λ o h. h
+          ∙ (old ∙ same)) c.scan_on-2.ensures.found
+    ]

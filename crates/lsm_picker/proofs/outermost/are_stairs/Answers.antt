@@ -1,6 +1,6 @@
 use Rattle.std.proofs.Common.{ℕ, ◌≤◌, arith, inl, inr, subst, sym}
 use Rattle.std.proofs.Math.Nat.{eq-or-lt_of_le}
-use Rattle.lsm_picker.specs.Outermost.{IsStair}
+use Rattle.lsm_picker.specs.Stairs.{IsStair}
 use Rattle.lsm_picker.proofs.outermost.are_stairs.Goals as goal
 
 pub returns-then-not-is_stair : goal.returns-then-not-is_stair

@@ -1,5 +1,5 @@
 use Rattle.std.proofs.Common.{ℕ, ◌<◌, ◌≤◌}
-use Rattle.lsm_picker.specs.Outermost.{IsStair}
+use Rattle.lsm_picker.specs.Stairs.{IsStair}
 use Rattle.lsm_picker.proofs.outermost.are_stairs.Given as goal
 
 abbrev pub invariant-loop-level : goal.invariant-loop-level

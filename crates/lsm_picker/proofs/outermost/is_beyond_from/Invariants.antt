@@ -1,6 +1,6 @@
 use Rattle.std.proofs.Common.{ℕ, ◌<◌, ◌≤◌}
 use Rattle.lsm_version.specs.Versions.{level_in}
-use Rattle.lsm_picker.specs.Outermost.{IsBeyond}
+use Rattle.lsm_picker.specs.Stairs.{IsBeyond}
 use Rattle.lsm_picker.proofs.outermost.is_beyond_from.Given as goal
 
 abbrev pub invariant-loop-level : goal.invariant-loop-level

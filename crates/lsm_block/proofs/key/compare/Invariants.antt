@@ -1,0 +1,12 @@
+use Rattle.std.proofs.Common.{◌≡◌, length}
+use Rattle.std.specs.Ordering.{nat_cmp}
+use Rattle.std.specs.Cmp.Lexicographic.{slice_cmp}
+use Rattle.lsm_codec.proofs.CallerLemmas.{IsBytes}
+use Rattle.lsm_block.proofs.key.compare.Given as goal
+
+abbrev pub invariant-loop-left : goal.invariant-loop-left
+invariant-loop-left l = (slice_cmp nat_cmp l.left l.right ≡ slice_cmp nat_cmp l.a l.b)
+    × IsBytes l.left × IsBytes l.right
+
+abbrev pub decreases-loop-left : goal.decreases-loop-left
+decreases-loop-left l = length l.left
