@@ -1,0 +1,2 @@
+pub mod BringLaws
+mod OnFolder
