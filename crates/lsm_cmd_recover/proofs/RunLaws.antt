@@ -4,8 +4,9 @@ use Rattle.lsm_folder.specs.Calls.{Call, opened}
 use Rattle.lsm_folder.specs.declared.folder_calls.FolderCalls.{Ghosts}
 use Rattle.lsm_shelf.specs.Place.{IsAtPath, Place}
 use Rattle.lsm_directory.specs.Folders.{IsFolderAt}
-use Rattle.lsm_opening.specs.Preparing.{IsUnprepared, plainly}
+use Rattle.lsm_opening.specs.Preparing.{IsUnprepared}
 use Rattle.lsm_opening.specs.declared.faults.writer_fault.WriterFault.{WriterFault}
+use Rattle.lsm_requests.specs.declared.ingest_options.IngestOptions.{IngestOptions}
 use Rattle.lsm_cmd_recover.specs.Recovered.{IsUnready}
 use Rattle.lsm_cmd_recover.specs.declared.bring_fault.BringFault.TheVariants.{Folder}
 
@@ -19,6 +20,9 @@ module _ {C M : Type 0} (folders : Ghosts C M) where
   }
 
   -- which was not prepared
-  pub unready : (path : List ℕ) (first now : C) (e : WriterFault) → IsAtPath path (folders.place first) → folders.calls first ≡ opened ∷ []
-      → IsUnprepared plainly e (folders.calls first) (folders.calls now) → folders.place now ≡ folders.place first → IsUnready folders path (Folder e)
-  unready path first now e at none refused same = inr (inr (e, refl, (now, folder_at path (IsUnprepared plainly e) first now at none refused same)))
+  pub unready : (options : IngestOptions) (path : List ℕ) (first now : C) (e : WriterFault)
+      → IsAtPath path (folders.place first) → folders.calls first ≡ opened ∷ []
+      → IsUnprepared options e (folders.calls first) (folders.calls now)
+      → folders.place now ≡ folders.place first → IsUnready folders options path (Folder e)
+  unready options path first now e at none refused same =
+      inr (inr (e, refl, (now, folder_at path (IsUnprepared options e) first now at none refused same)))

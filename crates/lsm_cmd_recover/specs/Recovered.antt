@@ -1,7 +1,7 @@
 -- What a `recover` comes to, for the path of its command line: this project's rule. It is about a
 -- folder that was opened at that path, and about a shelf on its place; that these are the run's own
 -- is to be read.
-use Rattle.std.specs.Prelude.{◌≡◌, ◌⊎◌, ℕ, ◌<◌, List, [], ◌∷◌, ◌++◌, Option, codes, decimal}
+use Rattle.std.specs.Prelude.{◌≡◌, ◌⊎◌, ℕ, ◌<◌, Bool, List, [], ◌∷◌, ◌++◌, Option, codes, decimal}
 use Rattle.std.specs.Io.KnownBytes.{Appends, Keeps}
 use Rattle.lsm_folder.specs.Calls.{AreHonest, Call}
 use Rattle.lsm_folder.specs.declared.folder_calls.FolderCalls.{Ghosts}
@@ -19,8 +19,10 @@ use Rattle.lsm_directory.specs.declared.folder.folder_file.FolderFile.{FolderFil
 use Rattle.lsm_opening.specs.Preparing.{IsPrepared, IsUnprepared, plainly}
 use Rattle.lsm_opening.specs.Tidying.{OnlyReads}
 use Rattle.lsm_opening.specs.declared.prepared.Start.{Start}
+use Rattle.lsm_opening.specs.declared.prepared.Start.TheVariants.{Begin}
 use Rattle.lsm_opening.specs.declared.faults.writer_fault.WriterFault.{WriterFault}
 use Rattle.lsm_opening.specs.declared.faults.writer_fault.WriterFault.TheVariants.{Directory}
+use Rattle.lsm_requests.specs.declared.ingest_options.IngestOptions.{IngestOptions}
 use Rattle.lsm_wal.specs.declared.write_batch.WriteBatch.{WriteBatch}
 use Rattle.lsm_import.specs.Copies.{OnlyPuts}
 use Rattle.lsm_log_files.specs.Source.{IsNoSource, IsSource}
@@ -89,34 +91,34 @@ pub record IsUnrecovered (Into : ℕ → List ℕ → Type 0) (Denied : Asked �
 
 -- ---- on a folder
 
+-- logs are looked at, and a database may be begun where `begins` says so
+abbrev pub seeing_logs : (begins : Bool) → IngestOptions
+seeing_logs begins = record plainly { begins = begins }
+
 module _ {C M : Type 0} (folders : Ghosts C M) where
   -- what is known of it
   abbrev pub moment : C → FileShelf C M → Moment
   moment folder shelf = moment_of (folders.calls folder) (told_by folders shelf)
 
-  -- The lock of the folder at this path was held alone, and these files of it may be logs. A shelf
-  -- is on it.
-  pub record IsReady (path : List ℕ) (files : List FolderFile) (folder : C) (shelf : FileShelf C M)
-      : Type 0 where
-    pub start : Start
-    pub opened : IsFolderAt folders path (IsPrepared plainly start files) folder
+  -- The lock of the folder at this path was held alone; it was looked at with these options, its
+  -- names lead to this start, and these files of it may be logs. A shelf is on it.
+  pub record IsReady (options : IngestOptions) (path : List ℕ) (start : Start)
+      (files : List FolderFile) (folder : C) (shelf : FileShelf C M) : Type 0 where
+    pub opened : IsFolderAt folders path (IsPrepared options start files) folder
     pub reading : told_by folders shelf ≡ fresh (folders.place folder)
 
   -- It was not opened, or not locked and looked at; or memory ran out.
-  abbrev pub IsUnready : List ℕ → BringFault → Type 0
-  IsUnready path fault =
+  abbrev pub IsUnready : IngestOptions → List ℕ → BringFault → Type 0
+  IsUnready options path fault =
       (fault ≡ OutOfMemory)
       ⊎ (((e : DirectoryFault) × (fault ≡ Folder (Directory e)) × IsFolderFault e)
       ⊎ ((e : WriterFault) × (fault ≡ Folder e)
-      × ((folder : C) × IsFolderAt folders path (IsUnprepared plainly e) folder)))
+      × ((folder : C) × IsFolderAt folders path (IsUnprepared options e) folder)))
 
 module _ {C M : Type 0} (folders : Ghosts C M) (marks : mark.Ghosts M) where
-  -- The logs of the folder at the path came into its database.
-  pub record RecoversTo (path : List ℕ) (brought : Brought) : Type 0 where
-    pub files : List FolderFile
-    pub folder : C
-    pub shelf : FileShelf C M
-    pub ready : IsReady folders path files folder shelf
+  -- the logs among these files of the folder came into its database
+  pub record RecoversOn (files : List FolderFile) (folder : C) (shelf : FileShelf C M)
+      (brought : Brought) : Type 0 where
     pub left_folder : C
     pub left_shelf : FileShelf C M
     pub done :
@@ -124,17 +126,9 @@ module _ {C M : Type 0} (folders : Ghosts C M) (marks : mark.Ghosts M) where
         (AreHonest folders.calls) files brought (moment folders folder shelf)
         (moment folders left_folder left_shelf)
 
-  -- so it was, and the line of it was written
-  abbrev pub RecoversAt : List ℕ → (old new : Option (List ℕ)) → Type 0
-  RecoversAt path old new =
-      (brought : Brought) × RecoversTo path brought × Appends old new (brought_text brought)
-
-  -- It was not: what the fault says, and what is left.
-  pub record FailsAt (path : List ℕ) (fault : BringFault) : Type 0 where
-    pub files : List FolderFile
-    pub folder : C
-    pub shelf : FileShelf C M
-    pub ready : IsReady folders path files folder shelf
+  -- they did not: what the fault says, and what is left
+  pub record FailsOn (files : List FolderFile) (folder : C) (shelf : FileShelf C M)
+      (fault : BringFault) : Type 0 where
     pub left_folder : C
     pub left_shelf : FileShelf C M
     pub refused :
@@ -142,9 +136,58 @@ module _ {C M : Type 0} (folders : Ghosts C M) (marks : mark.Ghosts M) where
         (AreHonest folders.calls) files fault (moment folders folder shelf)
         (moment folders left_folder left_shelf)
 
-  -- The folder was not opened, or the writes did not come in, and nothing was written on the
-  -- output; or they came in, and the line of it was not written.
+  -- The logs of the folder at the path came into its database.
+  pub record RecoversTo (options : IngestOptions) (path : List ℕ) (brought : Brought)
+      : Type 0 where
+    pub start : Start
+    pub files : List FolderFile
+    pub folder : C
+    pub shelf : FileShelf C M
+    pub ready : IsReady folders options path start files folder shelf
+    pub recovered : RecoversOn files folder shelf brought
+
+  -- so it was, and the line of it was written
+  abbrev pub RecoversAt : List ℕ → (old new : Option (List ℕ)) → Type 0
+  RecoversAt path old new = (brought : Brought) × RecoversTo plainly path brought
+      × Appends old new (brought_text brought)
+
+  -- they did not
+  pub record FailsAt (options : IngestOptions) (path : List ℕ) (fault : BringFault)
+      : Type 0 where
+    pub start : Start
+    pub files : List FolderFile
+    pub folder : C
+    pub shelf : FileShelf C M
+    pub ready : IsReady folders options path start files folder shelf
+    pub refused : FailsOn files folder shelf fault
+
+  -- the folder was not opened, or the writes did not come in
+  abbrev pub IsNotRecovered : IngestOptions → List ℕ → BringFault → Type 0
+  IsNotRecovered options path fault =
+      IsUnready folders options path fault ⊎ FailsAt options path fault
+
+  -- So it was, and nothing was written on the output; or they came in, and the line of it was not
+  -- written.
   abbrev pub FailsToRecover : List ℕ → BringFault → (old new : Option (List ℕ)) → Type 0
   FailsToRecover path fault old new =
-      (Keeps old new × (IsUnready folders path fault ⊎ FailsAt path fault))
-      ⊎ ((fault ≡ WriteFault) × ((brought : Brought) × RecoversTo path brought))
+      (Keeps old new × IsNotRecovered plainly path fault)
+      ⊎ ((fault ≡ WriteFault) × ((brought : Brought) × RecoversTo plainly path brought))
+
+  -- ---- before another command
+
+  -- In the folder at the path a database is to be begun.
+  pub record IsBare (options : IngestOptions) (path : List ℕ) : Type 0 where
+    pub number : ℕ
+    pub files : List FolderFile
+    pub folder : C
+    pub shelf : FileShelf C M
+    pub ready : IsReady folders options path (Begin number) files folder shelf
+
+  -- It has no database yet; or the logs of the one that is there came in.
+  abbrev pub ComesFirst : Bool → List ℕ → Type 0
+  ComesFirst begins path = IsBare (seeing_logs begins) path
+      ⊎ ((brought : Brought) × RecoversTo (seeing_logs begins) path brought)
+
+  -- They did not come in.
+  abbrev pub FailsFirst : Bool → List ℕ → BringFault → Type 0
+  FailsFirst begins = IsNotRecovered (seeing_logs begins)

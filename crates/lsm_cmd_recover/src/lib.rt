@@ -5,7 +5,7 @@
 //! tables, on `lsm_import` for the table of the logs and the new manifest, and on `lsm_directory`
 //! and `lsm_opening` for the folder. Its contract: behind `run_recover` the database answers as it
 //! did with its logs, and none of them is one to read; or it says why not, and no manifest was
-//! begun.
+//! begun. `recover_first` does so before another command, where there is a database.
 #![tactic(auto)]
 
 // Why the writes do not come in.
@@ -21,5 +21,5 @@ mod reply;
 mod program;
 
 pub use bring_fault::BringFault;
-pub use program::run_recover;
+pub use program::{recover_first, run_recover};
 pub use reply::Brought;

@@ -1,35 +1,43 @@
-//! One run of `recover`.
+//! One run of `recover`, and of what comes before another command.
 
 ghost use Rattle.std.specs.Prelude.{◌≡◌, ◌≢◌, IfErr, IfOk, OnOk};
 ghost use Rattle.std.specs.Io.KnownBytes.{Keeps};
-ghost use Rattle.lsm_cmd_recover.specs.Recovered.{FailsToRecover, IsReady, IsUnready, RecoversAt};
+ghost use Rattle.lsm_opening.specs.Preparing.{plainly};
+ghost use Rattle.lsm_cmd_recover.specs.Recovered.{ComesFirst, FailsFirst, FailsOn, FailsToRecover};
+ghost use Rattle.lsm_cmd_recover.specs.Recovered.{IsReady, IsUnready, RecoversAt, RecoversOn};
+ghost use Rattle.lsm_cmd_recover.specs.Recovered.{seeing_logs};
 ghost use Rattle.lsm_cmd_recover.specs.declared.bring_fault.BringFault.{BringFault};
 
 use crate::bring_fault::BringFault;
 use crate::recovering::recover;
-use crate::reply::reply;
+use crate::reply::{Brought, reply};
 use lsm_directory::{FolderFile, Known, Paths, open_at, refuse, status_of};
 use lsm_folder::{FolderCalls, Reasons};
-use lsm_opening::{WriterFault, plainly, prepare};
+use lsm_opening::{Prepared, Start, WriterFault, plainly, prepare};
+use lsm_requests::IngestOptions;
 use lsm_storage::FileShelf;
+use std::alloc::Global;
 use std::io::Write;
 use std::sync::Wait;
 
-/// Opens the folder. Its lock is held alone, and these files of it may be logs. A shelf is on it.
+/// Opens the folder, and looks at it with these options. Its lock is held alone, and a shelf is on
+/// it.
 fn open_folder<C: FolderCalls, P: Paths<C>, R: Wait>(
     rt: &R,
     paths: &P,
     path: &str,
+    options: IngestOptions,
     reasons: &Reasons,
-) -> Result<(C, Vec<FolderFile>, FileShelf<C>), BringFault>
-    ensures ready { IfOk result (λ r. IsReady C.FolderCalls path.now r.1.items r.0 r.2) }
-    ensures refused { IfErr result (IsUnready C.FolderCalls path.now) }
+) -> Result<(C, Prepared, FileShelf<C>), BringFault>
+    ensures ready { IfOk result (λ r.
+        IsReady C.FolderCalls options path.now r.1.start r.1.logs.items r.0 r.2) }
+    ensures refused { IfErr result (IsUnready C.FolderCalls options path.now) }
 {
     let mut folder = match open_at(paths, path, reasons) {
         Ok(folder) => folder,
         Err(fault) => return Err(BringFault::Folder(WriterFault::Directory(fault))),
     };
-    let prepared = match prepare(rt, paths.alloc(), &mut folder, plainly()) {
+    let prepared = match prepare(rt, paths.alloc(), &mut folder, options) {
         Ok(prepared) => prepared,
         Err(fault) => return Err(BringFault::Folder(fault)),
     };
@@ -37,9 +45,28 @@ fn open_folder<C: FolderCalls, P: Paths<C>, R: Wait>(
     // That a file was not there to be locked, or is gone, is no reason of a later refusal.
     reasons.forget();
     match folder.fork() {
-        Ok(fork) => Ok((folder, prepared.logs, FileShelf::over(fork))),
+        Ok(fork) => Ok((folder, prepared, FileShelf::over(fork))),
         Err(_) => Err(BringFault::OutOfMemory),
     }
+}
+
+/// Brings the logs among these files of a folder into its database, by a shelf on it.
+fn recover_on<C: FolderCalls + Send + Sync, R: Wait>(
+    rt: &R,
+    alloc: Global,
+    folder: C,
+    files: &[FolderFile],
+    shelf: FileShelf<C>,
+) -> Result<Brought, BringFault>
+where
+    C::Mark: Send + Sync,
+    ensures done { IfOk result (λ b.
+        RecoversOn C.FolderCalls C.Mark.Mark files.now folder shelf b) }
+    ensures refused { IfErr result (FailsOn C.FolderCalls C.Mark.Mark files.now folder shelf) }
+{
+    let mut folder = folder;
+    let (brought, _shelf) = recover(rt, alloc, &mut folder, files, shelf);
+    brought
 }
 
 /// Brings the logs of the folder at a path into its database.
@@ -57,15 +84,44 @@ where
     ensures refused { IfErr result (λ e. FailsToRecover C.FolderCalls C.Mark.Mark path.now e
         (O.contents out.old) (O.contents out.new)) }
 {
-    let (mut folder, files, shelf) = open_folder(rt, paths, path, reasons)?;
-    let (brought, _shelf) = recover(rt, paths.alloc(), &mut folder, &files, shelf);
-    let brought = match brought {
-        Ok(brought) => brought,
-        Err(fault) => return Err(fault),
-    };
+    let (folder, prepared, shelf) = open_folder(rt, paths, path, plainly(), reasons)?;
+    let brought = recover_on(rt, paths.alloc(), folder, &prepared.logs, shelf)?;
     match reply(out, brought) {
         Ok(()) => Ok(()),
         Err(_) => Err(BringFault::Write),
+    }
+}
+
+/// How a folder is looked at whose logs are to come in first: a database may be begun where
+/// `begins` says so.
+fn seeing_logs(begins: bool) -> IngestOptions
+    ensures { result ≡ seeing_logs begins }
+{
+    let plain = plainly();
+    IngestOptions { begins, ..plain }
+}
+
+/// Brings the logs of the folder at a path into its database, unless one is to be begun there.
+fn recover_before<C: FolderCalls + Send + Sync, P: Paths<C>, R: Wait>(
+    rt: &R,
+    paths: &P,
+    path: &str,
+    begins: bool,
+    reasons: &Reasons,
+) -> Result<(), BringFault>
+where
+    C::Mark: Send + Sync,
+    ensures done { OnOk result (ComesFirst C.FolderCalls C.Mark.Mark begins path.now) }
+    ensures refused { IfErr result (FailsFirst C.FolderCalls C.Mark.Mark begins path.now) }
+{
+    let options = seeing_logs(begins);
+    let (folder, prepared, shelf) = open_folder(rt, paths, path, options, reasons)?;
+    if let Start::Begin(_) = prepared.start {
+        return Ok(());
+    }
+    match recover_on(rt, paths.alloc(), folder, &prepared.logs, shelf) {
+        Ok(_) => Ok(()),
+        Err(fault) => Err(fault),
     }
 }
 
@@ -103,5 +159,36 @@ where
         Err(_) => return refuse(BringFault::OutOfMemory, err),
     };
     let done = recover_at(rt, paths, path, &reasons, out);
+    status_of(done, Known::answered(Some(&reasons)), err)
+}
+
+/// Brings the logs of the folder at a path in before another command opens it, as `run_recover`
+/// does, but without a line of it, and answers the exit status: 0 where no log is to be read any
+/// more, and 1 where it is refused. A fault is one line on `err`, and may have more behind it.
+///
+/// Where the folder has no database nothing is brought in: the other command begins one, or refuses
+/// the folder. `begins` says that one may be begun also where `CURRENT` was lost. The lock is let
+/// go, so what comes behind opens the folder as it then is.
+///
+/// Refused as `run_recover`, and then the database is as it says.
+pub fn recover_first<C: FolderCalls + Send + Sync, P: Paths<C>, R: Wait, E: Write>(
+    rt: &R,
+    paths: &P,
+    path: &str,
+    begins: bool,
+    err: &mut E,
+) -> u8
+where
+    C::Mark: Send + Sync,
+    ensures done { result ≡ 0 → ComesFirst C.FolderCalls C.Mark.Mark begins path.now }
+    ensures refused { result ≢ 0 → (result ≡ 1) × ((fault : BringFault)
+        × FailsFirst C.FolderCalls C.Mark.Mark begins path.now fault) }
+    ensures quiet { result ≡ 0 → Keeps (E.contents err.old) (E.contents err.new) }
+{
+    let reasons = match Reasons::new(paths.alloc()) {
+        Ok(reasons) => reasons,
+        Err(_) => return refuse(BringFault::OutOfMemory, err),
+    };
+    let done = recover_before(rt, paths, path, begins, &reasons);
     status_of(done, Known::answered(Some(&reasons)), err)
 }
