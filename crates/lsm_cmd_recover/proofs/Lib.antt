@@ -1,2 +1,1 @@
-pub mod BringLaws
 pub mod RunLaws

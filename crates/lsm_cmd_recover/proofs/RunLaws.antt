@@ -8,7 +8,7 @@ use Rattle.lsm_opening.specs.Preparing.{IsUnprepared}
 use Rattle.lsm_opening.specs.declared.faults.writer_fault.WriterFault.{WriterFault}
 use Rattle.lsm_requests.specs.declared.ingest_options.IngestOptions.{IngestOptions}
 use Rattle.lsm_cmd_recover.specs.Recovered.{IsUnready}
-use Rattle.lsm_cmd_recover.specs.declared.bring_fault.BringFault.TheVariants.{Folder}
+use Rattle.lsm_recovery.specs.declared.bring_fault.BringFault.TheVariants.{Folder}
 
 -- a folder that was asked for something since it was opened
 module _ {C M : Type 0} (folders : Ghosts C M) where

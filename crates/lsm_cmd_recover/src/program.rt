@@ -3,34 +3,29 @@
 ghost use Rattle.std.specs.Prelude.{◌≡◌, ◌≢◌, IfErr, IfOk, OnOk};
 ghost use Rattle.std.specs.Io.KnownBytes.{Keeps};
 ghost use Rattle.lsm_opening.specs.Preparing.{plainly};
-ghost use Rattle.lsm_cmd_recover.specs.Recovered.{ComesFirst, FailsFirst, FailsOn, FailsToRecover};
-ghost use Rattle.lsm_cmd_recover.specs.Recovered.{IsReady, IsUnready, RecoversAt, RecoversOn};
-ghost use Rattle.lsm_cmd_recover.specs.Recovered.{seeing_logs};
-ghost use Rattle.lsm_cmd_recover.specs.declared.bring_fault.BringFault.{BringFault};
+ghost use Rattle.lsm_cmd_recover.specs.Recovered.{ComesFirst, FailsFirst, FailsToRecover, IsReady};
+ghost use Rattle.lsm_cmd_recover.specs.Recovered.{IsUnready, RecoversAt, seeing_logs};
+ghost use Rattle.lsm_recovery.specs.declared.bring_fault.BringFault.{BringFault};
 
-use crate::bring_fault::BringFault;
-use crate::recovering::recover;
-use crate::reply::{Brought, reply};
-use lsm_directory::{FolderFile, Known, Paths, open_at, refuse, status_of};
+use crate::reply::reply;
+use lsm_directory::{Known, Paths, open_at, refuse, status_of};
 use lsm_folder::{FolderCalls, Reasons};
 use lsm_opening::{Prepared, Start, WriterFault, plainly, prepare};
+use lsm_recovery::{BringFault, recover_on};
 use lsm_requests::IngestOptions;
-use lsm_storage::FileShelf;
-use std::alloc::Global;
 use std::io::Write;
 use std::sync::Wait;
 
-/// Opens the folder, and looks at it with these options. Its lock is held alone, and a shelf is on
-/// it.
+/// Opens the folder, takes its lock alone, and looks at it with these options.
 fn open_folder<C: FolderCalls, P: Paths<C>, R: Wait>(
     rt: &R,
     paths: &P,
     path: &str,
     options: IngestOptions,
     reasons: &Reasons,
-) -> Result<(C, Prepared, FileShelf<C>), BringFault>
+) -> Result<(C, Prepared), BringFault>
     ensures ready { IfOk result (λ r.
-        IsReady C.FolderCalls options path.now r.1.start r.1.logs.items r.0 r.2) }
+        IsReady C.FolderCalls options path.now r.1.start r.1.logs.items r.0) }
     ensures refused { IfErr result (IsUnready C.FolderCalls options path.now) }
 {
     let mut folder = match open_at(paths, path, reasons) {
@@ -44,29 +39,7 @@ fn open_folder<C: FolderCalls, P: Paths<C>, R: Wait>(
 
     // That a file was not there to be locked, or is gone, is no reason of a later refusal.
     reasons.forget();
-    match folder.fork() {
-        Ok(fork) => Ok((folder, prepared, FileShelf::over(fork))),
-        Err(_) => Err(BringFault::OutOfMemory),
-    }
-}
-
-/// Brings the logs among these files of a folder into its database, by a shelf on it.
-fn recover_on<C: FolderCalls + Send + Sync, R: Wait>(
-    rt: &R,
-    alloc: Global,
-    folder: C,
-    files: &[FolderFile],
-    shelf: FileShelf<C>,
-) -> Result<Brought, BringFault>
-where
-    C::Mark: Send + Sync,
-    ensures done { IfOk result (λ b.
-        RecoversOn C.FolderCalls C.Mark.Mark files.now folder shelf b) }
-    ensures refused { IfErr result (FailsOn C.FolderCalls C.Mark.Mark files.now folder shelf) }
-{
-    let mut folder = folder;
-    let (brought, _shelf) = recover(rt, alloc, &mut folder, files, shelf);
-    brought
+    Ok((folder, prepared))
 }
 
 /// Brings the logs of the folder at a path into its database.
@@ -84,8 +57,11 @@ where
     ensures refused { IfErr result (λ e. FailsToRecover C.FolderCalls C.Mark.Mark path.now e
         (O.contents out.old) (O.contents out.new)) }
 {
-    let (folder, prepared, shelf) = open_folder(rt, paths, path, plainly(), reasons)?;
-    let brought = recover_on(rt, paths.alloc(), folder, &prepared.logs, shelf)?;
+    let (mut folder, prepared) = open_folder(rt, paths, path, plainly(), reasons)?;
+    let brought = match recover_on(rt, paths.alloc(), &mut folder, &prepared.logs) {
+        Ok(brought) => brought,
+        Err(fault) => return Err(fault),
+    };
     match reply(out, brought) {
         Ok(()) => Ok(()),
         Err(_) => Err(BringFault::Write),
@@ -115,11 +91,11 @@ where
     ensures refused { IfErr result (FailsFirst C.FolderCalls C.Mark.Mark begins path.now) }
 {
     let options = seeing_logs(begins);
-    let (folder, prepared, shelf) = open_folder(rt, paths, path, options, reasons)?;
+    let (mut folder, prepared) = open_folder(rt, paths, path, options, reasons)?;
     if let Start::Begin(_) = prepared.start {
         return Ok(());
     }
-    match recover_on(rt, paths.alloc(), folder, &prepared.logs, shelf) {
+    match recover_on(rt, paths.alloc(), &mut folder, &prepared.logs) {
         Ok(_) => Ok(()),
         Err(fault) => Err(fault),
     }

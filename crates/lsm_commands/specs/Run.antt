@@ -29,7 +29,7 @@ use Rattle.lsm_opening.specs.declared.faults.writer_fault.WriterFault.{WriterFau
 use Rattle.lsm_cmd_import.specs.Imported.{FailsToImport, ImportsAt}
 use Rattle.lsm_cmd_import.specs.declared.copy_fault.CopyFault.{CopyFault}
 use Rattle.lsm_cmd_recover.specs.Recovered.{ComesFirst, FailsFirst, FailsToRecover, RecoversAt}
-use Rattle.lsm_cmd_recover.specs.declared.bring_fault.BringFault.{BringFault}
+use Rattle.lsm_recovery.specs.declared.bring_fault.BringFault.{BringFault}
 use Rattle.lsm_cmd_levels.specs.Layout.{FailsToLayOut, LaysOutAt}
 use Rattle.lsm_cmd_load.specs.LoadedAt.{FailsToLoad, LoadsAt}
 use Rattle.lsm_cmd_read.specs.Looked.{FailsAsAsked, LooksAsAsked}

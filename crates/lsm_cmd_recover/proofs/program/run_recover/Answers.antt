@@ -1,6 +1,6 @@
 use Rattle.std.proofs.Common.{inl, refl}
 use Rattle.lsm_directory.proofs.CallerLemmas.{keeps_same}
-use Rattle.lsm_cmd_recover.specs.declared.bring_fault.BringFault.TheVariants.{OutOfMemory}
+use Rattle.lsm_recovery.specs.declared.bring_fault.BringFault.TheVariants.{OutOfMemory}
 use Rattle.lsm_cmd_recover.proofs.program.run_recover.Goals as goal
 
 pub returns-in-Err-clause-refused : goal.returns-in-Err-clause-refused
