@@ -37,6 +37,7 @@ CRATES = {
     "lsm_cmd_bench": ("program", "bench"),
     "lsm_cmd_import": ("program", "import"),
     "lsm_cmd_recover": ("program", "recover"),
+    "lsm_recovery": ("program", "logs come in"),
     "lsm_log_files": ("program", "a manifest and its logs"),
     "lsm_opening": ("program", "begins or opens a database"),
     "lsm_directory": ("program", "a folder, its lock, faults"),
