@@ -1,1 +1,2 @@
 pub mod BringLaws
+mod OnFolder
