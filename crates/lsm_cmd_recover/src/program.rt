@@ -139,8 +139,8 @@ where
 }
 
 /// Brings the logs of the folder at a path in before another command opens it, as `run_recover`
-/// does, but without a line of it, and answers the exit status: 0 where no log is to be read any
-/// more, and 1 where it is refused. A fault is one line on `err`, and may have more behind it.
+/// does, but without a line of it, and answers the exit status: 0 where it is done, or there is no
+/// database, and 1 where it is refused. A fault is one line on `err`, and may have more behind it.
 ///
 /// Where the folder has no database nothing is brought in: the other command begins one, or refuses
 /// the folder. `begins` says that one may be begun also where `CURRENT` was lost. The lock is let

@@ -63,7 +63,7 @@ refused: `refused 16 Compressed 1`.
 
 With --compare each table is kept in memory as it was read first, and what is
 read of it again is compared with that: where the disk then gives other bytes it
-is `refused 9 Device`.
+is `refused 9 Device`. It takes as much memory as the tables have bytes.
 
 Standard output has what was asked for, and nothing else. Standard error says
 why a command is refused or is none, names logs that are not read, and with
@@ -362,9 +362,9 @@ each key once. KEY and VALUE are
 hex, or text with --text, `.` for no bytes: `scan` prints such lines. In text a
 blank is `\\x20`, `=` is `\\x3d`, `!` `\\x21`, `@` `\\x40` and `\\` `\\x5c`, and
 each byte that does not print or is not ASCII is `\\xNN`. Lines in hex are put in
-order by `LC_ALL=C sort -t= -k1,1`. FILE is judged before DIR is opened; the
-first line of another form is `bad line I`, and a second line says where it is
-wrong.
+order by `LC_ALL=C sort -t= -k1,1`. FILE is judged before DIR is opened, but
+behind --recover; the first line of another form is `bad line I`, and a second
+line says where it is wrong.
 
 Limits: 64 MiB of FILE, 65536 lines, 4194304 bytes of keys and values together,
 4096 bytes of a key, 1048576 bytes of a value. Past 64 MiB it is a `read fault`,
