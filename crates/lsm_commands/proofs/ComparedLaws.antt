@@ -1,6 +1,5 @@
 -- What a command shows whose reads were compared.
-use Rattle.std.proofs.Common.{◌≡◌, ℕ, List, Option, false, inl, inr, subst}
-use Rattle.std.specs.Prelude.{IsTrue}
+use Rattle.std.proofs.Common.{◌≡◌, ℕ, List, Option, Bool, false, true, inl, inr}
 use Rattle.lsm_folder.specs.Calls.{AreHonest}
 use Rattle.lsm_folder.specs.declared.folder_calls.FolderCalls.{Ghosts}
 use Rattle.lsm_folder.specs.declared.mark.Mark as mark
@@ -25,6 +24,9 @@ use Rattle.lsm_grammar.specs.declared.request.Request.TheVariants.{Script, Shell
 use Rattle.lsm_commands.specs.Compared.{ShowsTheTruth, Tells}
 use Rattle.lsm_commands.specs.Run.{IsDone}
 
+never : (b : Bool) → b ≡ false → b ≡ true → ⊥
+never b no yes = absurd cc
+
 relies : (Honest : Type 0) → Honest → (command : DirectoryCommand) → ReliesOn Honest command
 relies Honest honest (Check workers) = tt
 relies Honest honest ListFiles = tt
@@ -47,7 +49,8 @@ module _ {C M : Type 0} (folders : Ghosts C M) (marks : mark.Ghosts M)
     sound = looked.looks.done.holds.found.loaded.sound honest;
     printed = looked.looks.done.printed (relies (AreHonest folders.calls) honest line.command);
   }
-  tells line old new said_old said_new plain (inr quick) = absurd (subst IsTrue plain quick.0)
+  tells line old new said_old said_new plain (inr quick) =
+      absurd (never (is_quick line.command line.quick) plain quick.0)
 
   -- so it is of each request
   pub shows : (text : Input → Option (List ℕ)) (request : Request)

@@ -1,6 +1,6 @@
 -- What a command shows whose reads were compared, so that its folder needs no premise: this
 -- project's rule.
-use Rattle.std.specs.Prelude.{◌≡◌, ℕ, false, List, Option, ⊤}
+use Rattle.std.specs.Prelude.{◌≡◌, ℕ, false, true, List, Option, ⊤}
 use Rattle.lsm_folder.specs.declared.folder_calls.FolderCalls.{Ghosts}
 use Rattle.lsm_folder.specs.declared.mark.Mark as mark
 use Rattle.lsm_shelf.specs.Place.{Place}
