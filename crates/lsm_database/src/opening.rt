@@ -77,8 +77,8 @@ where
 /// runs a program on it while two workers compact. Answers what the program answers, and what each
 /// worker has done, the last one where there are three being one that only gathered: a worker that
 /// met a fault has ended early. Nothing comes in but what the program may ask for. Once it answers,
-/// the lock of the folder is free, and all that was written is on the device. `folders` says where folders are
-/// found: `SystemPaths` finds those of the system.
+/// the lock of the folder is free, and all that was written is on the device. `folders` says where
+/// folders are found: `SystemPaths` finds those of the system.
 ///
 /// The folder has to be there. `Directory` where it can't be locked, read or written, or the
 /// database in it can't be read; `LostCurrent` where it has files of a database and no `CURRENT`;

@@ -49,7 +49,8 @@ impl<
     ghost asks = { I.asks };
 
     ghost ready = { λ s.
-        (((x : _) (b : _) → I.asks b.now → W.pre s.write x b) × ((x : _) (b : _) (r : _) (y : _) → W.post s.write x b r y
+        (((x : _) (b : _) → I.asks b.now → W.pre s.write x b)
+        × ((x : _) (b : _) (r : _) (y : _) → W.post s.write x b r y
         → AnswersWrite I.refuses b.now r (I.seen x.now) (I.seen y.now)))
         × (G.IsAlwaysCallable s.read
         × ((x : _) (k : _) (w : _) (r : _) (y : _) → G.post s.read x k w r y
