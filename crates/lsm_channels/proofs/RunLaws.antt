@@ -22,13 +22,18 @@ use Rattle.lsm_opening.specs.declared.prepared.Start.{Start}
 use Rattle.lsm_opening.specs.declared.prepared.Start.TheVariants.{Begin, Open}
 use Rattle.lsm_wire.specs.Happenings.{Happening, Came, Went, IsUnanswered, IsWritten, unanswered}
 use Rattle.lsm_channels.specs.Answered.{answer_frame}
-use Rattle.lsm_channels.specs.Opening.{AreLeft, AreLost, IsAllowed, IsBarred, IsContentServed, IsNoContent, IsNoOpening, IsRun, IsUnpreparedAt, IsUnserved, LeavesDoor, Names, NoneOpened, Outcome, RefusedOn, SaysRefusal}
+use Rattle.lsm_channels.specs.Opening.{AreLeft, AreLost, IsAllowed, IsBarred, IsContentServed}
+use Rattle.lsm_channels.specs.Opening.{IsNoContent, IsNoOpening, IsRun, IsUnpreparedAt}
+use Rattle.lsm_channels.specs.Opening.{IsUnserved, LeavesDoor, Names, NoneOpened, Outcome}
+use Rattle.lsm_channels.specs.Opening.{RefusedOn, SaysRefusal}
 use Rattle.lsm_channels.specs.OpeningFault.{name_of, number_of}
 use Rattle.lsm_channels.specs.Refusal.{AreOpened, IsFirst, IsSaidOn, KeepsLogsOut, none_said}
 use Rattle.lsm_channels.specs.Serving.{AreHandedBack, End, IsDatabaseServed, IsDatabaseUnserved, end, ends_from, opened_from}
 use Rattle.lsm_channels.specs.Starting.{options_for}
 use Rattle.lsm_channels.specs.declared.opening_fault.OpeningFault.{OpeningFault}
-use Rattle.lsm_channels.specs.declared.opening_fault.OpeningFault.TheVariants.{BadOpening, Folder, IsThere, Logs, NoDatabase}
+use Rattle.lsm_channels.specs.declared.opening_fault.OpeningFault.TheVariants.{BadOpening, Folder}
+use Rattle.lsm_channels.specs.declared.opening_fault.OpeningFault.TheVariants.{IsThere, Logs}
+use Rattle.lsm_channels.specs.declared.opening_fault.OpeningFault.TheVariants.{NoDatabase}
 
 -- ---- a refusal
 

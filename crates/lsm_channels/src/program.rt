@@ -343,8 +343,8 @@ where
 
 /// Reads the opening request from descriptor 0, brings unflushed logs in, opens the database, and
 /// serves it until each channel has ended. An opening that is refused is answered on the first
-/// channel. Without an opening nothing is done. Beside how it ended stands the wire of the opening. The folder is
-/// reached by the door alone, and once it is served it comes back, with its lock.
+/// channel. Without an opening nothing is done. Beside how it ended stands the wire of the opening.
+/// The folder is reached by the door alone, and once it is served it comes back, with its lock.
 pub fn serve_opening<
     C: FolderCalls + Send + Sync,
     O: Door<C>,
