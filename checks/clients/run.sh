@@ -5,7 +5,8 @@
 #
 # The server is the one that LSM_SERVER names, or the proved one, or else an unproved one that is
 # built first. LSM_SERVER_OBJECT, or its object beside it, is linked into the process. Needs gcc,
-# g++, python3 (PYTHON) with pytest, mypy, setuptools and wheel, valgrind, cmake, pkg-config.
+# g++, python3 (PYTHON) with pytest, mypy, setuptools and wheel, valgrind, cmake, pkg-config,
+# libleveldb-dev.
 # TISWENOR_CALLS and STORM: how many calls are drawn in C and in Python (3,000), seconds of each
 # storm (5). MINUTES and PYTHON_MINUTES: how long a test in C, and those of Python, may take (10,
 # 60).
@@ -95,6 +96,7 @@ run() { # TEST [WRAPPER..]: in ten minutes at most
   case $test in
     pages*) "$@" "$work/$test" "$folder/db" ;;
     storm* | readers*) "$@" "$work/$test" "$folder/db" "${STORM:-5}" ;;
+    recovered*) "$@" "$work/$test" "$folder" "${SEED:-1}" ;;
     drawn*) "$@" "$work/$test" "$folder/db" "${TISWENOR_CALLS:-3000}" "${SEED:-1}" ;;
     killed*) TISWENOR_SERVER=$work/telling "$@" "$work/$test" "$folder/db" "$work/number" ;;
     malformed*) "$@" "$work/$test" "$server" "$folder" 3 "${SEED:-1}" ;;
@@ -125,6 +127,10 @@ valgrind_inside() {
 }
 
 lied_to() { compile liar -O1 "$clients/c/tests/liar.c" && with_child lied_to "${sanitized[@]}"; }
+
+recovered() { # FLAGS..
+  compile recovered -O1 "$@" "$clients/c/tests/recovered.c" "${child[@]}" -lleveldb && run recovered
+}
 
 malformed() { compile malformed -O1 "${sanitized[@]}" "$clients/c/tests/malformed.c" && run malformed; }
 
@@ -233,6 +239,8 @@ part "C, child: killed server, killed host" with_child killed
 part "C, child: killed, address sanitizer" with_child killed "${sanitized[@]}"
 part "C, child: a server that lies, address sanitizer" lied_to
 part "server: malformed frames, drawn bytes" malformed
+part "C, child: logs that LevelDB left" recovered
+part "C, child: logs that LevelDB left, address sanitizer" recovered "${sanitized[@]}"
 part "C, child: drawn calls beside a table" with_child drawn
 part "C, child: eight threads read, one writes" with_child readers
 part "C, child: iterators over many pages" with_child pages

@@ -268,7 +268,8 @@ static const struct {
 /* Refusals of bytes that are none of LevelDB's, and of files that do not go together. */
 static int is_damage(unsigned char number) {
   static const char damages[] = {2,  3,  4,  5,  6,  7,  8,  10, 12, 13, 14, 15, 17, 18,
-                                 19, 20, 21, 22, 23, 24, 25, 26, 27, 28, 30, 31, 32, 33};
+                                 19, 20, 21, 22, 23, 24, 25, 26, 27, 28, 30, 31, 32, 33,
+                                 54, 55, 56, 57, 58, 59};
   return memchr(damages, number, sizeof damages) != NULL;
 }
 

@@ -1,6 +1,7 @@
 //! Going through the entries of a block, and the search for a key.
 
-ghost use Rattle.std.specs.Prelude.{◌≡◌, [], ◌*◌, ◌+◌, ◌-◌, ◌/◌, ◌≤◌, ◌<◌, ◌++◌, ℕ, List, length};
+ghost use Rattle.std.specs.Prelude.{◌≡◌, ◌≤◌, ◌<◌, ℕ, ◌+◌, ◌-◌, ◌*◌, ◌/◌};
+ghost use Rattle.std.specs.Prelude.{List, [], ◌++◌, length};
 ghost use Rattle.std.specs.Prelude.{take, drop, false, IfOk, IfSome, IfNone, OnErr};
 ghost use Rattle.std.specs.Option.{option_map};
 ghost use Rattle.lsm_codec.specs.KeyRef.{key_of};

@@ -22,13 +22,18 @@ use Rattle.lsm_opening.specs.declared.prepared.Start.{Start}
 use Rattle.lsm_opening.specs.declared.prepared.Start.TheVariants.{Begin, Open}
 use Rattle.lsm_wire.specs.Happenings.{Happening, Came, Went, IsUnanswered, IsWritten, unanswered}
 use Rattle.lsm_channels.specs.Answered.{answer_frame}
-use Rattle.lsm_channels.specs.Opening.{AreLeft, AreLost, IsBarred, IsContentServed, IsNoContent, IsNoOpening, IsRun, IsUnpreparedAt, IsUnserved, LeavesDoor, Names, NoneOpened, Outcome, RefusedOn, SaysRefusal}
+use Rattle.lsm_channels.specs.Opening.{AreLeft, AreLost, IsAllowed, IsBarred, IsContentServed}
+use Rattle.lsm_channels.specs.Opening.{IsNoContent, IsNoOpening, IsRun, IsUnpreparedAt}
+use Rattle.lsm_channels.specs.Opening.{IsUnserved, LeavesDoor, Names, NoneOpened, Outcome}
+use Rattle.lsm_channels.specs.Opening.{RefusedOn, SaysRefusal}
 use Rattle.lsm_channels.specs.OpeningFault.{name_of, number_of}
-use Rattle.lsm_channels.specs.Refusal.{AreOpened, IsFirst, IsSaidOn, none_said}
+use Rattle.lsm_channels.specs.Refusal.{AreOpened, IsFirst, IsSaidOn, KeepsLogsOut, none_said}
 use Rattle.lsm_channels.specs.Serving.{AreHandedBack, End, IsDatabaseServed, IsDatabaseUnserved, end, ends_from, opened_from}
 use Rattle.lsm_channels.specs.Starting.{options_for}
 use Rattle.lsm_channels.specs.declared.opening_fault.OpeningFault.{OpeningFault}
-use Rattle.lsm_channels.specs.declared.opening_fault.OpeningFault.TheVariants.{BadOpening, Folder, IsThere, NoDatabase}
+use Rattle.lsm_channels.specs.declared.opening_fault.OpeningFault.TheVariants.{BadOpening, Folder}
+use Rattle.lsm_channels.specs.declared.opening_fault.OpeningFault.TheVariants.{IsThere, Logs}
+use Rattle.lsm_channels.specs.declared.opening_fault.OpeningFault.TheVariants.{NoDatabase}
 
 -- ---- a refusal
 
@@ -128,6 +133,7 @@ module _ {C M : Type 0} (folders : Ghosts C M) (marks : mark.Ghosts M) where
   unserved_open says refuses o NoDatabase why = why
   unserved_open says refuses o IsThere why = why
   unserved_open says refuses o (Folder f) why = why
+  unserved_open says refuses o (Logs f) why = why
 
   -- and there the door need not be left
   pub asked_door : (refuses : List ℕ → FolderFault → Type 0) (o : Opened) (e : OpeningFault) (left : Bool) → IsUnserved folders marks none_said refuses o e → LeavesDoor e left
@@ -135,6 +141,7 @@ module _ {C M : Type 0} (folders : Ghosts C M) (marks : mark.Ghosts M) where
   asked_door refuses o NoDatabase left why = tt
   asked_door refuses o IsThere left why = tt
   asked_door refuses o (Folder f) left why = tt
+  asked_door refuses o (Logs f) left why = tt
 
   -- there is none, or one, and that was to be refused
   pub barred : (refuses : List ℕ → FolderFault → Type 0) (o : Opened) (start : Start) (logs : List FolderFile) (folder : C) (e : OpeningFault) → IsBarred start o.make o.refuse e
@@ -143,16 +150,37 @@ module _ {C M : Type 0} (folders : Ghosts C M) (marks : mark.Ghosts M) where
   barred refuses o Open logs folder NoDatabase why at = absurd why
   barred refuses o Open logs folder IsThere why at = record { start = Open; logs = logs; barred = why; folder = folder; at = at }
   barred refuses o Open logs folder (Folder f) why at = absurd why
+  barred refuses o Open logs folder (Logs f) why at = absurd why
   barred refuses o (Begin n) logs folder BadOpening why at = absurd why
   barred refuses o (Begin n) logs folder NoDatabase why at = record { start = Begin n; logs = logs; barred = why; folder = folder; at = at }
   barred refuses o (Begin n) logs folder IsThere why at = absurd why
   barred refuses o (Begin n) logs folder (Folder f) why at = absurd why
+  barred refuses o (Begin n) logs folder (Logs f) why at = absurd why
 
   -- memory ran out, or the folder was not prepared
   pub unprepared : (refuses : List ℕ → FolderFault → Type 0) (o : Opened) (e : WriterFault) → (e ≡ OutOfMemory) ⊎ IsUnpreparedAt folders refuses o.path e
       → IsUnserved folders marks none_said refuses o (Folder e)
   unprepared refuses o e (inl h) = inl h
   unprepared refuses o e (inr h) = inr (inl h)
+
+  -- the logs of the one that is there did not come in
+  pub unbrought : (refuses : List ℕ → FolderFault → Type 0) (o : Opened) (start : Start)
+      (logs : List FolderFile) (found folder : C) (e : OpeningFault)
+      → IsAllowed start o.make o.refuse
+      → IsFolderAt folders o.path (IsPrepared plainly start logs) found
+      → KeepsLogsOut folders marks start logs found folder e
+      → IsUnserved folders marks none_said refuses o e
+  unbrought refuses o start logs found folder e allowed at out =
+      subst (λ (x : OpeningFault). IsUnserved folders marks none_said refuses o x) (sym out.1)
+      record {
+        logs = logs;
+        allowed = subst (λ (s : Start). IsAllowed s o.make o.refuse) out.2 allowed;
+        found = found;
+        at = subst (λ (s : Start). IsFolderAt folders o.path (IsPrepared plainly s logs) found)
+            out.2 at;
+        folder = folder;
+        refused = out.3;
+      }
 
   -- an opening was refused over its first channel
   pub opening_refused : (says : ℤ → Bool → Type 0) (refuses : List ℕ → FolderFault → Type 0) (gives : List ℕ → Type 0) (content : List ℕ) (o : Opened) (e : OpeningFault) (ws : List End) (w : End)

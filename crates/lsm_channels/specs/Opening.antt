@@ -22,6 +22,9 @@ use Rattle.lsm_opening.specs.declared.faults.writer_fault.WriterFault.TheVariant
 use Rattle.lsm_opening.specs.declared.faults.writer_fault.WriterFault.TheVariants.{OutOfMemory}
 use Rattle.lsm_opening.specs.declared.prepared.Start.{Start}
 use Rattle.lsm_opening.specs.declared.prepared.Start.TheVariants.{Open, Begin}
+use Rattle.lsm_recovery.specs.Recovered.{FailsOn, RecoversOn}
+use Rattle.lsm_recovery.specs.declared.bring_fault.BringFault.{BringFault}
+use Rattle.lsm_recovery.specs.declared.brought.Brought.{Brought}
 use Rattle.lsm_wire.specs.Happenings.{Happening, Came, CameMisfit, CameNone, CameUnheld, Went}
 use Rattle.lsm_wire.specs.Happenings.{unanswered}
 use Rattle.lsm_channels.specs.Answered.{answer_frame}
@@ -34,6 +37,7 @@ use Rattle.lsm_channels.specs.declared.ended.Ended.TheVariants as ended
 use Rattle.lsm_channels.specs.declared.opening_fault.OpeningFault.{OpeningFault}
 use Rattle.lsm_channels.specs.declared.opening_fault.OpeningFault.TheVariants.{BadOpening, Folder}
 use Rattle.lsm_channels.specs.declared.opening_fault.OpeningFault.TheVariants.{IsThere, NoDatabase}
+use Rattle.lsm_channels.specs.declared.opening_fault.OpeningFault.TheVariants.{Logs}
 
 -- A database that is there is opened unless that is to be refused; one is begun where one is to be
 -- made.
@@ -58,20 +62,6 @@ HasClosed says first channels = (n : ℕ) × (n < channels) × says (pos (first 
 -- ---- in a folder
 
 module _ {C M : Type 0} (folders : Ghosts C M) where
-  -- The folder of an opening was served over these wires, to the end of each. It comes back as it
-  -- is then: opened at that path, locked, looked at, and asked for nothing since, so it holds the
-  -- lock. What there is was to be opened, or begun, and on a shelf of it that database was served.
-  pub record IsFolderServed (gives : List ℕ → Type 0) (o : Opened) (ws : List End) (folder : C)
-      (rs : List (Option End)) : Type 0 where
-    pub start : Start
-    pub logs : List FolderFile
-    pub allowed : IsAllowed start o.make o.refuse
-    pub held : IsFolderAt folders o.path (IsPrepared plainly start logs) folder
-    pub ended : FileShelf C M
-    pub served : IsDatabaseServed (AreHonest folders.calls) MayRefuse gives
-        (options_for o.channels) o.workers start logs (fresh (folders.place folder))
-        (told_by folders ended) ws rs
-
   -- The folder of the path was asked for, and refused; or its lock was asked for and not held, or
   -- the looking stopped.
   abbrev pub IsUnpreparedAt : (refuses : List ℕ → FolderFault → Type 0) → (path : List ℕ)
@@ -89,21 +79,62 @@ module _ {C M : Type 0} (folders : Ghosts C M) where
     pub at : IsFolderAt folders o.path (IsPrepared plainly start logs) folder
 
 module _ {C M : Type 0} (folders : Ghosts C M) (marks : mark.Ghosts M) where
-  -- It was to be opened, or begun, and on a shelf of it no database was served.
+  -- The logs among these files of a folder came into the database that is there, before it is
+  -- opened. Where one is to be begun, the folder was asked for nothing.
+  abbrev pub BringsLogs : Start → List FolderFile → (old new : C) → Type 0
+  BringsLogs Open files old new =
+      (brought : Brought) × RecoversOn folders marks files old new brought
+  BringsLogs (Begin number) files old new = new ≡ old
+
+  -- The folder of the path as it is once it was locked and looked at, and the logs came in. It was
+  -- asked for nothing else, so it holds the lock.
+  pub record IsReadyAt (path : List ℕ) (start : Start) (logs : List FolderFile) (folder : C)
+      : Type 0 where
+    pub found : C
+    pub at : IsFolderAt folders path (IsPrepared plainly start logs) found
+    pub brings : BringsLogs start logs found folder
+    pub same : folders.place folder ≡ folders.place found
+
+  -- The folder of an opening was served over these wires, to the end of each. It comes back as it
+  -- is then: opened at that path, locked, looked at, its logs read, and asked for nothing since, so
+  -- it holds the lock. What there is was to be opened, or begun. Its logs came in, and then on a
+  -- shelf of it that database was served.
+  pub record IsFolderServed (gives : List ℕ → Type 0) (o : Opened) (ws : List End) (folder : C)
+      (rs : List (Option End)) : Type 0 where
+    pub start : Start
+    pub logs : List FolderFile
+    pub allowed : IsAllowed start o.make o.refuse
+    pub ready : IsReadyAt o.path start logs folder
+    pub ended : FileShelf C M
+    pub served : IsDatabaseServed (AreHonest folders.calls) MayRefuse gives
+        (options_for o.channels) o.workers start logs (fresh (folders.place folder))
+        (told_by folders ended) ws rs
+
+  -- It was locked and looked at, the database that is there was to be opened, and its logs did not
+  -- come in.
+  pub record IsUnbroughtAt (o : Opened) (e : BringFault) : Type 0 where
+    pub logs : List FolderFile
+    pub allowed : IsAllowed Open o.make o.refuse
+    pub found : C
+    pub at : IsFolderAt folders o.path (IsPrepared plainly Open logs) found
+    pub folder : C
+    pub refused : FailsOn folders marks logs found folder e
+
+  -- It was to be opened, or begun, its logs came in, and on a shelf of it no database was served.
   pub record IsUnservedAt (o : Opened) (e : WriterFault) : Type 0 where
     pub start : Start
     pub logs : List FolderFile
     pub allowed : IsAllowed start o.make o.refuse
     pub folder : C
-    pub at : IsFolderAt folders o.path (IsPrepared plainly start logs) folder
+    pub ready : IsReadyAt o.path start logs folder
     pub ended : FileShelf C M
     pub refused : IsDatabaseUnserved (stored_at folders marks (folders.place folder)) MayRefuse
         (AreHonest folders.calls) (options_for o.channels) start logs e
         (fresh (folders.place folder)) (told_by folders ended)
 
   -- Why an opening is refused: a channel is not open; memory ran out; the folder was not opened, or
-  -- not locked, or the looking stopped; what there is was not to be opened, or begun; or it was,
-  -- and was not.
+  -- not locked, or the looking stopped; what there is was not to be opened, or begun; its logs did
+  -- not come in; or they did, and it was not opened, or begun.
   abbrev pub IsUnserved : (says : ℤ → Bool → Type 0) → (refuses : List ℕ → FolderFault → Type 0)
       → Opened → OpeningFault → Type 0
   IsUnserved says refuses o BadOpening = HasClosed says o.first o.channels
@@ -111,6 +142,7 @@ module _ {C M : Type 0} (folders : Ghosts C M) (marks : mark.Ghosts M) where
   IsUnserved says refuses o IsThere = IsBarredAt folders o IsThere
   IsUnserved says refuses o (Folder e) =
       (e ≡ OutOfMemory) ⊎ (IsUnpreparedAt folders refuses o.path e ⊎ IsUnservedAt o e)
+  IsUnserved says refuses o (Logs e) = IsUnbroughtAt o e
 
 -- Where a channel is not open no folder was asked for: the door is left.
 abbrev pub LeavesDoor : OpeningFault → (left : Bool) → Type 0
@@ -118,6 +150,7 @@ LeavesDoor BadOpening left = left ≡ true
 LeavesDoor NoDatabase left = ⊤
 LeavesDoor IsThere left = ⊤
 LeavesDoor (Folder e) left = ⊤
+LeavesDoor (Logs e) left = ⊤
 
 -- ---- a refusal
 
@@ -209,7 +242,7 @@ module _ {C M : Type 0} (folders : Ghosts C M) (marks : mark.Ghosts M) where
       × IsOpeningRefusal says refuses o w others left was is)
   IsContentServed says refuses gives content (ServedTo folder rs) was is =
       (o : Opened) × IsOpening content o × AreOpen says o.first o.channels
-      × IsFolderServed folders gives o (ends_from o.first o.channels) folder rs
+      × IsFolderServed folders marks gives o (ends_from o.first o.channels) folder rs
       × (is ≡ opened_from o.first o.channels ++ was)
 
   -- One run: what happened at descriptor 0, how it ended, and of which descriptors wires were made,

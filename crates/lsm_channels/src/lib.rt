@@ -1,9 +1,9 @@
 //! A database that is served over channels (`docs/PROTOCOL.md`).
 //!
 //! Stands on `lsm_store` for the database, on `lsm_frames` for requests and answers, and on
-//! `lsm_opening` for a folder and its database. What comes over a channel goes through
-//! `channel` to `session`, which does what is asked by one module for each kind of request. Its
-//! contract: an answer is the store's own, by one relation for each kind (`answered` of
+//! `lsm_opening` and `lsm_recovery` for a folder and its database. What comes over a channel goes
+//! through `channel` to `session`, which does what is asked by one module for each kind of request.
+//! Its contract: an answer is the store's own, by one relation for each kind (`answered` of
 //! `Session::perform`).
 #![tactic(auto)]
 

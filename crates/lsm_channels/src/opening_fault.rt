@@ -2,11 +2,15 @@
 
 ghost use Rattle.std.specs.Prelude.{◌≡◌};
 ghost use Rattle.lsm_channels.specs.OpeningFault.{name_of, name_of_directory, name_of_folder};
+ghost use Rattle.lsm_channels.specs.OpeningFault.{name_of_logs, name_of_source};
 ghost use Rattle.lsm_channels.specs.OpeningFault.{number_of, number_of_directory};
-ghost use Rattle.lsm_channels.specs.OpeningFault.{number_of_folder};
+ghost use Rattle.lsm_channels.specs.OpeningFault.{number_of_folder, number_of_logs};
+ghost use Rattle.lsm_channels.specs.OpeningFault.{number_of_source};
 
 use lsm_directory::DirectoryFault;
+use lsm_log_files::SourceFault;
 use lsm_opening::WriterFault;
+use lsm_recovery::BringFault;
 
 /// Why no database is served.
 #[derive(Debug, Drop)]
@@ -19,6 +23,8 @@ pub(crate) enum OpeningFault {
     IsThere,
     /// The folder was not opened, or its database neither opened nor begun.
     Folder(WriterFault),
+    /// The logs of the database that is there did not come in.
+    Logs(BringFault),
 }
 
 /// The number and the name of a refusal of a folder.
@@ -61,6 +67,34 @@ fn of_folder(fault: &WriterFault) -> (u8, &'static str)
     }
 }
 
+/// The number and the name of a refusal of a manifest or of a log.
+fn of_source(fault: &SourceFault) -> (u8, &'static str)
+    ensures number { result.0 ≡ number_of_source fault.now }
+    ensures name { result.1.now ≡ name_of_source fault.now }
+{
+    match fault {
+        SourceFault::OutOfMemory => (1, "OutOfMemory"),
+        SourceFault::Manifest(fault) => (fault.number(), fault.name()),
+        SourceFault::UnreadLog(_, fault) => (fault.number(), fault.name()),
+        SourceFault::BadLog(_, fault) => (fault.number(), fault.name()),
+    }
+}
+
+/// The number and the name of a refusal of logs.
+fn of_logs(fault: &BringFault) -> (u8, &'static str)
+    ensures number { result.0 ≡ number_of_logs fault.now }
+    ensures name { result.1.now ≡ name_of_logs fault.now }
+{
+    match fault {
+        BringFault::Folder(fault) => of_folder(fault),
+        BringFault::Read(fault) => of_source(fault),
+        BringFault::Bring(fault) => (fault.number(), fault.name()),
+        BringFault::Tables(fault) => (fault.number(), fault.name()),
+        // No line is written here.
+        BringFault::OutOfMemory | BringFault::Write => (1, "OutOfMemory"),
+    }
+}
+
 impl OpeningFault {
     /// The number and the name by which it is answered: those in docs/FORMATS.md, or above 200
     /// those of an opening.
@@ -73,6 +107,7 @@ impl OpeningFault {
             OpeningFault::NoDatabase => (202, "NoDatabase"),
             OpeningFault::IsThere => (203, "IsThere"),
             OpeningFault::Folder(fault) => of_folder(fault),
+            OpeningFault::Logs(fault) => of_logs(fault),
         }
     }
 }

@@ -8,10 +8,12 @@ ghost use Rattle.lsm_frames.specs.OpeningView.{opened_of};
 ghost use Rattle.lsm_frames.specs.Openings.{FitsOpened};
 ghost use Rattle.lsm_opening.specs.Preparing.{IsPrepared, plainly};
 ghost use Rattle.lsm_opening.specs.declared.faults.writer_fault.WriterFault.TheVariants.{OutOfMemory};
-ghost use Rattle.lsm_channels.specs.Opening.{AreOpen, IsAllowed, IsBarred, IsContentServed};
-ghost use Rattle.lsm_channels.specs.Opening.{IsFolderServed, IsNoOpening, IsRun, IsUnpreparedAt};
-ghost use Rattle.lsm_channels.specs.Opening.{IsUnserved, LeavesDoor, Names, outcome_of};
-ghost use Rattle.lsm_channels.specs.Refusal.{AreOpened, IsFirst, IsSaidOn, none_said};
+ghost use Rattle.lsm_channels.specs.Opening.{AreOpen, BringsLogs, IsAllowed, IsBarred};
+ghost use Rattle.lsm_channels.specs.Opening.{IsContentServed, IsFolderServed, IsNoOpening};
+ghost use Rattle.lsm_channels.specs.Opening.{IsReadyAt, IsRun, IsUnpreparedAt, IsUnserved};
+ghost use Rattle.lsm_channels.specs.Opening.{LeavesDoor, Names, outcome_of};
+ghost use Rattle.lsm_channels.specs.Refusal.{AreOpened, IsFirst, IsSaidOn, KeepsLogsOut};
+ghost use Rattle.lsm_channels.specs.Refusal.{none_said};
 ghost use Rattle.lsm_channels.specs.Serving.{AreHandedBack, end, ends_from, opened_from};
 ghost use Rattle.lsm_channels.specs.declared.opening_fault.OpeningFault.TheVariants.{Folder};
 
@@ -27,6 +29,7 @@ use lsm_directory::DirectoryFault;
 use lsm_folder::{FolderCalls, Reasons};
 use lsm_frames::Opening;
 use lsm_opening::{Prepared, Start, WriterFault, plainly, prepare};
+use lsm_recovery::recover_on;
 use lsm_storage::FileShelf;
 use lsm_wire::{Descriptors, Incoming, Wire, say};
 use std::alloc::Global;
@@ -86,6 +89,58 @@ fn prepare_at<C: FolderCalls, O: Door<C>, R: Wait>(
     }
 }
 
+/// Brings the logs that LevelDB left unflushed into the database that is there, as LevelDB does when
+/// it opens the folder. Where none is to be read, nothing is written.
+fn bring_logs<C: FolderCalls + Send + Sync, R: Wait>(
+    rt: &R,
+    alloc: Global,
+    folder: &mut C,
+    prepared: &Prepared,
+) -> Result<(), OpeningFault>
+where
+    C::Mark: Send + Sync,
+    ensures done { OnOk result (BringsLogs C.FolderCalls C.Mark.Mark prepared.now.start
+        prepared.now.logs.items folder.old folder.new) }
+    ensures refused { IfErr result (KeepsLogsOut C.FolderCalls C.Mark.Mark prepared.now.start
+        prepared.now.logs.items folder.old folder.new) }
+    ensures place { C.place folder.new ≡ C.place folder.old }
+{
+    match prepared.start {
+        Start::Open => match recover_on(rt, alloc, folder, &prepared.logs) {
+            Ok(_) => Ok(()),
+            Err(fault) => Err(OpeningFault::Logs(fault)),
+        },
+        Start::Begin(_) => Ok(()),
+    }
+}
+
+/// The folder of an opening, of which the lock is held, and which database is to be served: what
+/// there is may be opened, or begun, and its logs came in.
+fn ready<C: FolderCalls + Send + Sync, O: Door<C>, R: Wait>(
+    rt: &R,
+    door: O,
+    opening: &Opening<'_>,
+) -> Result<(C, Prepared), OpeningFault>
+where
+    C::Mark: Send + Sync,
+    ensures allowed { IfOk result (λ r.
+        IsAllowed r.1.start opening.now.make opening.now.refuse) }
+    ensures ready { IfOk result (λ r. IsReadyAt C.FolderCalls C.Mark.Mark opening.now.path.now
+        r.1.start r.1.logs.items r.0) }
+    ensures refused { IfErr result (IsUnserved C.FolderCalls C.Mark.Mark none_said O.refuses
+        (opened_of opening.now)) }
+{
+    let alloc = door.alloc();
+    let found = match prepare_at(rt, door, opening.path) {
+        Ok(found) => found,
+        Err(fault) => return Err(OpeningFault::Folder(fault)),
+    };
+    let (mut folder, prepared) = found;
+    judge(&prepared, opening)?;
+    bring_logs(rt, alloc, &mut folder, &prepared)?;
+    Ok((folder, prepared))
+}
+
 /// Opens the folder of an opening, and serves its database over these wires, on a fork of it: the
 /// folder, which holds the lock, is given back where that was done.
 fn serve_path<C: FolderCalls + Send + Sync, O: Door<C>, W: Wire + Send, R: Threads + Wait + Sync>(
@@ -101,7 +156,7 @@ where
     requires workers { plan.workers ≡ opening.now.workers }
     requires some { 1 ≤ plan.channels }
     requires few { plan.channels ≤ 62 }
-    ensures served { IfOk result (λ r. IsFolderServed C.FolderCalls W.gives
+    ensures served { IfOk result (λ r. IsFolderServed C.FolderCalls C.Mark.Mark W.gives
         (opened_of opening.now)
         (map (λ w. end (W.descriptor w) (W.happened w)) wires.items) r.0
         (map (option_map (λ w. end (W.descriptor w) (W.happened w))) r.1.items)) }
@@ -111,18 +166,11 @@ where
         AreHandedBack (Folder OutOfMemory) wires.items u.wires.items u.fault) }
 {
     let alloc = door.alloc();
-    let found = match prepare_at(rt, door, opening.path) {
+    let found = match ready(rt, door, opening) {
         Ok(found) => found,
-        Err(fault) => {
-            let fault = OpeningFault::Folder(fault);
-            return Err(Unserved { fault, wires });
-        }
+        Err(fault) => return Err(Unserved { fault, wires }),
     };
     let (folder, prepared) = found;
-    match judge(&prepared, opening) {
-        Ok(()) => {}
-        Err(fault) => return Err(Unserved { fault, wires }),
-    }
     let Ok(fork) = folder.fork() else {
         let fault = OpeningFault::Folder(WriterFault::OutOfMemory);
         return Err(Unserved { fault, wires });
@@ -151,7 +199,7 @@ where
     C::Mark: Send + Sync,
     D::Wire: Send,
     requires { FitsOpened (opened_of opening.now) }
-    ensures served { IfOk result (λ r. IsFolderServed C.FolderCalls D.Wire.gives
+    ensures served { IfOk result (λ r. IsFolderServed C.FolderCalls C.Mark.Mark D.Wire.gives
         (opened_of opening.now)
         (ends_from opening.now.first_channel opening.now.channels) r.0
         (map (option_map (λ w. end (D.Wire.descriptor w) (D.Wire.happened w))) r.1.items)) }
@@ -293,10 +341,10 @@ where
     }
 }
 
-/// Reads the opening request from descriptor 0, opens the database, and serves it until each
-/// channel has ended. An opening that is refused is answered on the first channel. Without an
-/// opening nothing is done. Beside how it ended stands the wire of the opening. The folder is
-/// reached by the door alone, and once it is served it comes back, with its lock.
+/// Reads the opening request from descriptor 0, brings unflushed logs in, opens the database, and
+/// serves it until each channel has ended. An opening that is refused is answered on the first
+/// channel. Without an opening nothing is done. Beside how it ended stands the wire of the opening.
+/// The folder is reached by the door alone, and once it is served it comes back, with its lock.
 pub fn serve_opening<
     C: FolderCalls + Send + Sync,
     O: Door<C>,

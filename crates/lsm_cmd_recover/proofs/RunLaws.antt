@@ -25,4 +25,8 @@ module _ {C M : Type 0} (folders : Ghosts C M) where
       → IsUnprepared options e (folders.calls first) (folders.calls now)
       → folders.place now ≡ folders.place first → IsUnready folders options path (Folder e)
   unready options path first now e at none refused same =
-      inr (inr (e, refl, (now, folder_at path (IsUnprepared options e) first now at none refused same)))
+      inr (inr (
+        e,
+        refl,
+        (now, folder_at path (IsUnprepared options e) first now at none refused same),
+      ))

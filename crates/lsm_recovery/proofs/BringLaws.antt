@@ -22,7 +22,8 @@ use Rattle.lsm_import.specs.declared.copied.Copied.{Copied}
 use Rattle.lsm_import.proofs.CallerLemmas.{Law, answers_from, only_puts}
 use Rattle.lsm_log_files.specs.Logs.{AreLogs}
 use Rattle.lsm_log_files.specs.Source.{ReadsManifest}
-use Rattle.lsm_recovery.specs.Bringing.{AreTaken, BringsIn, BringsNone, IsBroughtIn, IsJudged, IsUnstanding, entries_of}
+use Rattle.lsm_recovery.specs.Bringing.{AreTaken, BringsIn, BringsNone, IsBroughtIn, IsJudged}
+use Rattle.lsm_recovery.specs.Bringing.{IsUnstanding, entries_of}
 use Rattle.lsm_recovery.specs.declared.bring_fault.BringFault.{BringFault}
 
 -- ---- what a shelf was told

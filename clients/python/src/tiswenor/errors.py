@@ -32,7 +32,9 @@ NAMES = {
 FAULTS = frozenset((DEVICE, 35, 36, 42, 52))
 
 # Refusals of bytes that are none of LevelDB's, and of files that do not go together.
-DAMAGES = frozenset((*range(2, 9), 10, *range(12, 16), *range(17, 29), *range(30, 34)))
+DAMAGES = frozenset(
+    (*range(2, 9), 10, *range(12, 16), *range(17, 29), *range(30, 34), *range(54, 60))
+)
 
 # What a refusal means, for people. The C library says the same.
 REASONS = {
