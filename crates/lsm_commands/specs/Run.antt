@@ -2,7 +2,8 @@
 -- relation for what status 0 means, and one for what status 1 does. Those of a command on a folder
 -- are about a folder that was opened at the path of its words, and the calls on it, and about
 -- shelves on its place; that such a shelf is the run's own is to be read.
-use Rattle.std.specs.Prelude.{◌≡◌, ◌⊎◌, ℕ, IsFalse, Bool, true, List, [], ◌∷◌, Option, Some, None, ⊤}
+use Rattle.std.specs.Prelude.{◌≡◌, ◌⊎◌, ℕ, IsFalse, Bool, true, ⊤}
+use Rattle.std.specs.Prelude.{List, [], ◌∷◌, Option, Some, None}
 use Rattle.std.specs.Io.KnownBytes.{Appends, Keeps}
 use Rattle.clap.specs.Words.{Text}
 use Rattle.lsm_folder.specs.declared.folder_calls.FolderCalls.{Ghosts}
@@ -15,7 +16,8 @@ use Rattle.lsm_requests.specs.declared.input.Input.TheVariants.{Standard}
 use Rattle.lsm_grammar.specs.declared.manner.Manner.{Manner}
 use Rattle.lsm_grammar.specs.declared.request.Request.{Request}
 use Rattle.lsm_grammar.specs.declared.request.Request.TheVariants.{Convert, Look, Levels}
-use Rattle.lsm_grammar.specs.declared.request.Request.TheVariants.{Write as WriteFolder, Load, Compact}
+use Rattle.lsm_grammar.specs.declared.request.Request.TheVariants.{Write as WriteFolder, Load}
+use Rattle.lsm_grammar.specs.declared.request.Request.TheVariants.{Compact}
 use Rattle.lsm_grammar.specs.declared.request.Request.TheVariants.{Import, Recover}
 use Rattle.lsm_grammar.specs.declared.request.Request.TheVariants.{Script, Shell, Bench}
 use Rattle.lsm_grammar.specs.declared.writing_command.WritingCommand.{WritingCommand}
@@ -29,6 +31,7 @@ use Rattle.lsm_opening.specs.declared.faults.writer_fault.WriterFault.{WriterFau
 use Rattle.lsm_cmd_import.specs.Imported.{FailsToImport, ImportsAt}
 use Rattle.lsm_cmd_import.specs.declared.copy_fault.CopyFault.{CopyFault}
 use Rattle.lsm_cmd_recover.specs.Recovered.{ComesFirst, FailsFirst, FailsToRecover, RecoversAt}
+use Rattle.lsm_cmd_recover.specs.declared.recover_fault.RecoverFault.{RecoverFault}
 use Rattle.lsm_recovery.specs.declared.bring_fault.BringFault.{BringFault}
 use Rattle.lsm_cmd_levels.specs.Layout.{FailsToLayOut, LaysOutAt}
 use Rattle.lsm_cmd_load.specs.LoadedAt.{FailsToLoad, LoadsAt}
@@ -167,7 +170,7 @@ module _ {C M : Type 0} (folders : Ghosts C M) (marks : mark.Ghosts M)
   IsUndone text (Import line) old new =
       (fault : CopyFault) × FailsToImport folders marks line fault old new
   IsUndone text (Recover path) old new =
-      (fault : BringFault) × FailsToRecover folders marks path.now fault old new
+      (fault : RecoverFault) × FailsToRecover folders marks path.now fault old new
   IsUndone text (Compact line) old new = IsUncompacted folders marks line old new
   IsUndone text (Script input) old new = IsUnplayed (text input) old new
   IsUndone text (Shell line) old new =
