@@ -33,4 +33,7 @@ mod Answering
 mod Soundness
 mod Lives
 mod Reopening
+mod Keeping
+mod Lasting
+mod Shown
 mod Examples

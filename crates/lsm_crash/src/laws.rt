@@ -16,6 +16,7 @@ ghost use Rattle.lsm_storage.specs.Plans.{done, manifest_measured, name_plan, pu
 ghost use Rattle.lsm_storage.specs.Plans.{remove_plan, start_plan};
 ghost use Rattle.lsm_shelf.specs.declared.shelf_fault.ShelfFault.{ShelfFault};
 ghost use Rattle.lsm_shelf.specs.declared.shelf_fault.ShelfFault.TheVariants.{OutOfMemory};
+ghost use Rattle.lsm_admission.specs.Keeping.{KeepsTables};
 ghost use Rattle.lsm_manifest.specs.Edit.{IsEdit};
 ghost use Rattle.lsm_manifest.specs.LogWriting.{record_text};
 ghost use Rattle.lsm_manifest.specs.Shape.{IsShape};
@@ -34,6 +35,7 @@ ghost use Rattle.lsm_crash.specs.Operations.{Start, after, either, plan_of, star
 ghost use Rattle.lsm_crash.specs.Among.{Cleans, CutAmong, CutDropping, CutOf, DoneAmong};
 ghost use Rattle.lsm_crash.specs.Among.{DoneDropping, DoneOf, Event, Goes, IsAside, IsGap, Spares};
 ghost use Rattle.lsm_crash.specs.History.{History, IsPhase, IsRead, Move, Phase};
+ghost use Rattle.lsm_crash.specs.Kept.{AreKept, IsKeptPhase, KeepsAll, KeepsFound, KeepsShown};
 
 /// A crash in any call of an operation, after any run of operations, among calls of other threads:
 /// `CURRENT` names the manifest from before that operation or the one from after it, the whole
@@ -132,6 +134,28 @@ pub fn histories_keep_what_is_known()
         → IsRead known found w
         → w ≡ world_of known found r }
     ensures one { (bytes : List ℕ) (u v : Version) → ComesTo bytes u → ComesTo bytes v → u ≡ v }
+{}
+
+/// The tables of the manifest that `CURRENT` shows are kept, so an opening may go without reading
+/// them. Where each version that is known has its tables among those that are counted on, and these
+/// alone under its numbers (`AreKept`), the folder keeps the version that it shows (`shown`), and
+/// so does what a crash leaves of it (`found`). Through any history of runs, cuts, refusals,
+/// crashes and starts that stays so, where each version that is written is such a one when it is
+/// (`histories`): those of a database are (`databases_keep_what_they_show`). A shelf that keeps
+/// nothing but what the folder shows then meets the premise of such an opening (`shelf`).
+pub fn what_is_shown_is_kept()
+    ensures shown { (known : Known) (d : Disk) → IsHeld d known → AreKept known → KeepsShown d }
+    ensures found { (known : Known) (d : Disk) (found : Found) → IsHeld d known → AreKept known
+        → IsLeft d found → KeepsFound found }
+    ensures histories { (moves : List Move) (p q : Phase) (d e : Disk) → IsPhase p d
+        → IsKeptPhase p → KeepsAll moves → History p moves q d e
+        → IsKeptPhase q × KeepsShown e
+        × ((found : Found) → IsLeft e found → KeepsFound found) }
+    ensures shelf { (Keeps : ℕ → List ℕ → Type 0) (number : ℕ) (bytes : List ℕ) (v : Version)
+        (d : Disk) → KeepsShown d → number < 2 ^ 64 → Shows d current_name (current_text number)
+        → Shows d (manifest_name number) bytes → ComesTo bytes v
+        → ((n : ℕ) (image : List ℕ) → Keeps n image → Shows d (table_name n) image)
+        → KeepsTables Keeps v }
 {}
 
 /// The first manifest in a folder without `CURRENT`: a crash in any of its calls leaves no
