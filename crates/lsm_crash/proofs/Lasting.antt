@@ -1,17 +1,15 @@
 -- What is kept stays so through every history.
-use Rattle.std.proofs.Common.{◌≡◌, ℕ, ◌<◌, ◌^◌, List, [], ◌∷◌, refl, sym, ◌∙◌, ap, subst, inl, inr, Some, None}
+use Rattle.std.proofs.Common.{◌≡◌, ℕ, List, [], ◌∷◌, refl, sym, ◌∙◌, ap, subst, inl, inr, Some, None}
 use Rattle.std.specs.Prelude.{Option}
 use Rattle.lsm_codec.specs.Lists.{Has}
 use Rattle.lsm_storage.specs.FileNames.{table_name, manifest_name, current_text}
-use Rattle.lsm_manifest.specs.FileOrder.{TableFile}
 use Rattle.lsm_manifest.specs.Shape.{IsShape}
 use Rattle.lsm_manifest.proofs.CallerLemmas.{replayed_shape}
-use Rattle.lsm_verify.specs.Loading.{all_files}
 use Rattle.lsm_admission.specs.Keeping.{KeepsTables}
 use Rattle.lsm_crash.specs.Disk.{Disk, Shows, set}
 use Rattle.lsm_crash.specs.Crash.{Found, IsLeft}
 use Rattle.lsm_crash.specs.Versions.{AreThere, ComesTo, IsNamed, LeadsTo, Tables, Version}
-use Rattle.lsm_crash.specs.Known.{AllStand, IsHeld, IsSettled, IsSound, Known, Recovers, Stands, World, current_name, known_of, world_of}
+use Rattle.lsm_crash.specs.Known.{AllStand, IsHeld, IsSettled, IsSound, Known, Recovers, Stands, World, known_of}
 use Rattle.lsm_crash.specs.Operations.{Allows, Append, Operation, Put, Remove, Start, after, either}
 use Rattle.lsm_crash.specs.Among.{Counts, Does, Event, Goes, counting, failed}
 use Rattle.lsm_crash.specs.History.{Breaks, Crashes, Empties, History, IsPhase, Move, Others, Passes, Phase, Rests, Runs, Starts, Stops, StopsUnseen, Sure, Unsure, before, behind}
@@ -79,9 +77,11 @@ pub phase_found : (p : Phase) (d : Disk) (found : Found) → IsPhase p d → IsK
 phase_found (Sure w) d found i k = left_found d (known_of w) found (settled_held d w i) (only w.version (λ v. IsKept (IsCounted w.tables) v) k)
 phase_found (Unsure known) d found i k = left_found d known found i k
 
--- a shelf that keeps only what the folder shows
-pub shelf_kept : (Keeps : ℕ → List ℕ → Type 0) (d : Disk) (v : Version) → IsKept (λ n image. Shows d (table_name n) image) v → ((n : ℕ) (image : List ℕ) → Keeps n image → Shows d (table_name n) image) → KeepsTables Keeps v
-shelf_kept Keeps d v k shows = tables_fewer Keeps (λ n image. Shows d (table_name n) image) v (λ file image h s. shows file.number image s) k.tables
+-- a shelf that keeps nothing else under the numbers of the version's files
+pub shelf_kept : (Keeps : ℕ → List ℕ → Type 0) (d : Disk) (bytes : List ℕ) (v : Version) → ComesTo bytes v → IsKept (λ n image. Shows d (table_name n) image) v
+    → ((n : ℕ) (image : List ℕ) → IsNamed v n → Keeps n image → Shows d (table_name n) image) → KeepsTables Keeps v
+shelf_kept Keeps d bytes v comes k shows =
+    tables_fewer Keeps (λ n image. Shows d (table_name n) image) v (λ file image h s. shows file.number image (file_named v (shape_of bytes v comes) file h) s) k.tables
 
 -- ---- tables that come and go
 

@@ -1,9 +1,7 @@
 -- What a database keeps of the version that its folder shows.
-use Rattle.std.proofs.Common.{◌≡◌, ℕ, ◌<◌, ◌^◌, List, [], ◌∷◌, length, map, refl, sym, ◌∙◌, ap, subst, inl, inr, Some, None}
+use Rattle.std.proofs.Common.{◌≡◌, ℕ, List, [], ◌∷◌, length, map, refl, sym, ◌∙◌, subst, inl, inr, Some, None}
 use Rattle.std.specs.Prelude.{Option}
 use Rattle.atomic_table.specs.Seated.{TableId}
-use Rattle.lsm_codec.specs.Entries.{Entry}
-use Rattle.lsm_codec.specs.Lists.{Has}
 use Rattle.lsm_codec.proofs.CallerLemmas.{flat_has}
 use Rattle.lsm_storage.specs.FileNames.{table_name, manifest_name, current_text}
 use Rattle.lsm_shelf.specs.Asked.{Asked}
@@ -32,7 +30,7 @@ use Rattle.lsm_crash.proofs.Opening.{shows_one}
 use Rattle.lsm_crash.proofs.Making.{no_table, no_tables}
 use Rattle.lsm_crash.proofs.Reopening.{reopened_has}
 use Rattle.lsm_crash.proofs.Answering.{ReadsAll}
-use Rattle.lsm_crash.proofs.Soundness.{WholeTables, deed_whole, sound_state, works_whole}
+use Rattle.lsm_crash.proofs.Soundness.{deed_whole, sound_state, works_whole}
 use Rattle.lsm_crash.proofs.Lives.{ages_sound, from_nothing}
 use Rattle.lsm_crash.proofs.Keeping.{counted_kept, shape_of, version_kept}
 use Rattle.lsm_crash.proofs.Lasting.{held_shown, left_found}

@@ -37,6 +37,9 @@ ghost use Rattle.lsm_crash.specs.Among.{DoneDropping, DoneOf, Event, Goes, IsAsi
 ghost use Rattle.lsm_crash.specs.History.{History, IsPhase, IsRead, Move, Phase};
 ghost use Rattle.lsm_crash.specs.Kept.{AreKept, IsKeptPhase, KeepsAll, KeepsFound, KeepsShown};
 
+use lsm_finding::Finding;
+use lsm_table::Naming;
+
 /// A crash in any call of an operation, after any run of operations, among calls of other threads:
 /// `CURRENT` names the manifest from before that operation or the one from after it, the whole
 /// records of which come to the version of before or of after, and each table is there, whole.
@@ -141,8 +144,7 @@ pub fn histories_keep_what_is_known()
 /// alone under its numbers (`AreKept`), the folder keeps the version that it shows (`shown`), and
 /// so does what a crash leaves of it (`found`). Through any history of runs, cuts, refusals,
 /// crashes and starts that stays so, where each version that is written is such a one when it is
-/// (`histories`): those of a database are (`databases_keep_what_they_show`). A shelf that keeps
-/// nothing but what the folder shows then meets the premise of such an opening (`shelf`).
+/// (`histories`): those of a database are (`databases_keep_what_they_show`).
 pub fn what_is_shown_is_kept()
     ensures shown { (known : Known) (d : Disk) → IsHeld d known → AreKept known → KeepsShown d }
     ensures found { (known : Known) (d : Disk) (found : Found) → IsHeld d known → AreKept known
@@ -151,11 +153,17 @@ pub fn what_is_shown_is_kept()
         → IsKeptPhase p → KeepsAll moves → History p moves q d e
         → IsKeptPhase q × KeepsShown e
         × ((found : Found) → IsLeft e found → KeepsFound found) }
-    ensures shelf { (Keeps : ℕ → List ℕ → Type 0) (number : ℕ) (bytes : List ℕ) (v : Version)
-        (d : Disk) → KeepsShown d → number < 2 ^ 64 → Shows d current_name (current_text number)
+{}
+
+/// So the premise of an opening that reads no table is met by a shelf that keeps, under the numbers
+/// of the files of the manifest that `CURRENT` shows, nothing but what the folder shows there.
+pub fn shelves_keep_what_is_shown<N: Naming, S: Finding>()
+    ensures { (number : ℕ) (bytes : List ℕ) (v : Version) (d : Disk) → KeepsShown d
+        → number < 2 ^ 64 → Shows d current_name (current_text number)
         → Shows d (manifest_name number) bytes → ComesTo bytes v
-        → ((n : ℕ) (image : List ℕ) → Keeps n image → Shows d (table_name n) image)
-        → KeepsTables Keeps v }
+        → ((n : ℕ) (image : List ℕ) → IsNamed v n → S.keeps N.place n image
+        → Shows d (table_name n) image)
+        → KeepsTables (S.keeps N.place) v }
 {}
 
 /// The first manifest in a folder without `CURRENT`: a crash in any of its calls leaves no

@@ -301,18 +301,18 @@ pub fn ingests_survive_crashes<P: Premise>()
     runs_read_all_that_came::<P>();
 }
 
-/// What the folder of a database shows is kept, where the shelf is honest: the premise of an opening
-/// that reads no table, for each folder that calls of a database alone wrote. A sound version's
-/// tables keep the shapes that describe it (`version`); so what a state counts on keeps what its
-/// manifest comes to (`world`), and so does what it writes there: the first manifest (`makes`), that
-/// of an opening, also where a call was refused and one can't tell what is durable (`opens`), and
-/// what a call that is answered Ok writes, which leaves a sound version (`writes`). So each history
-/// of these is one of `what_is_shown_is_kept`.
+/// What the folder of a database shows is kept, where the shelf is honest: the premise of an
+/// opening that reads no table, for each folder that calls of a database alone wrote. The tables of
+/// a sound version keep a shape that describes it (`version`). So what a state counts on keeps what
+/// its manifest comes to (`world`), and so does what is counted on where a manifest is written: the
+/// first one (`makes`), that of an opening, also where a call was refused before and one can't tell
+/// what is durable (`opens`), and by a call that is answered Ok, which leaves a sound version
+/// (`writes`). So histories of these are some of which `what_is_shown_is_kept` speaks.
 ///
 /// After any run of calls the folder keeps what it shows, and so does what a crash leaves of it
-/// (`between`), also in any call of the folder (`within`). So after any lives, one after another,
-/// over a folder that shows a sound version (`lives`), and from a folder without a database on
-/// (`new`).
+/// (`between`); so it is where a call is cut, in any call of the folder (`within`). So it is after
+/// any lives, one after another, over a folder that shows a sound version (`lives`), and from a
+/// folder without a database on (`new`).
 pub fn databases_keep_what_they_show<P: Premise>()
     ensures version { (v : Levels) (bytes : List ℕ) (s : Version) (tables : Tables) → IsSound v
         → HasTables tables v → ComesTo bytes s → Describes s v → IsKept (IsCounted tables) s }

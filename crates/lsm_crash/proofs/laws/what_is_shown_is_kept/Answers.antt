@@ -1,4 +1,4 @@
-use Rattle.lsm_crash.proofs.Lasting.{held_shown, history_kept, left_found, phase_found, phase_shown, shelf_kept}
+use Rattle.lsm_crash.proofs.Lasting.{held_shown, history_kept, left_found, phase_found, phase_shown}
 use Rattle.lsm_crash.proofs.laws.what_is_shown_is_kept.Goals as goal
 
 pub returns-clause-shown : goal.returns-clause-shown
@@ -11,7 +11,3 @@ pub returns-clause-histories : goal.returns-clause-histories
 returns-clause-histories c = λ moves p q d e i k ks h.
     let r = history_kept moves p q d e i k ks h in
     (r.1, phase_shown q e r.0 r.1, λ found l. phase_found q e found r.0 r.1 l)
-
-pub returns-clause-shelf : goal.returns-clause-shelf
-returns-clause-shelf c = λ Keeps number bytes v d keeps small current its comes shows.
-    shelf_kept Keeps d v (keeps number bytes v small current its comes) shows
