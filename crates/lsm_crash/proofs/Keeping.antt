@@ -23,18 +23,18 @@ use Rattle.lsm_crash.proofs.Refusing.{level_of_file, placed_from}
 
 -- ---- where fewer images lie
 
--- of the numbers of these files
+-- of the numbers of these files, and of their sizes
 abbrev pub Fewer : (K L : ℕ → List ℕ → Type 0) → List TableFile → Type 0
-Fewer K L files = (file : TableFile) (image : List ℕ) → Has files file → K file.number image → L file.number image
+Fewer K L files = (file : TableFile) (image : List ℕ) → Has files file → length image ≡ file.size → K file.number image → L file.number image
 
-file_fewer : (K L : ℕ → List ℕ → Type 0) (file : TableFile) (t : Table) → ((image : List ℕ) → K file.number image → L file.number image) → IsFoundFor K file t → IsFoundFor L file t
+file_fewer : (K L : ℕ → List ℕ → Type 0) (file : TableFile) (t : Table) → ((image : List ℕ) → length image ≡ file.size → K file.number image → L file.number image) → IsFoundFor K file t → IsFoundFor L file t
 file_fewer K L file t fewer f = record {
   number = f.number;
   smallest = f.smallest;
   largest = f.largest;
   bounds = f.bounds;
   size = f.size;
-  kept = subst (λ (n : ℕ). L n t.image) (sym f.number) (fewer t.image (subst (λ (n : ℕ). K n t.image) f.number f.kept));
+  kept = subst (λ (n : ℕ). L n t.image) (sym f.number) (fewer t.image f.size (subst (λ (n : ℕ). K n t.image) f.number f.kept));
 }
 
 level_fewer : (K L : ℕ → List ℕ → Type 0) (files : List TableFile) (ts : List Table) → Fewer K L files → AreFoundFor K files ts → AreFoundFor L files ts
@@ -69,13 +69,14 @@ found_fewer K L v u fewer f = record {
 
 pub tables_fewer : (K L : ℕ → List ℕ → Type 0) (v : Version) → Fewer K L (all_files v.levels) → KeepsTables L v → KeepsTables K v
 tables_fewer K L v fewer t = record {
-  images = λ file image h k size. t.images file image h (fewer file image h k) size;
+  images = λ file image h k size. t.images file image h (fewer file image h size k) size;
   ages = λ u f. t.ages u (found_fewer K L v u fewer f);
 }
 
-pub kept_fewer : (K L : ℕ → List ℕ → Type 0) (v : Version) → Fewer K L (all_files v.levels) → ((file : TableFile) → Has (all_files v.levels) file → (image : List ℕ) × K file.number image) → IsKept L v → IsKept K v
+pub kept_fewer : (K L : ℕ → List ℕ → Type 0) (v : Version) → ((file : TableFile) (image : List ℕ) → Has (all_files v.levels) file → K file.number image → L file.number image)
+    → ((file : TableFile) → Has (all_files v.levels) file → (image : List ℕ) × K file.number image) → IsKept L v → IsKept K v
 kept_fewer K L v fewer there k = record {
-  tables = tables_fewer K L v fewer k.tables;
+  tables = tables_fewer K L v (λ file image h size l. fewer file image h l) k.tables;
   there = there;
   sizes = λ file image h l. k.sizes file image h (fewer file image h l);
 }

@@ -1,10 +1,14 @@
 -- What is kept stays so through every history.
-use Rattle.std.proofs.Common.{◌≡◌, ℕ, List, [], ◌∷◌, refl, sym, ◌∙◌, ap, subst, inl, inr, Some, None}
-use Rattle.std.specs.Prelude.{Option}
+use Rattle.std.proofs.Common.{◌≡◌, ℕ, List, [], ◌∷◌, length, refl, sym, ◌∙◌, ap, subst, inl, inr, Some, None}
+use Rattle.std.specs.Prelude.{Option, replicate}
+use Rattle.std.proofs.lemmas.List.{take_at}
 use Rattle.lsm_codec.specs.Lists.{Has}
 use Rattle.lsm_storage.specs.FileNames.{table_name, manifest_name, current_text}
+use Rattle.lsm_folder.specs.Finding.{fitted}
+use Rattle.lsm_manifest.specs.FileOrder.{TableFile}
 use Rattle.lsm_manifest.specs.Shape.{IsShape}
 use Rattle.lsm_manifest.proofs.CallerLemmas.{replayed_shape}
+use Rattle.lsm_verify.specs.Loading.{all_files}
 use Rattle.lsm_admission.specs.Keeping.{KeepsTables}
 use Rattle.lsm_crash.specs.Disk.{Disk, Shows, set}
 use Rattle.lsm_crash.specs.Crash.{Found, IsLeft}
@@ -77,11 +81,24 @@ pub phase_found : (p : Phase) (d : Disk) (found : Found) → IsPhase p d → IsK
 phase_found (Sure w) d found i k = left_found d (known_of w) found (settled_held d w i) (only w.version (λ v. IsKept (IsCounted w.tables) v) k)
 phase_found (Unsure known) d found i k = left_found d known found i k
 
--- a shelf that keeps nothing else under the numbers of the version's files
-pub shelf_kept : (Keeps : ℕ → List ℕ → Type 0) (d : Disk) (bytes : List ℕ) (v : Version) → ComesTo bytes v → IsKept (λ n image. Shows d (table_name n) image) v
-    → ((n : ℕ) (image : List ℕ) → IsNamed v n → Keeps n image → Shows d (table_name n) image) → KeepsTables Keeps v
-shelf_kept Keeps d bytes v comes k shows =
-    tables_fewer Keeps (λ n image. Shows d (table_name n) image) v (λ file image h s. shows file.number image (file_named v (shape_of bytes v comes) file h) s) k.tables
+-- a shelf that keeps nothing else of the files' numbers and sizes
+pub shelf_kept : (Keeps : ℕ → List ℕ → Type 0) (d : Disk) (v : Version) → IsKept (λ n image. Shows d (table_name n) image) v
+    → ((file : TableFile) (image : List ℕ) → Has (all_files v.levels) file → length image ≡ file.size → Keeps file.number image → Shows d (table_name file.number) image) → KeepsTables Keeps v
+shelf_kept Keeps d v k shows = tables_fewer Keeps (λ n image. Shows d (table_name n) image) v shows k.tables
+
+fitted_whole : (image bytes : List ℕ) → image ≡ fitted (length image) bytes → length image ≡ length bytes → bytes ≡ image
+fitted_whole image bytes is size = sym (is ∙ take_at bytes (replicate (length image) 0) (length image) (sym size))
+
+-- contents that name what is shown
+pub contents_kept : (contents : List ℕ → List ℕ) (d : Disk) (v : Version) → IsKept (λ n image. Shows d (table_name n) image) v
+    → ((file : TableFile) (image : List ℕ) → Has (all_files v.levels) file → Shows d (table_name file.number) image → contents (table_name file.number) ≡ image)
+    → KeepsTables (λ n image. image ≡ fitted (length image) (contents (table_name n))) v
+contents_kept contents d v k named = shelf_kept (λ n image. image ≡ fitted (length image) (contents (table_name n))) d v k
+    (λ file image h size is.
+    let own = k.there file h in
+    let same : contents (table_name file.number) ≡ own.0 = named file own.0 h own.1 in
+    let whole : length image ≡ length own.0 = size ∙ sym (k.sizes file own.0 h own.1) in
+    subst (Shows d (table_name file.number)) (fitted_whole image own.0 (is ∙ ap (fitted (length image)) same) whole) own.1)
 
 -- ---- tables that come and go
 

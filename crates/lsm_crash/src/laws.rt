@@ -6,6 +6,7 @@ ghost use Rattle.std.specs.Prelude.{length, take, Bool, true, Some, None, Result
 ghost use Rattle.lsm_codec.specs.Lists.{Has};
 ghost use Rattle.lsm_folder.specs.Calls.{Answer, Call, made, wrote, appended, synced};
 ghost use Rattle.lsm_folder.specs.Calls.{folder_synced, renamed, removed, loaded, locked};
+ghost use Rattle.lsm_folder.specs.Finding.{fitted};
 ghost use Rattle.lsm_folder.specs.declared.folder_fault.FolderFault as folder_fault;
 ghost use Rattle.lsm_folder.specs.declared.lock_kind.LockKind.{LockKind};
 ghost use Rattle.lsm_storage.specs.FileNames.{table_name, manifest_name, temporary_name};
@@ -18,9 +19,11 @@ ghost use Rattle.lsm_shelf.specs.declared.shelf_fault.ShelfFault.{ShelfFault};
 ghost use Rattle.lsm_shelf.specs.declared.shelf_fault.ShelfFault.TheVariants.{OutOfMemory};
 ghost use Rattle.lsm_admission.specs.Keeping.{KeepsTables};
 ghost use Rattle.lsm_manifest.specs.Edit.{IsEdit};
+ghost use Rattle.lsm_manifest.specs.FileOrder.{TableFile};
 ghost use Rattle.lsm_manifest.specs.LogWriting.{record_text};
 ghost use Rattle.lsm_manifest.specs.Shape.{IsShape};
 ghost use Rattle.lsm_manifest.specs.WholeEdit.{whole_edit};
+ghost use Rattle.lsm_verify.specs.Loading.{all_files};
 ghost use Rattle.lsm_crash.specs.Disk.{After, Disk, Leaves, Names, Shows, Step};
 ghost use Rattle.lsm_crash.specs.Disk.{empty_disk};
 ghost use Rattle.lsm_crash.specs.Crash.{Found, IsFresh, IsLeft, IsSpoilt, MayFind};
@@ -38,6 +41,7 @@ ghost use Rattle.lsm_crash.specs.History.{History, IsPhase, IsRead, Move, Phase}
 ghost use Rattle.lsm_crash.specs.Kept.{AreKept, IsKeptPhase, KeepsAll, KeepsFound, KeepsShown};
 
 use lsm_finding::Finding;
+use lsm_folder::Contents;
 use lsm_table::Naming;
 
 /// A crash in any call of an operation, after any run of operations, among calls of other threads:
@@ -156,14 +160,30 @@ pub fn what_is_shown_is_kept()
 {}
 
 /// So the premise of an opening that reads no table is met by a shelf that keeps, under the numbers
-/// of the files of the manifest that `CURRENT` shows, nothing but what the folder shows there.
+/// of the files of the manifest that `CURRENT` shows, no image of a file's size but the one that
+/// the folder shows.
 pub fn shelves_keep_what_is_shown<N: Naming, S: Finding>()
     ensures { (number : ℕ) (bytes : List ℕ) (v : Version) (d : Disk) → KeepsShown d
         → number < 2 ^ 64 → Shows d current_name (current_text number)
         → Shows d (manifest_name number) bytes → ComesTo bytes v
-        → ((n : ℕ) (image : List ℕ) → IsNamed v n → S.keeps N.place n image
-        → Shows d (table_name n) image)
+        → ((file : TableFile) (image : List ℕ) → Has (all_files v.levels) file
+        → length image ≡ file.size → S.keeps N.place file.number image
+        → Shows d (table_name file.number) image)
         → KeepsTables (S.keeps N.place) v }
+{}
+
+/// Such a shelf is that on a folder of the system with the program's witness, `Mute<C>`, for each
+/// `C` that names what the folder shows of these files. What the witness says that a file holds is
+/// what `C` names, cut or filled to the length.
+pub fn contents_keep_what_is_shown<C: Contents>()
+    ensures { (folder : List ℕ) (number : ℕ) (bytes : List ℕ) (v : Version) (d : Disk)
+        → KeepsShown d → number < 2 ^ 64 → Shows d current_name (current_text number)
+        → Shows d (manifest_name number) bytes → ComesTo bytes v
+        → ((file : TableFile) (image : List ℕ) → Has (all_files v.levels) file
+        → Shows d (table_name file.number) image
+        → C.contents folder (table_name file.number) ≡ image)
+        → KeepsTables (λ n image.
+        image ≡ fitted (length image) (C.contents folder (table_name n))) v }
 {}
 
 /// The first manifest in a folder without `CURRENT`: a crash in any of its calls leaves no
