@@ -9,6 +9,8 @@ use Rattle.lsm_manifest.specs.FileOrder.{TableFile}
 use Rattle.lsm_manifest.specs.Shape.{IsShape}
 use Rattle.lsm_manifest.proofs.CallerLemmas.{replayed_shape}
 use Rattle.lsm_verify.specs.Loading.{all_files}
+use Rattle.lsm_journal.specs.HeldManifest.{HeldManifest}
+use Rattle.lsm_journal.specs.Recovering.{IsRecovered}
 use Rattle.lsm_admission.specs.Keeping.{KeepsTables}
 use Rattle.lsm_crash.specs.Disk.{Disk, Shows, set}
 use Rattle.lsm_crash.specs.Crash.{Found, IsLeft}
@@ -80,6 +82,10 @@ phase_shown (Unsure known) d i k = held_shown d known i k
 pub phase_found : (p : Phase) (d : Disk) (found : Found) → IsPhase p d → IsKeptPhase p → IsLeft d found → KeepsFound found
 phase_found (Sure w) d found i k = left_found d (known_of w) found (settled_held d w i) (only w.version (λ v. IsKept (IsCounted w.tables) v) k)
 phase_found (Unsure known) d found i k = left_found d known found i k
+
+-- what was read of a manifest is what it comes to
+pub recovered_comes : (h : HeldManifest) (shape : Version) (rest : ℕ) → IsRecovered h shape rest → ComesTo h.bytes shape
+recovered_comes h shape rest r = record { edits = r.edits; rest = rest; manifest = r.manifest; replayed = r.replayed }
 
 -- a shelf that keeps nothing else of the files' numbers and sizes
 pub shelf_kept : (Keeps : ℕ → List ℕ → Type 0) (d : Disk) (v : Version) → IsKept (λ n image. Shows d (table_name n) image) v

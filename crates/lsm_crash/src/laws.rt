@@ -24,6 +24,8 @@ ghost use Rattle.lsm_manifest.specs.LogWriting.{record_text};
 ghost use Rattle.lsm_manifest.specs.Shape.{IsShape};
 ghost use Rattle.lsm_manifest.specs.WholeEdit.{whole_edit};
 ghost use Rattle.lsm_verify.specs.Loading.{all_files};
+ghost use Rattle.lsm_journal.specs.HeldManifest.{HeldManifest};
+ghost use Rattle.lsm_journal.specs.Recovering.{IsRecovered};
 ghost use Rattle.lsm_crash.specs.Disk.{After, Disk, Leaves, Names, Shows, Step};
 ghost use Rattle.lsm_crash.specs.Disk.{empty_disk};
 ghost use Rattle.lsm_crash.specs.Crash.{Found, IsFresh, IsLeft, IsSpoilt, MayFind};
@@ -161,15 +163,23 @@ pub fn what_is_shown_is_kept()
 
 /// So the premise of an opening that reads no table is met by a shelf that keeps, under the numbers
 /// of the files of the manifest that `CURRENT` shows, no image of a file's size but the one that
-/// the folder shows.
+/// the folder shows (`comes`); also in the words of that opening, of the manifest that was read
+/// (`recovered`).
 pub fn shelves_keep_what_is_shown<N: Naming, S: Finding>()
-    ensures { (number : ℕ) (bytes : List ℕ) (v : Version) (d : Disk) → KeepsShown d
+    ensures comes { (number : ℕ) (bytes : List ℕ) (v : Version) (d : Disk) → KeepsShown d
         → number < 2 ^ 64 → Shows d current_name (current_text number)
         → Shows d (manifest_name number) bytes → ComesTo bytes v
         → ((file : TableFile) (image : List ℕ) → Has (all_files v.levels) file
         → length image ≡ file.size → S.keeps N.place file.number image
         → Shows d (table_name file.number) image)
         → KeepsTables (S.keeps N.place) v }
+    ensures recovered { (h : HeldManifest) (shape : Version) (rest : ℕ) (d : Disk) → KeepsShown d
+        → h.number < 2 ^ 64 → Shows d current_name (current_text h.number)
+        → Shows d (manifest_name h.number) h.bytes → IsRecovered h shape rest
+        → ((file : TableFile) (image : List ℕ) → Has (all_files shape.levels) file
+        → length image ≡ file.size → S.keeps N.place file.number image
+        → Shows d (table_name file.number) image)
+        → KeepsTables (S.keeps N.place) shape }
 {}
 
 /// Such a shelf is that on a folder of the system with the program's witness, `Mute<C>`, for each
