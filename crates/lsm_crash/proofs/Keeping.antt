@@ -55,7 +55,7 @@ levels_fewer K L (fs ∷ shape) (ts ∷ found) fewer a = (
   levels_fewer K L shape found (λ file image h. fewer file image (has_right fs (all_files shape) file h)) a.1,
 )
 
-found_fewer : (K L : ℕ → List ℕ → Type 0) (v : Version) (u : Levels) → Fewer K L (all_files v.levels) → IsFoundFrom K v u → IsFoundFrom L v u
+pub found_fewer : (K L : ℕ → List ℕ → Type 0) (v : Version) (u : Levels) → Fewer K L (all_files v.levels) → IsFoundFrom K v u → IsFoundFrom L v u
 found_fewer K L v u fewer f = record {
   tables = record {
     numbers = f.tables.numbers;
@@ -137,7 +137,7 @@ module _ (v : Levels) (s : Version) (sound : IsSound v) (whole : IsShape s) (d :
         subst (IsImageOf s.last file) (sym same) (its_image at.0 at.1 file at.2 at.3)
 
     -- what is found for the files is the version's
-    found_file : (u : Levels) → IsFoundFrom Lies s u → (F : File) → Has (files u) F → Has (files v) F
+    pub found_file : (u : Levels) → IsFoundFrom Lies s u → (F : File) → Has (files u) F → Has (files v) F
     found_file u f F h =
         let at = file_in 0 u.tables F h in
         let level = at.0 in

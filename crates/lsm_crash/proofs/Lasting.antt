@@ -96,15 +96,14 @@ fitted_whole : (image bytes : List ℕ) → image ≡ fitted (length image) byte
 fitted_whole image bytes is size = sym (is ∙ take_at bytes (replicate (length image) 0) (length image) (sym size))
 
 -- contents that name what is shown
-pub contents_kept : (contents : List ℕ → List ℕ) (d : Disk) (v : Version) → IsKept (λ n image. Shows d (table_name n) image) v
+pub contents_shown : (contents : List ℕ → List ℕ) (d : Disk) (v : Version) → IsKept (λ n image. Shows d (table_name n) image) v
     → ((file : TableFile) (image : List ℕ) → Has (all_files v.levels) file → Shows d (table_name file.number) image → contents (table_name file.number) ≡ image)
-    → KeepsTables (λ n image. image ≡ fitted (length image) (contents (table_name n))) v
-contents_kept contents d v k named = shelf_kept (λ n image. image ≡ fitted (length image) (contents (table_name n))) d v k
-    (λ file image h size is.
+    → (file : TableFile) (image : List ℕ) → Has (all_files v.levels) file → length image ≡ file.size → image ≡ fitted (length image) (contents (table_name file.number)) → Shows d (table_name file.number) image
+contents_shown contents d v k named file image h size is =
     let own = k.there file h in
     let same : contents (table_name file.number) ≡ own.0 = named file own.0 h own.1 in
     let whole : length image ≡ length own.0 = size ∙ sym (k.sizes file own.0 h own.1) in
-    subst (Shows d (table_name file.number)) (fitted_whole image own.0 (is ∙ ap (fitted (length image)) same) whole) own.1)
+    subst (Shows d (table_name file.number)) (fitted_whole image own.0 (is ∙ ap (fitted (length image)) same) whole) own.1
 
 -- ---- tables that come and go
 

@@ -36,4 +36,5 @@ mod Reopening
 mod Keeping
 mod Lasting
 mod Shown
+mod Quick
 mod Examples

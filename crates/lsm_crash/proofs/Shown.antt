@@ -1,5 +1,5 @@
 -- What a database keeps of the version that its folder shows.
-use Rattle.std.proofs.Common.{◌≡◌, ℕ, List, [], ◌∷◌, length, map, refl, sym, ◌∙◌, subst, inl, inr, Some, None}
+use Rattle.std.proofs.Common.{◌≡◌, ℕ, ◌<◌, ◌^◌, List, [], ◌∷◌, length, map, refl, sym, ◌∙◌, subst, inl, inr, Some, None}
 use Rattle.std.specs.Prelude.{Option}
 use Rattle.atomic_table.specs.Seated.{TableId}
 use Rattle.lsm_codec.proofs.CallerLemmas.{flat_has}
@@ -35,13 +35,17 @@ use Rattle.lsm_crash.proofs.Lives.{ages_sound, from_nothing}
 use Rattle.lsm_crash.proofs.Keeping.{counted_kept, shape_of, version_kept}
 use Rattle.lsm_crash.proofs.Lasting.{held_shown, left_found}
 
+-- the manifest that is shown comes to one shape
+pub shown_shape : (v : Levels) (d : Disk) (s : Shown v d) (number : ℕ) (bytes : List ℕ) (x : Version) → number < 2 ^ 64 → Shows d current_name (current_text number) → Shows d (manifest_name number) bytes → ComesTo bytes x → s.shape ≡ x
+shown_shape v d s number bytes x small current its comes =
+    let same_number : s.manifest ≡ number = texts_apart s.manifest number s.small small (shows_one d current_name (current_text s.manifest) (current_text number) s.current current) in
+    let same_bytes : s.bytes ≡ bytes = shows_one d (manifest_name s.manifest) s.bytes bytes s.its (subst (λ n. Shows d (manifest_name n) bytes) (sym same_number) its) in
+    one_version bytes s.shape x (subst (λ b. ComesTo b s.shape) same_bytes s.comes) comes
+
 -- a sound version that the folder shows
 pub sound_shown : (v : Levels) (d : Disk) → IsSound v → Shown v d → KeepsShown d
 sound_shown v d sound s number bytes x small current its comes =
-    let same_number : s.manifest ≡ number = texts_apart s.manifest number s.small small (shows_one d current_name (current_text s.manifest) (current_text number) s.current current) in
-    let same_bytes : s.bytes ≡ bytes = shows_one d (manifest_name s.manifest) s.bytes bytes s.its (subst (λ n. Shows d (manifest_name n) bytes) (sym same_number) its) in
-    let same : s.shape ≡ x = one_version bytes s.shape x (subst (λ b. ComesTo b s.shape) same_bytes s.comes) comes in
-    subst (λ y. IsKept (λ n image. Shows d (table_name n) image) y) same
+    subst (λ y. IsKept (λ n image. Shows d (table_name n) image) y) (shown_shape v d s number bytes x small current its comes)
     (version_kept v s.shape sound (shape_of s.bytes s.shape s.comes) s.describes (λ n image. Shows d (table_name n) image)
     (λ level t image h k. shows_one d (table_name t.number) image t.image k (s.tables level t h)) s.tables)
 

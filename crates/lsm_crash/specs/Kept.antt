@@ -5,6 +5,7 @@ use Rattle.lsm_codec.specs.Lists.{Has}
 use Rattle.lsm_storage.specs.FileNames.{table_name, manifest_name, current_text}
 use Rattle.lsm_manifest.specs.FileOrder.{TableFile}
 use Rattle.lsm_verify.specs.Loading.{all_files}
+use Rattle.lsm_journal.specs.HeldManifest.{HeldManifest}
 use Rattle.lsm_admission.specs.Keeping.{KeepsTables}
 use Rattle.lsm_crash.specs.Disk.{Disk, Shows}
 use Rattle.lsm_crash.specs.Crash.{Found}
@@ -39,6 +40,17 @@ KeepsFound found = (number : ℕ) (bytes : List ℕ) (v : Version) → number < 
     → found current_name ≡ Some (current_text number)
     → found (manifest_name number) ≡ Some bytes
     → ComesTo bytes v → IsKept (λ n image. found (table_name n) ≡ Some image) v
+
+-- What an opening that reads no table was given is what the folder shows: the manifest that was
+-- read is the one that `CURRENT` names, and of the number and the size of a file of its shape the
+-- shelf keeps no other image than the folder shows.
+pub record FindsShown (Keeps : ℕ → List ℕ → Type 0) (h : HeldManifest) (shape : Version)
+    (d : Disk) : Type 0 where
+  pub current : Shows d current_name (current_text h.number)
+  pub manifest : Shows d (manifest_name h.number) h.bytes
+  pub images : (file : TableFile) (image : List ℕ) → Has (all_files shape.levels) file
+      → length image ≡ file.size → Keeps file.number image
+      → Shows d (table_name file.number) image
 
 -- ---- what is counted on
 

@@ -40,7 +40,8 @@ ghost use Rattle.lsm_crash.specs.Operations.{Start, after, either, plan_of, star
 ghost use Rattle.lsm_crash.specs.Among.{Cleans, CutAmong, CutDropping, CutOf, DoneAmong};
 ghost use Rattle.lsm_crash.specs.Among.{DoneDropping, DoneOf, Event, Goes, IsAside, IsGap, Spares};
 ghost use Rattle.lsm_crash.specs.History.{History, IsPhase, IsRead, Move, Phase};
-ghost use Rattle.lsm_crash.specs.Kept.{AreKept, IsKeptPhase, KeepsAll, KeepsFound, KeepsShown};
+ghost use Rattle.lsm_crash.specs.Kept.{AreKept, FindsShown, IsKeptPhase, KeepsAll, KeepsFound};
+ghost use Rattle.lsm_crash.specs.Kept.{KeepsShown};
 
 use lsm_finding::Finding;
 use lsm_folder::Contents;
@@ -161,24 +162,13 @@ pub fn what_is_shown_is_kept()
         × ((found : Found) → IsLeft e found → KeepsFound found) }
 {}
 
-/// So the premise of an opening that reads no table is met by a shelf that keeps, under the numbers
-/// of the files of the manifest that `CURRENT` shows, no image of a file's size but the one that
-/// the folder shows (`comes`); also in the words of that opening, of the manifest that was read
-/// (`recovered`).
+/// So the premise of an opening that reads no table is met, where the manifest that was read is the
+/// one that `CURRENT` shows, by a shelf that keeps, under the numbers of its files, no image of a
+/// file's size but the one that the folder shows.
 pub fn shelves_keep_what_is_shown<N: Naming, S: Finding>()
-    ensures comes { (number : ℕ) (bytes : List ℕ) (v : Version) (d : Disk) → KeepsShown d
-        → number < 2 ^ 64 → Shows d current_name (current_text number)
-        → Shows d (manifest_name number) bytes → ComesTo bytes v
-        → ((file : TableFile) (image : List ℕ) → Has (all_files v.levels) file
-        → length image ≡ file.size → S.keeps N.place file.number image
-        → Shows d (table_name file.number) image)
-        → KeepsTables (S.keeps N.place) v }
-    ensures recovered { (h : HeldManifest) (shape : Version) (rest : ℕ) (d : Disk) → KeepsShown d
-        → h.number < 2 ^ 64 → Shows d current_name (current_text h.number)
-        → Shows d (manifest_name h.number) h.bytes → IsRecovered h shape rest
-        → ((file : TableFile) (image : List ℕ) → Has (all_files shape.levels) file
-        → length image ≡ file.size → S.keeps N.place file.number image
-        → Shows d (table_name file.number) image)
+    ensures { (h : HeldManifest) (shape : Version) (rest : ℕ) (d : Disk) → KeepsShown d
+        → h.number < 2 ^ 64 → IsRecovered h shape rest
+        → FindsShown (S.keeps N.place) h shape d
         → KeepsTables (S.keeps N.place) shape }
 {}
 
@@ -186,14 +176,15 @@ pub fn shelves_keep_what_is_shown<N: Naming, S: Finding>()
 /// `C` that names what the folder shows of these files. What the witness says that a file holds is
 /// what `C` names, cut or filled to the length.
 pub fn contents_keep_what_is_shown<C: Contents>()
-    ensures { (folder : List ℕ) (number : ℕ) (bytes : List ℕ) (v : Version) (d : Disk)
-        → KeepsShown d → number < 2 ^ 64 → Shows d current_name (current_text number)
-        → Shows d (manifest_name number) bytes → ComesTo bytes v
-        → ((file : TableFile) (image : List ℕ) → Has (all_files v.levels) file
+    ensures { (folder : List ℕ) (h : HeldManifest) (shape : Version) (rest : ℕ) (d : Disk)
+        → KeepsShown d → h.number < 2 ^ 64 → IsRecovered h shape rest
+        → Shows d current_name (current_text h.number)
+        → Shows d (manifest_name h.number) h.bytes
+        → ((file : TableFile) (image : List ℕ) → Has (all_files shape.levels) file
         → Shows d (table_name file.number) image
         → C.contents folder (table_name file.number) ≡ image)
-        → KeepsTables (λ n image.
-        image ≡ fitted (length image) (C.contents folder (table_name n))) v }
+        → FindsShown (λ n image.
+        image ≡ fitted (length image) (C.contents folder (table_name n))) h shape d }
 {}
 
 /// The first manifest in a folder without `CURRENT`: a crash in any of its calls leaves no

@@ -5,7 +5,7 @@ ghost use Rattle.std.specs.Prelude.{◌≡◌, ◌⊎◌, ◌↔◌, ◌++◌, �
 ghost use Rattle.std.specs.Prelude.{◌∷◌, Option, Some};
 ghost use Rattle.std.specs.Prelude.{false, length, map};
 ghost use Rattle.atomic_table.specs.Seated.{TableId};
-ghost use Rattle.lsm_codec.specs.Entries.{Entry};
+ghost use Rattle.lsm_codec.specs.Entries.{Entry, answer};
 ghost use Rattle.lsm_codec.specs.Lists.{Has};
 ghost use Rattle.lsm_model.specs.Files.{File};
 ghost use Rattle.lsm_model.specs.Plain as machine;
@@ -47,7 +47,10 @@ ghost use Rattle.lsm_crash.specs.Database.{Builds, Collect, Gather, Install, IsD
 ghost use Rattle.lsm_crash.specs.Database.{AllDone, AllFail, Stays, operations};
 ghost use Rattle.lsm_crash.specs.Lives.{Ages, AllLeave, Answers, FromNothing, Life};
 ghost use Rattle.lsm_crash.specs.Lives.{SmallAges, Struck, Worked, brought};
-ghost use Rattle.lsm_crash.specs.Kept.{IsCounted, IsKept, KeepsEach, KeepsFound, KeepsShown};
+ghost use Rattle.lsm_crash.specs.Kept.{FindsShown, IsCounted, IsKept, KeepsEach, KeepsFound};
+ghost use Rattle.lsm_crash.specs.Kept.{KeepsShown};
+ghost use Rattle.lsm_admission.specs.Answered.{IsAnswered};
+ghost use Rattle.lsm_admission.specs.Keeping.{KeepsTables};
 ghost use Rattle.lsm_crash.specs.Versions.{ComesTo, Tables, Version};
 ghost use Rattle.lsm_journal.specs.HeldManifest.{HeldManifest};
 ghost use Rattle.lsm_journal.specs.Recorded.{IsRecorded};
@@ -57,6 +60,7 @@ ghost use Rattle.lsm_state.specs.Opening.{IsOpenRefusal};
 ghost use Rattle.lsm_crash.specs.Refusing.{IsNotWhatWasFound, IsWantOrDevice, ReadsShown};
 ghost use Rattle.lsm_version.specs.Versions.{IsSound, Levels, files, no_levels};
 
+use lsm_finding::Finding;
 use lsm_model::machine::{Premise, runs_read_all_that_came};
 use lsm_table::{Naming, Shelf};
 use lsm_verify::shapes_in_order;
@@ -347,6 +351,33 @@ pub fn databases_keep_what_they_show<P: Premise>()
         → Ages P.holds lives w d u e → KeepsShown e }
     ensures new { (tries : List Held) (lives : List Life) (d e : Disk) (o : Option World)
         → P.holds → IsVacant d → FromNothing P.holds tries lives d o e → KeepsShown e }
+{
+    changed_tables();
+    runs_read_all_that_came::<P>();
+}
+
+/// So what a user key answers without a judgment of the tables is what all that came in answers.
+/// Where a database was used in any lives, over an honest shelf, and a key was read by an opening
+/// that reads no table, of what the folder shows then (`FindsShown`), over an honest shelf
+/// (`IsAnswered`, as `get_unjudged` of `lsm_admission` says of its answer): the answer is that of
+/// every ingest that was answered Ok in any of these lives, and of one that a crash cut, whole or
+/// not at all. No premise is over what the tables are.
+pub fn quick_answers_give_what_came_in<P: Premise, N: Naming, S: Finding>()
+    ensures lives { (lives : List Life) (v : Levels) (es : List Entry) (w u : World) (d e : Disk)
+        (shape : Version) (user : List ℕ) (a : Option (List ℕ)) (was is : Told)
+        → P.holds → S.honest → IsSettled d w → Shown v d → length v.tables ≡ 7 → Answers v es
+        → IsSound v → Ages P.holds lives w d u e
+        → (q : IsAnswered (S.keeps N.place) (S.honest × KeepsTables (S.keeps N.place) shape) shape
+        user a was is) → FindsShown (S.keeps N.place) q.held shape e
+        → (x : Levels) × (fs : List Entry) × AllLeave lives v es x fs
+        × (a ≡ answer fs user x.last) }
+    ensures new { (tries : List Held) (lives : List Life) (d e : Disk) (o : Option World)
+        (shape : Version) (user : List ℕ) (a : Option (List ℕ)) (was is : Told)
+        → P.holds → S.honest → IsVacant d → FromNothing P.holds tries lives d o e
+        → (q : IsAnswered (S.keeps N.place) (S.honest × KeepsTables (S.keeps N.place) shape) shape
+        user a was is) → FindsShown (S.keeps N.place) q.held shape e
+        → (x : Levels) × (fs : List Entry) × AllLeave lives no_levels [] x fs
+        × (a ≡ answer fs user x.last) }
 {
     changed_tables();
     runs_read_all_that_came::<P>();
