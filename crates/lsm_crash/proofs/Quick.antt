@@ -5,10 +5,9 @@ use Rattle.std.specs.List.{filter}
 use Rattle.lsm_codec.specs.Entries.{Entry, answer}
 use Rattle.lsm_codec.specs.Lists.{Has}
 use Rattle.lsm_codec.proofs.CallerLemmas.{has_filter, has_left, has_right}
-use Rattle.lsm_storage.specs.FileNames.{table_name, manifest_name, current_text}
+use Rattle.lsm_storage.specs.FileNames.{table_name}
 use Rattle.lsm_shelf.specs.Told.{Told}
 use Rattle.lsm_manifest.specs.FileOrder.{TableFile}
-use Rattle.lsm_manifest.specs.Shape.{IsShape}
 use Rattle.lsm_table.specs.Registry.{Table}
 use Rattle.lsm_model.specs.Files.{File, all_entries}
 use Rattle.lsm_version.specs.Changes.{placed_all, placed_in}
@@ -24,7 +23,7 @@ use Rattle.lsm_crash.specs.Versions.{ComesTo, Version}
 use Rattle.lsm_crash.specs.Known.{IsVacant, current_name}
 use Rattle.lsm_crash.specs.States.{Describes, Shown}
 use Rattle.lsm_crash.specs.Lives.{Answers}
-use Rattle.lsm_crash.specs.Kept.{FindsShown, IsKept}
+use Rattle.lsm_crash.specs.Kept.{FindsShown}
 use Rattle.lsm_crash.proofs.Found.{same_file}
 use Rattle.lsm_crash.proofs.Opening.{shows_one}
 use Rattle.lsm_crash.proofs.Answering.{same_answers}
