@@ -105,6 +105,14 @@ contents_shown contents d v k named file image h size is =
     let whole : length image ≡ length own.0 = size ∙ sym (k.sizes file own.0 h own.1) in
     subst (Shows d (table_name file.number)) (fitted_whole image own.0 (is ∙ ap (fitted (length image)) same) whole) own.1
 
+-- images that are those that are shown
+pub images_shown : (images : ℕ → List ℕ) (d : Disk) (v : Version) → IsKept (λ n image. Shows d (table_name n) image) v
+    → ((file : TableFile) (image : List ℕ) → Has (all_files v.levels) file → Shows d (table_name file.number) image → images file.number ≡ image)
+    → (file : TableFile) (image : List ℕ) → Has (all_files v.levels) file → image ≡ images file.number → Shows d (table_name file.number) image
+images_shown images d v k named file image h is =
+    let own = k.there file h in
+    subst (Shows d (table_name file.number)) (sym (is ∙ named file own.0 h own.1)) own.1
+
 -- ---- tables that come and go
 
 -- the first ones are among the second ones

@@ -18,6 +18,7 @@ ghost use Rattle.lsm_storage.specs.Plans.{remove_plan, start_plan};
 ghost use Rattle.lsm_shelf.specs.declared.shelf_fault.ShelfFault.{ShelfFault};
 ghost use Rattle.lsm_shelf.specs.declared.shelf_fault.ShelfFault.TheVariants.{OutOfMemory};
 ghost use Rattle.lsm_admission.specs.Keeping.{KeepsTables};
+ghost use Rattle.lsm_admission.specs.KnownAnswers.{KnownImage};
 ghost use Rattle.lsm_manifest.specs.Edit.{IsEdit};
 ghost use Rattle.lsm_manifest.specs.FileOrder.{TableFile};
 ghost use Rattle.lsm_manifest.specs.LogWriting.{record_text};
@@ -43,6 +44,7 @@ ghost use Rattle.lsm_crash.specs.History.{History, IsPhase, IsRead, Move, Phase}
 ghost use Rattle.lsm_crash.specs.Kept.{AreKept, FindsShown, IsKeptPhase, KeepsAll, KeepsFound};
 ghost use Rattle.lsm_crash.specs.Kept.{KeepsShown};
 
+use lsm_admission::KnownTables;
 use lsm_finding::Finding;
 use lsm_folder::Contents;
 use lsm_table::Naming;
@@ -185,6 +187,18 @@ pub fn contents_keep_what_is_shown<C: Contents>()
         → C.contents folder (table_name file.number) ≡ image)
         → FindsShown (λ n image.
         image ≡ fitted (length image) (C.contents folder (table_name n))) h shape d }
+{}
+
+/// And so is one whose tables a program knows (`Known<K>` of `lsm_admission`, which is honest), where
+/// it knows what the folder shows of these files.
+pub fn known_tables_keep_what_is_shown<K: KnownTables>()
+    ensures { (h : HeldManifest) (shape : Version) (rest : ℕ) (d : Disk) → KeepsShown d
+        → h.number < 2 ^ 64 → IsRecovered h shape rest
+        → Shows d current_name (current_text h.number)
+        → Shows d (manifest_name h.number) h.bytes
+        → ((file : TableFile) (image : List ℕ) → Has (all_files shape.levels) file
+        → Shows d (table_name file.number) image → K.images file.number ≡ image)
+        → FindsShown (KnownImage K.images) h shape d }
 {}
 
 /// The first manifest in a folder without `CURRENT`: a crash in any of its calls leaves no
