@@ -153,11 +153,13 @@ module _ (law : TablesChange) (honest : Type 0) (board : TableId) (fair : honest
       let k = cut_known law honest board now new deed u known m e l i o c in
       let own : Describes u.version now.slots.version = describes honest board now u l.0 o i.comes in
       let its : Describes c.0 new.slots.version = new_describes honest board new c.0 c.2 c.5 in
-      let later = deed_sound now new deed c.1 u l c.2 c.3 c.4 sound in
-      (k.0, λ s at. elim (k.1.each s at) [
-        | inl was ↦ subst (λ y. IsKept (IsCounted known.tables) y) (sym was.0) (counted_kept now.slots.version u.bytes u.version known.tables sound i.comes own was.1)
-        | inr is ↦ subst (λ y. IsKept (IsCounted known.tables) y) (sym is.0) (counted_kept new.slots.version new.journal.bytes c.0 known.tables later c.5 its is.1)
-      ])
+      let later = deed_sound now new deed c.1 u l c.2 c.3 c.4 sound in (
+        k.0,
+        λ s at. elim (k.1.each s at) [
+          | inl was ↦ subst (λ y. IsKept (IsCounted known.tables) y) (sym was.0) (counted_kept now.slots.version u.bytes u.version known.tables sound i.comes own was.1)
+          | inr is ↦ subst (λ y. IsKept (IsCounted known.tables) y) (sym is.0) (counted_kept new.slots.version new.journal.bytes c.0 known.tables later c.5 its is.1)
+        ],
+      )
 
   pub cut_shown : (turns : List Turn) (old now new : Held) (deed : Deed) (w u : World) (known : Known) (d mid e : Disk) → IsState honest board old → IsSound old.slots.version → IsSettled d w → IsWorldOf old w → Works honest board old now turns w u d mid
       → IsCut honest board now new deed u known mid e → KeepsShown e × ((found : Found) → IsLeft e found → KeepsFound found)
