@@ -7,7 +7,8 @@
 # bit of a table or a log flipped, or an end cut off: each is refused, and its files are as they were;
 # or it has the same pairs; or those that LevelDB reads of it, behind bytes that are told as the rest.
 # And KILLS (100) times a recovery is killed at any moment: LevelDB reads the same pairs, and the next
-# recovery is done. Words name kinds (none: all). SEED draws. Prints a line each, and stops at the first
+# recovery is done. Then LIVES (100) folders change hands between LevelDB and commands with --recover
+# (lives.py). Words name kinds (none: all). SEED draws. Prints a line each, and stops at the first
 # that is otherwise. Needs g++, libleveldb-dev, python3; LSM=/path/to/lsm names a program.
 set -euo pipefail
 here=$(cd "$(dirname "$0")" && pwd)
@@ -21,3 +22,5 @@ sed -e "s/options.env = env;/&\n  options.compression = leveldb::kNoCompression;
     -e "s/^  options.filter_policy = .*/&\n  $reuse/" "$here/../import/folders.cc" > "$work/folders.cc"
 g++ -O2 -Wall -o "$work/leveldb" "$work/folders.cc" -lleveldb
 python3 "$here/recover.py" "$lsm" "$work/leveldb" "$work" "$seed" "${FLIPS:-200}" "${KILLS:-100}" "$@"
+g++ -std=c++17 -O2 -Wall -o "$work/lives" "$here/lives.cc" -lleveldb
+python3 "$here/lives.py" "$lsm" "$work/lives" "$work" "$seed" "${LIVES:-100}"

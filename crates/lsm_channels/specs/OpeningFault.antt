@@ -56,14 +56,12 @@ number_of_source (source.Manifest fault) = recover.number_of fault
 number_of_source (source.UnreadLog number fault) = shelf.number_of fault
 number_of_source (source.BadLog number fault) = log.number_of fault
 
--- No line is written here.
 abbrev pub number_of_logs : BringFault → ℕ
 number_of_logs bring.OutOfMemory = 1
 number_of_logs (bring.Folder fault) = number_of_folder fault
 number_of_logs (bring.Read fault) = number_of_source fault
 number_of_logs (bring.Bring fault) = import.number_of fault
 number_of_logs (bring.Tables fault) = check.number_of fault
-number_of_logs bring.Write = 1
 
 abbrev pub number_of : OpeningFault → ℕ
 number_of BadOpening = 201
@@ -111,7 +109,6 @@ name_of_logs (bring.Folder fault) = name_of_folder fault
 name_of_logs (bring.Read fault) = name_of_source fault
 name_of_logs (bring.Bring fault) = import.name_of fault
 name_of_logs (bring.Tables fault) = check.name_of fault
-name_of_logs bring.Write = codes "OutOfMemory"
 
 abbrev pub name_of : OpeningFault → List ℕ
 name_of BadOpening = codes "BadOpening"

@@ -90,8 +90,7 @@ fn of_logs(fault: &BringFault) -> (u8, &'static str)
         BringFault::Read(fault) => of_source(fault),
         BringFault::Bring(fault) => (fault.number(), fault.name()),
         BringFault::Tables(fault) => (fault.number(), fault.name()),
-        // No line is written here.
-        BringFault::OutOfMemory | BringFault::Write => (1, "OutOfMemory"),
+        BringFault::OutOfMemory => (1, "OutOfMemory"),
     }
 }
 

@@ -18,8 +18,12 @@ use Rattle.lsm_requests.specs.declared.ingest_options.IngestOptions.{IngestOptio
 use Rattle.lsm_recovery.specs.Recovered.{FailsOn, RecoversOn}
 use Rattle.lsm_recovery.specs.declared.bring_fault.BringFault.{BringFault}
 use Rattle.lsm_recovery.specs.declared.bring_fault.BringFault.TheVariants.{OutOfMemory, Folder}
-use Rattle.lsm_recovery.specs.declared.bring_fault.BringFault.TheVariants.{Write as WriteFault}
 use Rattle.lsm_recovery.specs.declared.brought.Brought.{Brought}
+use Rattle.lsm_cmd_recover.specs.declared.recover_fault.RecoverFault.{RecoverFault}
+use Rattle.lsm_cmd_recover.specs.declared.recover_fault.RecoverFault.TheVariants.{Logs}
+use Rattle.lsm_cmd_recover.specs.declared.recover_fault.RecoverFault.TheVariants.{
+  Write as WriteFault,
+}
 
 -- `logs L entries E rest B`
 abbrev pub brought_text : Brought → List ℕ
@@ -79,10 +83,9 @@ module _ {C M : Type 0} (folders : Ghosts C M) (marks : mark.Ghosts M) where
 
   -- So it was, and nothing was written on the output; or they came in, and the line of it was not
   -- written.
-  abbrev pub FailsToRecover : List ℕ → BringFault → (old new : Option (List ℕ)) → Type 0
-  FailsToRecover path fault old new =
-      (Keeps old new × IsNotRecovered plainly path fault)
-      ⊎ ((fault ≡ WriteFault) × ((brought : Brought) × RecoversTo plainly path brought))
+  abbrev pub FailsToRecover : List ℕ → RecoverFault → (old new : Option (List ℕ)) → Type 0
+  FailsToRecover path (Logs fault) old new = Keeps old new × IsNotRecovered plainly path fault
+  FailsToRecover path WriteFault old new = (brought : Brought) × RecoversTo plainly path brought
 
   -- ---- before another command
 

@@ -5,8 +5,10 @@ ghost use Rattle.std.specs.Io.KnownBytes.{Keeps};
 ghost use Rattle.lsm_opening.specs.Preparing.{plainly};
 ghost use Rattle.lsm_cmd_recover.specs.Recovered.{ComesFirst, FailsFirst, FailsToRecover, IsReady};
 ghost use Rattle.lsm_cmd_recover.specs.Recovered.{IsUnready, RecoversAt, seeing_logs};
+ghost use Rattle.lsm_cmd_recover.specs.declared.recover_fault.RecoverFault.{RecoverFault};
 ghost use Rattle.lsm_recovery.specs.declared.bring_fault.BringFault.{BringFault};
 
+use crate::recover_fault::RecoverFault;
 use crate::reply::reply;
 use lsm_directory::{Known, Paths, open_at, refuse, status_of};
 use lsm_folder::{FolderCalls, Reasons};
@@ -49,7 +51,7 @@ fn recover_at<C: FolderCalls + Send + Sync, P: Paths<C>, R: Wait, O: Write>(
     path: &str,
     reasons: &Reasons,
     out: &mut O,
-) -> Result<(), BringFault>
+) -> Result<(), RecoverFault>
 where
     C::Mark: Send + Sync,
     ensures done { OnOk result (RecoversAt C.FolderCalls C.Mark.Mark path.now (O.contents out.old)
@@ -60,11 +62,11 @@ where
     let (mut folder, prepared) = open_folder(rt, paths, path, plainly(), reasons)?;
     let brought = match recover_on(rt, paths.alloc(), &mut folder, &prepared.logs) {
         Ok(brought) => brought,
-        Err(fault) => return Err(fault),
+        Err(fault) => return Err(RecoverFault::Logs(fault)),
     };
     match reply(out, brought) {
         Ok(()) => Ok(()),
-        Err(_) => Err(BringFault::Write),
+        Err(_) => Err(RecoverFault::Write),
     }
 }
 
@@ -125,14 +127,14 @@ where
     C::Mark: Send + Sync,
     ensures done { result ≡ 0 → RecoversAt C.FolderCalls C.Mark.Mark path.now (O.contents out.old)
         (O.contents out.new) }
-    ensures refused { result ≢ 0 → (result ≡ 1) × ((fault : BringFault)
+    ensures refused { result ≢ 0 → (result ≡ 1) × ((fault : RecoverFault)
         × FailsToRecover C.FolderCalls C.Mark.Mark path.now fault (O.contents out.old)
         (O.contents out.new)) }
     ensures quiet { result ≡ 0 → Keeps (E.contents err.old) (E.contents err.new) }
 {
     let reasons = match Reasons::new(paths.alloc()) {
         Ok(reasons) => reasons,
-        Err(_) => return refuse(BringFault::OutOfMemory, err),
+        Err(_) => return refuse(RecoverFault::Logs(BringFault::OutOfMemory), err),
     };
     let done = recover_at(rt, paths, path, &reasons, out);
     status_of(done, Known::answered(Some(&reasons)), err)

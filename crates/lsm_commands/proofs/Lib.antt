@@ -1,1 +1,2 @@
 mod StatusLaws
+mod ComparedLaws

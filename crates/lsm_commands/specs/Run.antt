@@ -2,19 +2,22 @@
 -- relation for what status 0 means, and one for what status 1 does. Those of a command on a folder
 -- are about a folder that was opened at the path of its words, and the calls on it, and about
 -- shelves on its place; that such a shelf is the run's own is to be read.
-use Rattle.std.specs.Prelude.{◌⊎◌, ℕ, IsFalse, List, [], ◌∷◌, Option, ⊤}
+use Rattle.std.specs.Prelude.{◌≡◌, ◌⊎◌, ℕ, IsFalse, Bool, true, ⊤}
+use Rattle.std.specs.Prelude.{List, [], ◌∷◌, Option, Some, None}
 use Rattle.std.specs.Io.KnownBytes.{Appends, Keeps}
 use Rattle.clap.specs.Words.{Text}
 use Rattle.lsm_folder.specs.declared.folder_calls.FolderCalls.{Ghosts}
 use Rattle.lsm_folder.specs.declared.mark.Mark as mark
 use Rattle.lsm_shelf.specs.Place.{Place}
 use Rattle.lsm_text.specs.Printing.{Begins}
-use Rattle.lsm_grammar.specs.Requests.{AskHelp, AskNothing, Asks, HaveUsageFault}
+use Rattle.lsm_grammar.specs.Requests.{AskHelp, AskNothing, Asks, HaveUsageFault, manner_of}
 use Rattle.lsm_requests.specs.declared.input.Input.{Input}
 use Rattle.lsm_requests.specs.declared.input.Input.TheVariants.{Standard}
+use Rattle.lsm_grammar.specs.declared.manner.Manner.{Manner}
 use Rattle.lsm_grammar.specs.declared.request.Request.{Request}
 use Rattle.lsm_grammar.specs.declared.request.Request.TheVariants.{Convert, Look, Levels}
-use Rattle.lsm_grammar.specs.declared.request.Request.TheVariants.{Write as WriteFolder, Load, Compact}
+use Rattle.lsm_grammar.specs.declared.request.Request.TheVariants.{Write as WriteFolder, Load}
+use Rattle.lsm_grammar.specs.declared.request.Request.TheVariants.{Compact}
 use Rattle.lsm_grammar.specs.declared.request.Request.TheVariants.{Import, Recover}
 use Rattle.lsm_grammar.specs.declared.request.Request.TheVariants.{Script, Shell, Bench}
 use Rattle.lsm_grammar.specs.declared.writing_command.WritingCommand.{WritingCommand}
@@ -27,7 +30,8 @@ use Rattle.lsm_directory.specs.declared.faults.directory_fault.DirectoryFault.{D
 use Rattle.lsm_opening.specs.declared.faults.writer_fault.WriterFault.{WriterFault}
 use Rattle.lsm_cmd_import.specs.Imported.{FailsToImport, ImportsAt}
 use Rattle.lsm_cmd_import.specs.declared.copy_fault.CopyFault.{CopyFault}
-use Rattle.lsm_cmd_recover.specs.Recovered.{FailsToRecover, RecoversAt}
+use Rattle.lsm_cmd_recover.specs.Recovered.{ComesFirst, FailsFirst, FailsToRecover, RecoversAt}
+use Rattle.lsm_cmd_recover.specs.declared.recover_fault.RecoverFault.{RecoverFault}
 use Rattle.lsm_recovery.specs.declared.bring_fault.BringFault.{BringFault}
 use Rattle.lsm_cmd_levels.specs.Layout.{FailsToLayOut, LaysOutAt}
 use Rattle.lsm_cmd_load.specs.LoadedAt.{FailsToLoad, LoadsAt}
@@ -36,6 +40,40 @@ use Rattle.lsm_cmd_shell.specs.Talked.{FailsToTalk, TalksAt}
 use Rattle.lsm_cmd_write.specs.Cleaned.{FailsToClean, IsCleanedAt}
 use Rattle.lsm_cmd_compact.specs.Compacted.{IsCompactedAt, IsUncompacted}
 use Rattle.lsm_cmd_write.specs.Ingested.{ComesInAt, FailsToBringIn, IsIngested, IsUningested}
+
+-- ---- what comes first
+
+-- the folder that a command opens or begins a database in, and whether one may be begun there also
+-- where `CURRENT` was lost
+abbrev pub opened_by_writing : List ℕ → WritingCommand → Option (List ℕ × Bool)
+opened_by_writing path (Ingest input options) = Some (path, options.begins)
+opened_by_writing path (WriteKey w options) = Some (path, options.begins)
+opened_by_writing path (Clean options) = None
+
+abbrev pub opened_by : Request → Option (List ℕ × Bool)
+opened_by (Convert conversion input) = None
+opened_by (Look line) = None
+opened_by (Levels line) = None
+opened_by (WriteFolder line) = opened_by_writing line.path.now line.command
+opened_by (Load line) = Some (line.path.now, line.options.ingest.begins)
+opened_by (Import line) = None
+opened_by (Recover path) = None
+opened_by (Compact line) = None
+opened_by (Script input) = None
+opened_by (Shell line) = Some (line.path.now, line.options.begins)
+opened_by (Bench line) = None
+
+module _ {C M : Type 0} (folders : Ghosts C M) (marks : mark.Ghosts M) where
+  -- the logs of that folder came in, or it has no database yet
+  abbrev pub ComesBefore : Option (List ℕ × Bool) → Type 0
+  ComesBefore None = ⊤
+  ComesBefore (Some (path, begins)) = ComesFirst folders marks begins path
+
+  -- they did not
+  abbrev pub StaysBefore : Option (List ℕ × Bool) → Type 0
+  StaysBefore None = ⊥
+  StaysBefore (Some (path, begins)) = (fault : BringFault)
+      × FailsFirst folders marks begins path fault
 
 module _ {C M : Type 0} (folders : Ghosts C M) where
   -- ---- ingest, put, delete, clean
@@ -81,14 +119,27 @@ module _ {C M : Type 0} (folders : Ghosts C M) (marks : mark.Ghosts M)
   IsDone text (Bench line) old new said_old said_new =
       BenchesAt folders line.path.now line.options × Keeps said_old said_new
 
-  -- The words ask for a command, which was done; or they ask for help, which was written, and
-  -- nothing was on standard error.
-  abbrev pub AreDone : (Input → Option (List ℕ)) → List Text
-      → (old new said_old said_new : Option (List ℕ)) → Type 0
-  AreDone text words old new said_old said_new =
-      ((request : Request) × Asks request words × IsDone text request old new said_old said_new)
-      ⊎ (AskNothing words × AskHelp words × ((help : List ℕ) × Appends old new help)
-      × Keeps said_old said_new)
+  -- In a manner the logs of the request's folder came in first, and then it was done.
+  pub record IsFollowed (text : Input → Option (List ℕ)) (request : Request) (manner : Manner)
+      (old new said_old said_new : Option (List ℕ)) : Type 0 where
+    pub first : manner.recovers ≡ true → ComesBefore folders marks (opened_by request)
+    pub said : Option (List ℕ)
+    pub quiet : Keeps said_old said
+    pub done : IsDone text request old new said said_new
+
+  -- The words ask for a command, which was done so. Its reads were compared or not.
+  pub record AreFollowed (compares : Bool) (text : Input → Option (List ℕ)) (words : List Text)
+      (old new said_old said_new : Option (List ℕ)) : Type 0 where
+    pub request : Request
+    pub asked : Asks request words
+    pub compared : (manner_of words).compares ≡ compares
+    pub followed : IsFollowed text request (manner_of words) old new said_old said_new
+
+-- They ask for help, which was written, and nothing was on standard error.
+abbrev pub AreHelped : List Text → (old new said_old said_new : Option (List ℕ)) → Type 0
+AreHelped words old new said_old said_new =
+    AskNothing words × AskHelp words × ((help : List ℕ) × Appends old new help)
+    × Keeps said_old said_new
 
 -- ---- what status 1 means
 
@@ -119,7 +170,7 @@ module _ {C M : Type 0} (folders : Ghosts C M) (marks : mark.Ghosts M)
   IsUndone text (Import line) old new =
       (fault : CopyFault) × FailsToImport folders marks line fault old new
   IsUndone text (Recover path) old new =
-      (fault : BringFault) × FailsToRecover folders marks path.now fault old new
+      (fault : RecoverFault) × FailsToRecover folders marks path.now fault old new
   IsUndone text (Compact line) old new = IsUncompacted folders marks line old new
   IsUndone text (Script input) old new = IsUnplayed (text input) old new
   IsUndone text (Shell line) old new =
@@ -127,14 +178,27 @@ module _ {C M : Type 0} (folders : Ghosts C M) (marks : mark.Ghosts M)
       old new
   IsUndone text (Bench line) old new = ⊤
 
-  -- The words ask for a command, which was not done; or for help, of which a beginning was written;
-  -- or memory ran out before they were read.
-  abbrev pub AreUndone : (Input → Option (List ℕ)) → List Text → (old new : Option (List ℕ))
-      → Type 0
-  AreUndone text words old new =
-      ((request : Request) × Asks request words × IsUndone text request old new)
-      ⊎ ((AskNothing words × AskHelp words × ((help : List ℕ) × Begins old new help))
-      ⊎ Keeps old new)
+  -- In a manner the logs of the request's folder did not come in first, and nothing was written on
+  -- standard output; or they did, and it was not done.
+  abbrev pub IsUnfollowed : (Input → Option (List ℕ)) → Request → Manner
+      → (old new : Option (List ℕ)) → Type 0
+  IsUnfollowed text request manner old new =
+      ((manner.recovers ≡ true) × StaysBefore folders marks (opened_by request) × Keeps old new)
+      ⊎ ((manner.recovers ≡ true → ComesBefore folders marks (opened_by request))
+      × IsUndone text request old new)
+
+  -- The words ask for a command, which was not done so. Its reads were compared or not.
+  pub record AreUnfollowed (compares : Bool) (text : Input → Option (List ℕ)) (words : List Text)
+      (old new : Option (List ℕ)) : Type 0 where
+    pub request : Request
+    pub asked : Asks request words
+    pub compared : (manner_of words).compares ≡ compares
+    pub undone : IsUnfollowed text request (manner_of words) old new
+
+-- They ask for help, of which a beginning was written; or memory ran out before they were read.
+abbrev pub AreUnhelped : List Text → (old new : Option (List ℕ)) → Type 0
+AreUnhelped words old new =
+    (AskNothing words × AskHelp words × ((help : List ℕ) × Begins old new help)) ⊎ Keeps old new
 
 -- ---- what status 2 means
 

@@ -1,11 +1,15 @@
 //! One run of the program: what its words ask is done, and the exit status is answered.
 
-ghost use Rattle.std.specs.Prelude.{◌≡◌, ◌≢◌, ◌≤◌, map};
+ghost use Rattle.std.specs.Prelude.{◌≡◌, ◌≢◌, ◌≤◌, ◌⊎◌, false, map, option_map, true};
 ghost use Rattle.std.specs.Io.KnownBytes.{Appends, Keeps};
 ghost use Rattle.std.specs.IoError.{error_kind};
 ghost use Rattle.lsm_text.specs.Printing.{Begins};
-ghost use Rattle.lsm_commands.specs.Run.{AreDone, AreUsageFault, AreUndone, IsDone, IsUndone};
-ghost use Rattle.lsm_commands.specs.Run.{IsUnwritten, IsWritten};
+ghost use Rattle.lsm_folder.specs.Calls.{AreHonest};
+ghost use Rattle.lsm_commands.specs.Compared.{AreCompared};
+ghost use Rattle.lsm_commands.specs.Run.{AreFollowed, AreHelped, AreUnfollowed, AreUnhelped};
+ghost use Rattle.lsm_commands.specs.Run.{AreUsageFault, ComesBefore, IsDone, IsFollowed, IsUndone};
+ghost use Rattle.lsm_commands.specs.Run.{IsUnfollowed, IsUnwritten, IsWritten, StaysBefore};
+ghost use Rattle.lsm_commands.specs.Run.{opened_by};
 ghost use Rattle.lsm_requests.specs.Inputs.{text_in};
 
 use lsm_cmd_bench::run_bench;
@@ -15,12 +19,12 @@ use lsm_cmd_import::run_import;
 use lsm_cmd_levels::run_levels;
 use lsm_cmd_load::run_load;
 use lsm_cmd_read::run_look;
-use lsm_cmd_recover::run_recover;
+use lsm_cmd_recover::{recover_first, run_recover};
 use lsm_cmd_shell::run_shell;
 use lsm_cmd_write::{run_clean, run_ingest, run_write};
 use lsm_directory::{Known, Paths, refuse, status_of};
 use lsm_folder::{FindingCalls, FolderCalls};
-use lsm_grammar::{CommandLine, Request, WritingCommand, WritingLine, read_line};
+use lsm_grammar::{CommandLine, Manner, Request, WritingCommand, WritingLine, read_line};
 use lsm_text::{Fault, write_output};
 use std::convert::AsStr;
 use std::io::{self, ErrorKind, Read, Write};
@@ -153,13 +157,60 @@ where
     }
 }
 
-/// Does what words ask, those behind the program's name, and answers the exit status: 0 where it is
-/// done, 1 where it is refused, and 2 where the words ask for nothing. Files and folders are those
-/// of `paths`.
-pub fn run<C, P, R, S, I, O, E>(
+/// The folder that a request opens or begins a database in, and whether one may be begun there also
+/// where `CURRENT` was lost.
+fn opened_by<'a>(request: &Request<'a>) -> Option<(&'a str, bool)>
+    ensures { option_map (λ r. (r.0.now, r.1)) result ≡ opened_by request.now }
+{
+    match request {
+        Request::Write(line) => match &line.command {
+            WritingCommand::Ingest(_, options) => Some((line.path, options.begins)),
+            WritingCommand::WriteKey(_, options) => Some((line.path, options.begins)),
+            WritingCommand::Clean(_) => None,
+        },
+        Request::Load(line) => Some((line.path, line.options.ingest.begins)),
+        Request::Shell(line) => Some((line.path, line.options.begins)),
+        _ => None,
+    }
+}
+
+/// Brings the logs of the folder of a request in where that is asked for, and answers the exit
+/// status.
+fn bring_logs<C, P, R, E>(
     rt: &R,
     paths: &P,
-    words: &[S],
+    request: &Request<'_>,
+    recovers: bool,
+    err: &mut E,
+) -> u8
+where
+    C: FolderCalls + Send + Sync,
+    C::Mark: Send + Sync,
+    P: Paths<C>,
+    R: Wait,
+    E: Write,
+    ensures done { result ≡ 0 → recovers ≡ true
+        → ComesBefore C.FolderCalls C.Mark.Mark (opened_by request.now) }
+    ensures refused { result ≢ 0 → (result ≡ 1) × (recovers ≡ true)
+        × StaysBefore C.FolderCalls C.Mark.Mark (opened_by request.now) }
+    ensures quiet { result ≡ 0 → Keeps (E.contents err.old) (E.contents err.new) }
+{
+    if !recovers {
+        return 0;
+    }
+    match opened_by(request) {
+        Some((path, begins)) => recover_first(rt, paths, path, begins, err),
+        None => 0,
+    }
+}
+
+/// Does what a request asks, behind the logs of its folder where they are to come in first, and
+/// answers the exit status.
+fn follow<C, P, R, I, O, E>(
+    rt: &R,
+    paths: &P,
+    request: &Request<'_>,
+    manner: Manner,
     input: I,
     out: &mut O,
     err: &mut E,
@@ -169,22 +220,77 @@ where
     C::Mark: Send + Sync,
     P: Paths<C>,
     R: Threads + Wait + Clock + Sync,
+    I: Read + Drop,
+    O: Write,
+    E: Write + Send,
+    ensures done { result ≡ 0 → IsFollowed C.FolderCalls C.Mark.Mark C.holds
+        (text_in (I.remaining input) (P.text paths.now)) request.now manner (O.contents out.old)
+        (O.contents out.new) (E.contents err.old) (E.contents err.new) }
+    ensures refused { result ≢ 0 → (result ≡ 1) × IsUnfollowed C.FolderCalls C.Mark.Mark C.holds
+        (text_in (I.remaining input) (P.text paths.now)) request.now manner (O.contents out.old)
+        (O.contents out.new) }
+{
+    let first = bring_logs(rt, paths, request, manner.recovers, err);
+    if first != 0 {
+        return first;
+    }
+    obey(rt, paths, request, input, out, err)
+}
+
+/// Does what words ask, those behind the program's name, and answers the exit status: 0 where it is
+/// done, 1 where it is refused, and 2 where the words ask for nothing. Files and folders are those
+/// of `paths`; with `--compare` those of `compared`, which are to be honest.
+pub fn run<C, D, P, Q, R, S, I, O, E>(
+    rt: &R,
+    paths: &P,
+    compared: &Q,
+    words: &[S],
+    input: I,
+    out: &mut O,
+    err: &mut E,
+) -> u8
+where
+    C: FindingCalls + Send + Sync,
+    C::Mark: Send + Sync,
+    D: FindingCalls + Send + Sync,
+    D::Mark: Send + Sync,
+    P: Paths<C>,
+    Q: Paths<D>,
+    R: Threads + Wait + Clock + Sync,
     S: AsStr,
     I: Read + Drop,
     O: Write,
     E: Write + Send,
-    ensures done { result ≡ 0 → AreDone C.FolderCalls C.Mark.Mark C.holds
+    requires honest { AreHonest D.FolderCalls.calls }
+    ensures done { result ≡ 0 →
+        AreFollowed C.FolderCalls C.Mark.Mark C.holds false
         (text_in (I.remaining input) (P.text paths.now)) (map S.text words.now)
-        (O.contents out.old) (O.contents out.new) (E.contents err.old) (E.contents err.new) }
-    ensures refused { result ≡ 1 → AreUndone C.FolderCalls C.Mark.Mark C.holds
+        (O.contents out.old) (O.contents out.new) (E.contents err.old) (E.contents err.new)
+        ⊎ (AreCompared D.FolderCalls D.Mark.Mark D.holds
+        (text_in (I.remaining input) (Q.text compared.now)) (map S.text words.now)
+        (O.contents out.old) (O.contents out.new) (E.contents err.old) (E.contents err.new)
+        ⊎ AreHelped (map S.text words.now) (O.contents out.old) (O.contents out.new)
+        (E.contents err.old) (E.contents err.new)) }
+    ensures refused { result ≡ 1 →
+        AreUnfollowed C.FolderCalls C.Mark.Mark C.holds false
         (text_in (I.remaining input) (P.text paths.now)) (map S.text words.now)
-        (O.contents out.old) (O.contents out.new) }
+        (O.contents out.old) (O.contents out.new)
+        ⊎ (AreUnfollowed D.FolderCalls D.Mark.Mark D.holds true
+        (text_in (I.remaining input) (Q.text compared.now)) (map S.text words.now)
+        (O.contents out.old) (O.contents out.new)
+        ⊎ AreUnhelped (map S.text words.now) (O.contents out.old) (O.contents out.new)) }
     ensures usage { result ≡ 2
         → AreUsageFault (map S.text words.now) (O.contents out.old) (O.contents out.new) }
     ensures status { result ≤ 2 }
 {
     match read_line(paths.alloc(), words) {
-        Ok(CommandLine::Run(request)) => obey(rt, paths, &request, input, out, err),
+        Ok(CommandLine::Run(request, manner)) => {
+            if manner.compares {
+                follow(rt, compared, &request, manner, input, out, err)
+            } else {
+                follow(rt, paths, &request, manner, input, out, err)
+            }
+        }
         Ok(CommandLine::Help(text)) => show_help(&text, out, err),
         Ok(CommandLine::Bad(text)) => refuse_line(&text, err),
         Err(_) => refuse(Fault::OutOfMemory, err),

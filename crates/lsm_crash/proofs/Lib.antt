@@ -33,4 +33,8 @@ mod Answering
 mod Soundness
 mod Lives
 mod Reopening
+mod Keeping
+mod Lasting
+mod Shown
+mod Quick
 mod Examples

@@ -23,8 +23,7 @@ use Rattle.lsm_crash.proofs.Forms.{recorded_describes, table_named}
 use Rattle.lsm_crash.proofs.Deeds.{are_there}
 use Rattle.lsm_crash.proofs.Opening.{number_in, only_has, only_less, settled_fewer, shows_one}
 
-module _ (honest : Type 0) (board : TableId) (limit : ℕ) (h : Held) (d : Disk) (known : Known) (v : Version) (l : IsLawfulState honest board h) (i : IsHeld d known) (p : Opens honest limit h d)
-    (above : (m : ℕ) → Has known.manifests m → m < h.journal.number) (to : ComesTo h.journal.bytes v) where
+module _ (honest : Type 0) (board : TableId) (limit : ℕ) (h : Held) (d : Disk) (known : Known) (v : Version) (l : IsLawfulState honest board h) (i : IsHeld d known) (p : Opens honest limit h d) (to : ComesTo h.journal.bytes v) where
   number_is : h.journal.number ≡ p.begun.number
   number_is = ap (λ (j : HeldManifest). j.number) p.begun.rolls.held
 
@@ -46,31 +45,15 @@ module _ (honest : Type 0) (board : TableId) (limit : ℕ) (h : Held) (d : Disk)
   image_at : (t : Table) → (k : (image : List ℕ) × (known.tables t.number ≡ Some image)) → Shows d (table_name t.number) t.image → known.tables t.number ≡ Some t.image
   image_at t k s = (let at = i.tables t.number k.0 k.1 in k.1 ∙ ap Some (shows_one d (table_name t.number) k.0 t.image (stands_shows d (table_name t.number) k.0 i.sound at.1) s))
 
-  has : HasTables known.tables h.slots.version
-  has level t k = image_at t (i.there read.0 read.1 t.number (table_named read.0 h.slots.version level t read_describes p.begun.found.loaded.recorded.own.seven k)) (p.images level t k)
+  -- the tables of what is opened are counted on
+  pub reopened_has : HasTables known.tables h.slots.version
+  reopened_has level t k = image_at t (i.there read.0 read.1 t.number (table_named read.0 h.slots.version level t read_describes p.begun.found.loaded.recorded.own.seven k)) (p.images level t k)
 
   only_tables : HasTables (only_of (numbers_in h.slots.version) known.tables) h.slots.version
-  only_tables level t k = only_has (numbers_in h.slots.version) known.tables t.number (number_in h.slots.version level t k) ∙ has level t k
+  only_tables level t k = only_has (numbers_in h.slots.version) known.tables t.number (number_in h.slots.version level t k) ∙ reopened_has level t k
 
   new_describes : Describes v h.slots.version
   new_describes = recorded_describes l.journaled.0 h.journal h.slots.version h.next v l.journaled.1 to
-
-  may : MayStart known h.journal.number h.journal.bytes v
-  may = record {
-    small = (let a = number_is in let b = small in omega arith);
-    other = λ k. (let lt = above h.journal.number k in omega arith);
-    comes = to;
-    there = are_there v h.slots.version known.tables new_describes has;
-  }
-
-  pub reopened_settled : (e : Disk)
-      → DoneDropping known.tables h.journal.number (start_plan h.journal.number h.journal.bytes) d e
-      → IsSettled e (opened_world h v (started known h.journal.number h.journal.bytes v))
-  reopened_settled e done =
-      settled_fewer e (started known h.journal.number h.journal.bytes v)
-      (only_of (numbers_in h.slots.version) known.tables)
-      (follow_done known h.journal.number h.journal.bytes v may d e i done)
-      (λ n image k. (only_less (numbers_in h.slots.version) known.tables n image k).1) (are_there v h.slots.version (only_of (numbers_in h.slots.version) known.tables) new_describes only_tables)
 
   pub reopened_world : IsWorldOf h (opened_world h v (started known h.journal.number h.journal.bytes v))
   reopened_world = record {
@@ -84,3 +67,21 @@ module _ (honest : Type 0) (board : TableId) (limit : ℕ) (h : Held) (d : Disk)
 
   pub reopened_version : (s : Version) × Has known.versions s × Describes s h.slots.version
   reopened_version = (read.0, read.1, read_describes)
+
+  module _ (above : (m : ℕ) → Has known.manifests m → m < h.journal.number) where
+    may : MayStart known h.journal.number h.journal.bytes v
+    may = record {
+      small = (let a = number_is in let b = small in omega arith);
+      other = λ k. (let lt = above h.journal.number k in omega arith);
+      comes = to;
+      there = are_there v h.slots.version known.tables new_describes reopened_has;
+    }
+
+    pub reopened_settled : (e : Disk)
+        → DoneDropping known.tables h.journal.number (start_plan h.journal.number h.journal.bytes) d e
+        → IsSettled e (opened_world h v (started known h.journal.number h.journal.bytes v))
+    reopened_settled e done =
+        settled_fewer e (started known h.journal.number h.journal.bytes v)
+        (only_of (numbers_in h.slots.version) known.tables)
+        (follow_done known h.journal.number h.journal.bytes v may d e i done)
+        (λ n image k. (only_less (numbers_in h.slots.version) known.tables n image k).1) (are_there v h.slots.version (only_of (numbers_in h.slots.version) known.tables) new_describes only_tables)

@@ -10,3 +10,4 @@ pub mod States
 pub mod Database
 pub mod Lives
 pub mod Refusing
+pub mod Kept

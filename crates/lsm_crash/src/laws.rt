@@ -6,6 +6,7 @@ ghost use Rattle.std.specs.Prelude.{length, take, Bool, true, Some, None, Result
 ghost use Rattle.lsm_codec.specs.Lists.{Has};
 ghost use Rattle.lsm_folder.specs.Calls.{Answer, Call, made, wrote, appended, synced};
 ghost use Rattle.lsm_folder.specs.Calls.{folder_synced, renamed, removed, loaded, locked};
+ghost use Rattle.lsm_folder.specs.Finding.{fitted};
 ghost use Rattle.lsm_folder.specs.declared.folder_fault.FolderFault as folder_fault;
 ghost use Rattle.lsm_folder.specs.declared.lock_kind.LockKind.{LockKind};
 ghost use Rattle.lsm_storage.specs.FileNames.{table_name, manifest_name, temporary_name};
@@ -16,10 +17,16 @@ ghost use Rattle.lsm_storage.specs.Plans.{done, manifest_measured, name_plan, pu
 ghost use Rattle.lsm_storage.specs.Plans.{remove_plan, start_plan};
 ghost use Rattle.lsm_shelf.specs.declared.shelf_fault.ShelfFault.{ShelfFault};
 ghost use Rattle.lsm_shelf.specs.declared.shelf_fault.ShelfFault.TheVariants.{OutOfMemory};
+ghost use Rattle.lsm_admission.specs.Keeping.{KeepsTables};
+ghost use Rattle.lsm_admission.specs.KnownAnswers.{KnownImage};
 ghost use Rattle.lsm_manifest.specs.Edit.{IsEdit};
+ghost use Rattle.lsm_manifest.specs.FileOrder.{TableFile};
 ghost use Rattle.lsm_manifest.specs.LogWriting.{record_text};
 ghost use Rattle.lsm_manifest.specs.Shape.{IsShape};
 ghost use Rattle.lsm_manifest.specs.WholeEdit.{whole_edit};
+ghost use Rattle.lsm_verify.specs.Loading.{all_files};
+ghost use Rattle.lsm_journal.specs.HeldManifest.{HeldManifest};
+ghost use Rattle.lsm_journal.specs.Recovering.{IsRecovered};
 ghost use Rattle.lsm_crash.specs.Disk.{After, Disk, Leaves, Names, Shows, Step};
 ghost use Rattle.lsm_crash.specs.Disk.{empty_disk};
 ghost use Rattle.lsm_crash.specs.Crash.{Found, IsFresh, IsLeft, IsSpoilt, MayFind};
@@ -34,6 +41,13 @@ ghost use Rattle.lsm_crash.specs.Operations.{Start, after, either, plan_of, star
 ghost use Rattle.lsm_crash.specs.Among.{Cleans, CutAmong, CutDropping, CutOf, DoneAmong};
 ghost use Rattle.lsm_crash.specs.Among.{DoneDropping, DoneOf, Event, Goes, IsAside, IsGap, Spares};
 ghost use Rattle.lsm_crash.specs.History.{History, IsPhase, IsRead, Move, Phase};
+ghost use Rattle.lsm_crash.specs.Kept.{AreKept, FindsShown, IsKeptPhase, KeepsAll, KeepsFound};
+ghost use Rattle.lsm_crash.specs.Kept.{KeepsShown};
+
+use lsm_admission::KnownTables;
+use lsm_finding::Finding;
+use lsm_folder::Contents;
+use lsm_table::Naming;
 
 /// A crash in any call of an operation, after any run of operations, among calls of other threads:
 /// `CURRENT` names the manifest from before that operation or the one from after it, the whole
@@ -132,6 +146,59 @@ pub fn histories_keep_what_is_known()
         → IsRead known found w
         → w ≡ world_of known found r }
     ensures one { (bytes : List ℕ) (u v : Version) → ComesTo bytes u → ComesTo bytes v → u ≡ v }
+{}
+
+/// The tables of the manifest that `CURRENT` shows are kept, so an opening may go without reading
+/// them. Where each version that is known has its tables among those that are counted on, and these
+/// alone under its numbers (`AreKept`), the folder keeps the version that it shows (`shown`), and
+/// so does what a crash leaves of it (`found`). Through any history of runs, cuts, refusals,
+/// crashes and starts that stays so, where each version that is written is such a one when it is
+/// (`histories`): those of a database are (`databases_keep_what_they_show`).
+pub fn what_is_shown_is_kept()
+    ensures shown { (known : Known) (d : Disk) → IsHeld d known → AreKept known → KeepsShown d }
+    ensures found { (known : Known) (d : Disk) (found : Found) → IsHeld d known → AreKept known
+        → IsLeft d found → KeepsFound found }
+    ensures histories { (moves : List Move) (p q : Phase) (d e : Disk) → IsPhase p d
+        → IsKeptPhase p → KeepsAll moves → History p moves q d e
+        → IsKeptPhase q × KeepsShown e
+        × ((found : Found) → IsLeft e found → KeepsFound found) }
+{}
+
+/// So the premise of an opening that reads no table is met, where the manifest that was read is the
+/// one that `CURRENT` shows, by a shelf that keeps, under the numbers of its files, no image of a
+/// file's size but the one that the folder shows.
+pub fn shelves_keep_what_is_shown<N: Naming, S: Finding>()
+    ensures { (h : HeldManifest) (shape : Version) (rest : ℕ) (d : Disk) → KeepsShown d
+        → h.number < 2 ^ 64 → IsRecovered h shape rest
+        → FindsShown (S.keeps N.place) h shape d
+        → KeepsTables (S.keeps N.place) shape }
+{}
+
+/// Such a shelf is that on a folder of the system with the program's witness, `Mute<C>`, for each
+/// `C` that names what the folder shows of these files. What the witness says that a file holds is
+/// what `C` names, cut or filled to the length.
+pub fn contents_keep_what_is_shown<C: Contents>()
+    ensures { (folder : List ℕ) (h : HeldManifest) (shape : Version) (rest : ℕ) (d : Disk)
+        → KeepsShown d → h.number < 2 ^ 64 → IsRecovered h shape rest
+        → Shows d current_name (current_text h.number)
+        → Shows d (manifest_name h.number) h.bytes
+        → ((file : TableFile) (image : List ℕ) → Has (all_files shape.levels) file
+        → Shows d (table_name file.number) image
+        → C.contents folder (table_name file.number) ≡ image)
+        → FindsShown (λ n image.
+        image ≡ fitted (length image) (C.contents folder (table_name n))) h shape d }
+{}
+
+/// And so is one whose tables a program knows (`Known<K>` of `lsm_admission`, which is honest), where
+/// it knows what the folder shows of these files.
+pub fn known_tables_keep_what_is_shown<K: KnownTables>()
+    ensures { (h : HeldManifest) (shape : Version) (rest : ℕ) (d : Disk) → KeepsShown d
+        → h.number < 2 ^ 64 → IsRecovered h shape rest
+        → Shows d current_name (current_text h.number)
+        → Shows d (manifest_name h.number) h.bytes
+        → ((file : TableFile) (image : List ℕ) → Has (all_files shape.levels) file
+        → Shows d (table_name file.number) image → K.images file.number ≡ image)
+        → FindsShown (KnownImage K.images) h shape d }
 {}
 
 /// The first manifest in a folder without `CURRENT`: a crash in any of its calls leaves no

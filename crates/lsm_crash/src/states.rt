@@ -5,7 +5,7 @@ ghost use Rattle.std.specs.Prelude.{◌≡◌, ◌⊎◌, ◌↔◌, ◌++◌, �
 ghost use Rattle.std.specs.Prelude.{◌∷◌, Option, Some};
 ghost use Rattle.std.specs.Prelude.{false, length, map};
 ghost use Rattle.atomic_table.specs.Seated.{TableId};
-ghost use Rattle.lsm_codec.specs.Entries.{Entry};
+ghost use Rattle.lsm_codec.specs.Entries.{Entry, answer};
 ghost use Rattle.lsm_codec.specs.Lists.{Has};
 ghost use Rattle.lsm_model.specs.Files.{File};
 ghost use Rattle.lsm_model.specs.Plain as machine;
@@ -35,8 +35,9 @@ ghost use Rattle.lsm_crash.specs.Crash.{Found, IsFresh, IsLeft};
 ghost use Rattle.lsm_crash.specs.Known.{IsHeld, IsSettled, IsVacant, Known, World};
 ghost use Rattle.lsm_crash.specs.Known.{current_name, nothing};
 ghost use Rattle.lsm_crash.specs.Operations.{Operation, started};
-ghost use Rattle.lsm_crash.specs.Among.{CutAmong, CutDropping, DoneAmong, DoneDropping, counting};
-ghost use Rattle.lsm_crash.specs.States.{Describes, Finds, IsWorldOf, Shown};
+ghost use Rattle.lsm_crash.specs.Among.{CutAmong, CutDropping, DoneAmong, DoneDropping, Does};
+ghost use Rattle.lsm_crash.specs.Among.{counting};
+ghost use Rattle.lsm_crash.specs.States.{Describes, Finds, HasTables, IsWorldOf, Shown};
 ghost use Rattle.lsm_crash.specs.Database.{AllowsAll, Asks, Deed, IsIngestOf, IsCut, IsReady};
 ghost use Rattle.lsm_crash.specs.Database.{IsState, Turn};
 ghost use Rattle.lsm_crash.specs.Database.{Answered, Follows, HasMade, IsMade, Opens};
@@ -46,6 +47,10 @@ ghost use Rattle.lsm_crash.specs.Database.{Builds, Collect, Gather, Install, IsD
 ghost use Rattle.lsm_crash.specs.Database.{AllDone, AllFail, Stays, operations};
 ghost use Rattle.lsm_crash.specs.Lives.{Ages, AllLeave, Answers, FromNothing, Life};
 ghost use Rattle.lsm_crash.specs.Lives.{SmallAges, Struck, Worked, brought};
+ghost use Rattle.lsm_crash.specs.Kept.{FindsShown, IsCounted, IsKept, KeepsEach, KeepsFound};
+ghost use Rattle.lsm_crash.specs.Kept.{KeepsShown};
+ghost use Rattle.lsm_admission.specs.Answered.{IsAnswered};
+ghost use Rattle.lsm_admission.specs.Keeping.{KeepsTables};
 ghost use Rattle.lsm_crash.specs.Versions.{ComesTo, Tables, Version};
 ghost use Rattle.lsm_journal.specs.HeldManifest.{HeldManifest};
 ghost use Rattle.lsm_journal.specs.Recorded.{IsRecorded};
@@ -55,6 +60,7 @@ ghost use Rattle.lsm_state.specs.Opening.{IsOpenRefusal};
 ghost use Rattle.lsm_crash.specs.Refusing.{IsNotWhatWasFound, IsWantOrDevice, ReadsShown};
 ghost use Rattle.lsm_version.specs.Versions.{IsSound, Levels, files, no_levels};
 
+use lsm_finding::Finding;
 use lsm_model::machine::{Premise, runs_read_all_that_came};
 use lsm_table::{Naming, Shelf};
 use lsm_verify::shapes_in_order;
@@ -294,6 +300,84 @@ pub fn ingests_survive_crashes<P: Premise>()
         (es : List Entry) → P.holds → IsState P.holds board old → Asks P.holds old new deed asks
         → Follows P.holds old new (Answered deed) → Answers old.slots.version es
         → Answers new.slots.version (brought (Answered deed ∷ []) ++ es) }
+{
+    changed_tables();
+    runs_read_all_that_came::<P>();
+}
+
+/// What the folder of a database shows is kept, where the shelf is honest: the premise of an
+/// opening that reads no table, for each folder that calls of a database alone wrote. The tables of
+/// a sound version keep a shape that describes it (`version`). So what a state counts on keeps what
+/// its manifest comes to (`world`), and so does what is counted on where a manifest is written: the
+/// first one (`makes`), that of an opening, also where a call was refused before and one can't tell
+/// what is durable (`opens`), and by a call that is answered Ok, which leaves a sound version
+/// (`writes`). So histories of these are some of which `what_is_shown_is_kept` speaks.
+///
+/// After any run of calls the folder keeps what it shows, and so does what a crash leaves of it
+/// (`between`); so it is where a call is cut, in any call of the folder (`within`). So it is after
+/// any lives, one after another, over a folder that shows a sound version (`lives`), and from a
+/// folder without a database on (`new`).
+pub fn databases_keep_what_they_show<P: Premise>()
+    ensures version { (v : Levels) (bytes : List ℕ) (s : Version) (tables : Tables) → IsSound v
+        → HasTables tables v → ComesTo bytes s → Describes s v → IsKept (IsCounted tables) s }
+    ensures world { (board : TableId) (h : Held) (w : World) → IsState P.holds board h
+        → IsSound h.slots.version → IsWorldOf h w → ComesTo w.bytes w.version
+        → IsKept (IsCounted w.tables) w.version }
+    ensures makes { (board : TableId) (h : Held) (v : Version) → P.holds
+        → IsState P.holds board h → IsMade h → ComesTo h.journal.bytes v
+        → IsKept (IsCounted nothing.tables) v }
+    ensures opens { (board : TableId) (limit : ℕ) (h : Held) (d : Disk) (known : Known)
+        (v : Version) → P.holds → IsState P.holds board h → IsHeld d known
+        → Opens P.holds limit h d → ComesTo h.journal.bytes v
+        → IsKept (IsCounted known.tables) v }
+    ensures writes { (board : TableId) (old new : Held) (deed : Deed) (asks : List Asked)
+        (w : World) (v : Version) → P.holds → IsState P.holds board old
+        → IsState P.holds board new → IsSound old.slots.version → IsWorldOf old w
+        → ComesTo w.bytes w.version → Asks P.holds old new deed asks → IsReady P.holds deed w
+        → ComesTo new.journal.bytes v
+        → KeepsEach w (map Does (operations v asks)) × IsSound new.slots.version }
+    ensures between { (board : TableId) (turns : List Turn) (old now : Held) (w u : World)
+        (d e : Disk) → P.holds → IsState P.holds board old → IsSound old.slots.version
+        → IsSettled d w → IsWorldOf old w → Works P.holds board old now turns w u d e
+        → KeepsShown e × ((found : Found) → IsLeft e found → KeepsFound found) }
+    ensures within { (board : TableId) (turns : List Turn) (old now new : Held) (deed : Deed)
+        (w u : World) (known : Known) (d mid e : Disk) → P.holds → IsState P.holds board old
+        → IsSound old.slots.version → IsSettled d w → IsWorldOf old w
+        → Works P.holds board old now turns w u d mid
+        → IsCut P.holds board now new deed u known mid e
+        → KeepsShown e × ((found : Found) → IsLeft e found → KeepsFound found) }
+    ensures lives { (lives : List Life) (v : Levels) (w u : World) (d e : Disk) → P.holds
+        → IsSettled d w → Shown v d → length v.tables ≡ 7 → IsSound v
+        → Ages P.holds lives w d u e → KeepsShown e }
+    ensures new { (tries : List Held) (lives : List Life) (d e : Disk) (o : Option World)
+        → P.holds → IsVacant d → FromNothing P.holds tries lives d o e → KeepsShown e }
+{
+    changed_tables();
+    runs_read_all_that_came::<P>();
+}
+
+/// So what a user key answers without a judgment of the tables is what all that came in answers.
+/// Where a database was used in any lives, over an honest shelf, and a key was read by an opening
+/// that reads no table, of what the folder shows then (`FindsShown`), over an honest shelf
+/// (`IsAnswered`, as `get_unjudged` of `lsm_admission` says of its answer): the answer is that of
+/// every ingest that was answered Ok in any of these lives, and of one that a crash cut, whole or
+/// not at all. No premise is over what the tables are.
+pub fn quick_answers_give_what_came_in<P: Premise, N: Naming, S: Finding>()
+    ensures lives { (lives : List Life) (v : Levels) (es : List Entry) (w u : World) (d e : Disk)
+        (shape : Version) (user : List ℕ) (a : Option (List ℕ)) (was is : Told)
+        → P.holds → S.honest → IsSettled d w → Shown v d → length v.tables ≡ 7 → Answers v es
+        → IsSound v → Ages P.holds lives w d u e
+        → (q : IsAnswered (S.keeps N.place) (S.honest × KeepsTables (S.keeps N.place) shape) shape
+        user a was is) → FindsShown (S.keeps N.place) q.held shape e
+        → (x : Levels) × (fs : List Entry) × AllLeave lives v es x fs
+        × (a ≡ answer fs user x.last) }
+    ensures new { (tries : List Held) (lives : List Life) (d e : Disk) (o : Option World)
+        (shape : Version) (user : List ℕ) (a : Option (List ℕ)) (was is : Told)
+        → P.holds → S.honest → IsVacant d → FromNothing P.holds tries lives d o e
+        → (q : IsAnswered (S.keeps N.place) (S.honest × KeepsTables (S.keeps N.place) shape) shape
+        user a was is) → FindsShown (S.keeps N.place) q.held shape e
+        → (x : Levels) × (fs : List Entry) × AllLeave lives no_levels [] x fs
+        × (a ≡ answer fs user x.last) }
 {
     changed_tables();
     runs_read_all_that_came::<P>();

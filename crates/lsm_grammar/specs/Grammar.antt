@@ -105,6 +105,12 @@ begin = flag (codes "begin")
 abbrev pub beside_log : Rule
 beside_log = flag (codes "beside-log")
 
+abbrev pub recovers : Rule
+recovers = flag (codes "recover")
+
+abbrev pub compare : Rule
+compare = flag (codes "compare")
+
 abbrev pub accept_rest : Rule
 accept_rest = flag (codes "accept-rest")
 
@@ -143,10 +149,10 @@ unfoldable pub script : App
 script = command (codes "script") (file ∷ [])
 
 unfoldable pub check : App
-check = command (codes "check") (folder ∷ verifiers ∷ strict ∷ progress ∷ [])
+check = command (codes "check") (folder ∷ verifiers ∷ strict ∷ compare ∷ progress ∷ [])
 
 unfoldable pub list : App
-list = command (codes "list") (folder ∷ text ∷ quick ∷ strict ∷ [])
+list = command (codes "list") (folder ∷ text ∷ quick ∷ strict ∷ compare ∷ [])
 
 unfoldable pub levels : App
 levels = command (codes "levels")
@@ -154,44 +160,49 @@ levels = command (codes "levels")
 
 unfoldable pub get : App
 get = command (codes "get")
-    (folder ∷ key ∷ text ∷ flag (codes "raw") ∷ flag (codes "exists") ∷ quick ∷ strict ∷ [])
+    (folder ∷ key ∷ text ∷ flag (codes "raw") ∷ flag (codes "exists") ∷ quick ∷ strict ∷ compare
+    ∷ [])
 
 unfoldable pub scan : App
 scan =
     command (codes "scan")
     (folder ∷ valued (codes "from") ∷ valued (codes "to") ∷ valued (codes "prefix") ∷ limit ∷ text
     ∷ flag (codes "keys") ∷ flag (codes "json")
-    ∷ flag (codes "count") ∷ quick ∷ strict ∷ progress ∷ [])
+    ∷ flag (codes "count") ∷ quick ∷ strict ∷ compare ∷ progress ∷ [])
 
 unfoldable pub ingest : App
-ingest = command (codes "ingest") (folder ∷ word (codes "FILE") ∷ text ∷ begin ∷ beside_log ∷ [])
+ingest = command (codes "ingest")
+    (folder ∷ word (codes "FILE") ∷ text ∷ begin ∷ beside_log ∷ recovers ∷ compare ∷ [])
 
 unfoldable pub put : App
-put = command (codes "put") (folder ∷ key ∷ word (codes "VALUE") ∷ text ∷ begin ∷ beside_log ∷ [])
+put = command (codes "put")
+    (folder ∷ key ∷ word (codes "VALUE") ∷ text ∷ begin ∷ beside_log ∷ recovers ∷ compare ∷ [])
 
 unfoldable pub delete : App
-delete = command (codes "delete") (folder ∷ key ∷ text ∷ begin ∷ beside_log ∷ [])
+delete = command (codes "delete")
+    (folder ∷ key ∷ text ∷ begin ∷ beside_log ∷ recovers ∷ compare ∷ [])
 
 unfoldable pub load : App
-load = command (codes "load") (folder ∷ file ∷ text ∷ begin ∷ beside_log ∷ workers ∷ from_line
-    ∷ last_line ∷ progress ∷ [])
+load = command (codes "load") (folder ∷ file ∷ text ∷ begin ∷ beside_log ∷ recovers ∷ workers
+    ∷ from_line ∷ last_line ∷ compare ∷ progress ∷ [])
 
 unfoldable pub import_folder : App
-import_folder = command (codes "import") (word (codes "SRC") ∷ word (codes "DST") ∷ [])
+import_folder = command (codes "import") (word (codes "SRC") ∷ word (codes "DST") ∷ compare ∷ [])
 
 unfoldable pub recover : App
-recover = command (codes "recover") (folder ∷ [])
+recover = command (codes "recover") (folder ∷ compare ∷ [])
 
 unfoldable pub compact : App
 compact = command (codes "compact") (folder ∷ flag (codes "all") ∷ valued (codes "from")
-    ∷ valued (codes "to") ∷ text ∷ workers ∷ accept_rest ∷ progress ∷ [])
+    ∷ valued (codes "to") ∷ text ∷ workers ∷ accept_rest ∷ compare ∷ progress ∷ [])
 
 unfoldable pub clean : App
 clean = command (codes "clean") (folder ∷ accept_rest ∷ [])
 
 unfoldable pub shell : App
 shell = command (codes "shell")
-    (folder ∷ text ∷ begin ∷ beside_log ∷ compactors ∷ flag (codes "bail") ∷ [])
+    (folder ∷ text ∷ begin ∷ beside_log ∷ recovers ∷ compactors ∷ flag (codes "bail") ∷ compare
+    ∷ [])
 
 unfoldable pub bench : App
 bench = command (codes "bench") (folder ∷ benchmarks ∷ num ∷ value_size ∷ some_workers ∷ [])

@@ -36,6 +36,7 @@ use Rattle.lsm_requests.specs.declared.key_bounds.KeyBounds.{KeyBounds}
 use Rattle.lsm_requests.specs.declared.levels_output.LevelsOutput.{LevelsOutput}
 use Rattle.lsm_requests.specs.declared.levels_output.LevelsOutput.TheVariants as levels_output
 use Rattle.lsm_requests.specs.declared.load_options.LoadOptions.{LoadOptions}
+use Rattle.lsm_grammar.specs.declared.manner.Manner.{Manner}
 use Rattle.lsm_grammar.specs.declared.request.Request.{Request}
 use Rattle.lsm_grammar.specs.declared.request.Request.TheVariants.{Convert, Look, Levels}
 use Rattle.lsm_grammar.specs.declared.request.Request.TheVariants.{Write as WriteFolder, Load, Compact}
@@ -374,6 +375,18 @@ Asks request words = (faults_in words ≡ []) × IsAsked (found_in words) reques
 abbrev pub AskNothing : List Text → Type 0
 AskNothing words = (request : Request) → Asks request words → ⊥
 
+-- how the command that was found is done: by `--recover` and `--compare` among its words
+abbrev pub manner_in : Option (Text × List Row) → Manner
+manner_in None = record { recovers = false; compares = false }
+manner_in (Some (name, rows)) = record {
+  recovers = is_set (codes "recover") rows;
+  compares = is_set (codes "compare") rows;
+}
+
+-- how the command that words ask for is done
+abbrev pub manner_of : List Text → Manner
+manner_of words = manner_in (found_in words)
+
 -- Of which command `help` is asked by the word behind it: of none where there is no word. None
 -- where it names no command.
 abbrev pub topic_of : Option Text → Option (Option CommandName)
@@ -405,7 +418,7 @@ HaveUsageFault words =
 
 -- what words come to
 abbrev pub IsLine : List Text → CommandLine → Type 0
-IsLine words (Run request) = Asks request words
+IsLine words (Run request manner) = Asks request words × (manner ≡ manner_of words)
 IsLine words (Help text) = AskNothing words × AskHelp words
 IsLine words (Bad text) = AskNothing words × HaveUsageFault words
 
@@ -418,19 +431,19 @@ Reads name rows None = (request : Request) → name_of request ≡ name → Says
 
 -- a page of help
 abbrev pub IsPage : CommandLine → Type 0
-IsPage (Run request) = ⊥
+IsPage (Run request manner) = ⊥
 IsPage (Help text) = ⊤
 IsPage (Bad text) = ⊥
 
 -- what is said where something was found that is no request: help where that is asked for
 abbrev pub IsUnasked : Option (Text × List Row) → CommandLine → Type 0
-IsUnasked found (Run request) = ⊥
+IsUnasked found (Run request manner) = ⊥
 IsUnasked found (Help text) = is_some (topic_in found) ≡ true
 IsUnasked found (Bad text) = is_some (topic_in found) ≡ false
 
 -- what is said where something was found
 abbrev pub IsOf : Option (Text × List Row) → CommandLine → Type 0
-IsOf found (Run request) = IsAsked found request
+IsOf found (Run request manner) = IsAsked found request × (manner ≡ manner_in found)
 IsOf found (Help text) = ((request : Request) → IsAsked found request → ⊥)
     × (is_some (topic_in found) ≡ true)
 IsOf found (Bad text) = ((request : Request) → IsAsked found request → ⊥)
@@ -438,6 +451,6 @@ IsOf found (Bad text) = ((request : Request) → IsAsked found request → ⊥)
 
 -- what an error of this kind comes to
 abbrev pub IsOfKind : ErrorKind → CommandLine → Type 0
-IsOfKind k (Run request) = ⊥
+IsOfKind k (Run request manner) = ⊥
 IsOfKind k (Help text) = (k ≡ kind.DisplayHelp) ⊎ (k ≡ kind.DisplayVersion)
 IsOfKind k (Bad text) = (k ≢ kind.DisplayHelp) × (k ≢ kind.DisplayVersion)

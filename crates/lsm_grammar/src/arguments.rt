@@ -67,6 +67,18 @@ pub(crate) const BESIDE_LOG: Argument = Argument::Flag(
     "Go on also where LevelDB has not flushed its log",
 );
 
+/// Logs that are not flushed come in first.
+pub(crate) const RECOVERS: Argument = Argument::Flag(
+    "recover",
+    "Bring in logs that are not flushed first",
+);
+
+/// What is read is compared.
+pub(crate) const COMPARE: Argument = Argument::Flag(
+    "compare",
+    "Keep tables in memory, and compare each read",
+);
+
 /// Files are removed also where the manifest's end is no whole record.
 pub(crate) const ACCEPT_REST: Argument = Argument::Flag(
     "accept-rest",

@@ -10,7 +10,7 @@ ghost use Rattle.lsm_grammar.specs.Requests.{IsAsked, IsBound, IsInput};
 ghost use Rattle.lsm_grammar.specs.Requests.{IsKeyWrite, IsLimit, IsLineNumber, IsLook, IsNumberIn};
 ghost use Rattle.lsm_grammar.specs.Requests.{IsRange, IsSpelled, IsWithin, IsWorkersWord, IsWrite};
 ghost use Rattle.lsm_grammar.specs.Requests.{Reads, form_in};
-ghost use Rattle.lsm_grammar.specs.Requests.{get_output_in, is_set, levels_output_in};
+ghost use Rattle.lsm_grammar.specs.Requests.{get_output_in, is_set, levels_output_in, manner_in};
 ghost use Rattle.lsm_grammar.specs.Requests.{name_of_conversion, name_of_look, name_of_value};
 ghost use Rattle.lsm_grammar.specs.Requests.{name_of_write, rows_in};
 ghost use Rattle.lsm_grammar.specs.Requests.{scan_output_in, topic_in, topic_of, word_in};
@@ -18,6 +18,7 @@ ghost use Rattle.lsm_grammar.specs.Requests.{scan_output_in, topic_in, topic_of,
 use crate::bench_line::BenchLine;
 use crate::benchmarks::benchmarks_in;
 use crate::command_name::{CommandName, named};
+use crate::manner::Manner;
 use crate::request::Request;
 use crate::shell_line::ShellLine;
 use crate::writing_command::WritingCommand;
@@ -614,6 +615,22 @@ pub(crate) fn asked_in<'a>(
     match named(name) {
         Some(name) => request_in(alloc, name, found),
         None => Ok(None),
+    }
+}
+
+/// How the command that was found is done.
+pub(crate) fn manner_in(matches: &ArgMatches<'_>) -> Manner
+    ensures { result ≡ manner_in (subcommand_rows_of matches.now) }
+{
+    match matches.subcommand() {
+        Some((_, found)) => Manner {
+            recovers: is_set(found, "recover"),
+            compares: is_set(found, "compare"),
+        },
+        None => Manner {
+            recovers: false,
+            compares: false,
+        },
     }
 }
 

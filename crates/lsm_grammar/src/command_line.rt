@@ -6,9 +6,10 @@ ghost use Rattle.clap.specs.declared.error.ErrorKind.TheVariants.{DisplayHelp, O
 ghost use Rattle.lsm_grammar.specs.Requests.{IsLine, IsOf, IsOfKind, IsPage, IsUnasked};
 ghost use Rattle.lsm_grammar.specs.Requests.{faults_in};
 
-use crate::asking::{asked_in, topic_in};
+use crate::asking::{asked_in, manner_in, topic_in};
 use crate::command_name::CommandName;
 use crate::grammar::found_in;
+use crate::manner::Manner;
 use crate::pages::usage_of;
 use crate::request::Request;
 use crate::usage_fault::fault_in;
@@ -21,7 +22,8 @@ use std::io::{self, Write};
 /// What a command line asks for.
 #[derive(Debug, Drop)]
 pub enum CommandLine<'a> {
-    Run(Request<'a>),
+    /// One request, and how it is done.
+    Run(Request<'a>, Manner),
     /// Help, as text for standard output.
     Help(Vec<u8>),
     /// What is wrong with the command line, as text for standard error.
@@ -106,7 +108,7 @@ fn line_of<'a>(alloc: Global, matches: &ArgMatches<'a>) -> Result<CommandLine<'a
     ensures { IfOk result (IsOf (subcommand_rows_of matches.now)) }
 {
     match asked_in(alloc, matches)? {
-        Some(request) => Ok(CommandLine::Run(request)),
+        Some(request) => Ok(CommandLine::Run(request, manner_in(matches))),
         None => unasked(alloc, matches),
     }
 }

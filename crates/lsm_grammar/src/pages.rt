@@ -1,10 +1,10 @@
 //! The texts of the commands' help.
 
 use crate::arguments::{
-    ACCEPT_REST, ALL, Argument, BAIL, BATCH, BEGIN, BENCHMARKS, BESIDE_LOG, COMPACTORS, COUNT,
-    EXISTS, FILES, FIRST, FOLDER, FROM, FROM_LINE, JSON, KEY, KEYS, LAST, LAST_LINE, LIMIT, NUM,
-    PREFIX, PROGRESS, QUICK, RAW, SOME_WORKERS, SOURCE, STRICT, SVG, TARGET, TEXT, TO, VALUE,
-    VALUE_SIZE, VERIFIERS, WORKERS,
+    ACCEPT_REST, ALL, Argument, BAIL, BATCH, BEGIN, BENCHMARKS, BESIDE_LOG, COMPACTORS, COMPARE,
+    COUNT, EXISTS, FILES, FIRST, FOLDER, FROM, FROM_LINE, JSON, KEY, KEYS, LAST, LAST_LINE, LIMIT,
+    NUM, PREFIX, PROGRESS, QUICK, RAW, RECOVERS, SOME_WORKERS, SOURCE, STRICT, SVG, TARGET, TEXT,
+    TO, VALUE, VALUE_SIZE, VERIFIERS, WORKERS,
 };
 use crate::command_name::{CommandName, named};
 
@@ -51,7 +51,8 @@ while `lsm` writes there.
 No command but `import` and `recover` reads a write-ahead log (`N.log`). Of each
 one that LevelDB has not flushed, `list`, `get` and `scan` say on standard error
 how many bytes are not read, and `check` prints a line. `ingest`, `put`,
-`delete`, `load` and `shell` are `refused 51 UnflushedLog N` beside it.
+`delete`, `load` and `shell` are `refused 51 UnflushedLog N` beside it; with
+--recover they first bring it in, as `recover` does.
 
 Where DIR has a later manifest than the one that CURRENT names, or files of
 RocksDB, `check`, `list`, `get` and `scan` say so on standard error; with
@@ -59,6 +60,10 @@ RocksDB, `check`, `list`, `get` and `scan` say so on standard error; with
 
 Tables that are compressed, as LevelDB makes them unless told otherwise, are
 refused: `refused 16 Compressed 1`.
+
+With --compare each table is kept in memory as it was read first, and what is
+read of it again is compared with that: where the disk then gives other bytes it
+is `refused 9 Device`. It takes as much memory as the tables have bytes.
 
 Standard output has what was asked for, and nothing else. Standard error says
 why a command is refused or is none, names logs that are not read, and with
@@ -177,7 +182,7 @@ read or a write, 2 bad command line.",
 
 const CHECK: Page = Page {
     name: "check",
-    arguments: &[FOLDER, VERIFIERS, STRICT, PROGRESS],
+    arguments: &[FOLDER, VERIFIERS, STRICT, COMPARE, PROGRESS],
     about: "Verifies a folder, and counts what is in it",
     text: "Verifies all that a read of the LevelDB folder DIR can reach: every block of
 every table that its manifest names, and how the tables lie in their levels.
@@ -204,7 +209,7 @@ Exit status: 0 where all is well, 1 at a fault, 2 bad command line.",
 
 const LIST: Page = Page {
     name: "list",
-    arguments: &[FOLDER, TEXT, QUICK, STRICT],
+    arguments: &[FOLDER, TEXT, QUICK, STRICT, COMPARE],
     about: "Prints the tables of a folder, level by level",
     text: "Prints the tables of the LevelDB folder DIR, levels 0 to 6 and in a level by
 smallest key, `LEVEL NUMBER SIZE SMALLEST LARGEST` for each, and then `end`.
@@ -266,7 +271,7 @@ Exit status: 0 done, 1 refused, 2 bad command line.",
 
 const GET: Page = Page {
     name: "get",
-    arguments: &[FOLDER, KEY, TEXT, RAW, EXISTS, QUICK, STRICT],
+    arguments: &[FOLDER, KEY, TEXT, RAW, EXISTS, QUICK, STRICT, COMPARE],
     about: "Prints the value of a key in a folder",
     text: "Prints what the LevelDB folder DIR answers for KEY: `value V`, or `absent`. KEY
 and V are hex, or text with --text, `.` for no bytes.
@@ -299,7 +304,7 @@ Exit status: 0 done, also where `absent` was printed, 1 refused, or absent with
 const SCAN: Page = Page {
     name: "scan",
     arguments: &[
-        FOLDER, FROM, TO, PREFIX, LIMIT, TEXT, KEYS, JSON, COUNT, QUICK, STRICT, PROGRESS,
+        FOLDER, FROM, TO, PREFIX, LIMIT, TEXT, KEYS, JSON, COUNT, QUICK, STRICT, COMPARE, PROGRESS,
     ],
     about: "Prints the live keys of a folder and their values",
     text: "Prints the live keys of the LevelDB folder DIR with their values, a line
@@ -345,7 +350,7 @@ before it stand, 2 bad command line.",
 
 const INGEST: Page = Page {
     name: "ingest",
-    arguments: &[FOLDER, BATCH, TEXT, BEGIN, BESIDE_LOG],
+    arguments: &[FOLDER, BATCH, TEXT, BEGIN, BESIDE_LOG, RECOVERS, COMPARE],
     about: "Brings keys into a folder, or begins a database there",
     text: "Brings the keys of FILE into the LevelDB folder DIR, as one table at level 0,
 and prints `file N first F last L`: the table's number, and the first and the
@@ -357,9 +362,9 @@ each key once. KEY and VALUE are
 hex, or text with --text, `.` for no bytes: `scan` prints such lines. In text a
 blank is `\\x20`, `=` is `\\x3d`, `!` `\\x21`, `@` `\\x40` and `\\` `\\x5c`, and
 each byte that does not print or is not ASCII is `\\xNN`. Lines in hex are put in
-order by `LC_ALL=C sort -t= -k1,1`. FILE is judged before DIR is opened; the
-first line of another form is `bad line I`, and a second line says where it is
-wrong.
+order by `LC_ALL=C sort -t= -k1,1`. FILE is judged before DIR is opened, but
+behind --recover; the first line of another form is `bad line I`, and a second
+line says where it is wrong.
 
 Limits: 64 MiB of FILE, 65536 lines, 4194304 bytes of keys and values together,
 4096 bytes of a key, 1048576 bytes of a value. Past 64 MiB it is a `read fault`,
@@ -373,8 +378,9 @@ all the same: what the old one's tables hold is then not read any more, and
 `compact` and `clean` remove them (`N.ldb`).
 
 A write-ahead log (`N.log`) that LevelDB has not flushed is `refused 51
-UnflushedLog N`, also where a database would be begun beside it: `import` makes
-a copy of DIR with what is in its logs. With --beside-log the batch comes in all
+UnflushedLog N`, also where a database would be begun beside it. With --recover
+the database of DIR first gets what is in its logs, as by `recover`, which is
+then done whatever comes of the batch. With --beside-log the batch comes in all
 the same; what stands in the log may then win over it in LevelDB, and be newer
 or older than it.
 
@@ -390,7 +396,9 @@ fault` the batch is in; after `refused 9 Device` it may be.",
 
 const PUT: Page = Page {
     name: "put",
-    arguments: &[FOLDER, KEY, VALUE, TEXT, BEGIN, BESIDE_LOG],
+    arguments: &[
+        FOLDER, KEY, VALUE, TEXT, BEGIN, BESIDE_LOG, RECOVERS, COMPARE,
+    ],
     about: "Gives a key of a folder a value",
     text: "Gives KEY the value VALUE in the LevelDB folder DIR, as one table at level 0, and
 prints `file N first L last L`: the table's number and its sequence, as `ingest`
@@ -402,11 +410,11 @@ Limits: 4096 bytes of KEY, 1048576 bytes of VALUE; past them it is
 131071 bytes: `ingest` brings a longer VALUE in.
 
 Each run makes a table and a manifest, so `ingest` is better for many keys. Of
---begin and --beside-log, and of all that is refused, its page says more: where
-CURRENT was lost it is `refused 10 Missing`, beside a log that LevelDB has not
-flushed `refused 51 UnflushedLog N`, where another program has DIR open
-`refused 52 Locked`, and at 12 tables in level 0 `refused 40 LevelZeroFull`: run
-`lsm compact DIR`, and then put again.
+--begin, --beside-log and --recover, and of all that is refused, its page says
+more: where CURRENT was lost it is `refused 10 Missing`, beside a log that
+LevelDB has not flushed `refused 51 UnflushedLog N`, where another program has
+DIR open `refused 52 Locked`, and at 12 tables in level 0 `refused 40
+LevelZeroFull`: run `lsm compact DIR`, and then put again.
 
 Exit status: 0 the key has the value, 1 refused, 2 bad command line. After a
 `write fault` it has it; after `refused 9 Device` it may.",
@@ -416,7 +424,7 @@ Exit status: 0 the key has the value, 1 refused, 2 bad command line. After a
 
 const DELETE: Page = Page {
     name: "delete",
-    arguments: &[FOLDER, KEY, TEXT, BEGIN, BESIDE_LOG],
+    arguments: &[FOLDER, KEY, TEXT, BEGIN, BESIDE_LOG, RECOVERS, COMPARE],
     about: "Deletes a key of a folder",
     text: "Deletes KEY in the LevelDB folder DIR, whether it has a value or not, by one
 table at level 0, and prints `file N first L last L`: the table's number and its
@@ -426,11 +434,11 @@ hex, or text with --text, `.` for no bytes.
 Limit: 4096 bytes of KEY; past it it is `refused 39 TooLarge`.
 
 Each run makes a table and a manifest, so `ingest` is better for many keys. Of
---begin and --beside-log, and of all that is refused, its page says more: where
-CURRENT was lost it is `refused 10 Missing`, beside a log that LevelDB has not
-flushed `refused 51 UnflushedLog N`, where another program has DIR open
-`refused 52 Locked`, and at 12 tables in level 0 `refused 40 LevelZeroFull`: run
-`lsm compact DIR`, and then delete again.
+--begin, --beside-log and --recover, and of all that is refused, its page says
+more: where CURRENT was lost it is `refused 10 Missing`, beside a log that
+LevelDB has not flushed `refused 51 UnflushedLog N`, where another program has
+DIR open `refused 52 Locked`, and at 12 tables in level 0 `refused 40
+LevelZeroFull`: run `lsm compact DIR`, and then delete again.
 
 Exit status: 0 the key is deleted, 1 refused, 2 bad command line. After a `write
 fault` it is; after `refused 9 Device` it may be.",
@@ -446,9 +454,11 @@ const LOAD: Page = Page {
         TEXT,
         BEGIN,
         BESIDE_LOG,
+        RECOVERS,
         WORKERS,
         FROM_LINE,
         LAST_LINE,
+        COMPARE,
         PROGRESS,
     ],
     about: "Brings lines of keys into a folder, any number in any order",
@@ -476,8 +486,8 @@ again too.
 
 Limits: 8388608 bytes of a line, 4096 bytes of a key, 1048576 bytes of a value.
 
-Of --begin and --beside-log, and of all that is refused before the first line,
-the page of `ingest` says more.
+Of --begin, --beside-log and --recover, and of all that is refused before the
+first line, the page of `ingest` says more.
 
 Exit status: 0 all lines are in, and nothing is due, 1 refused, 2 bad command
 line. After a `write fault` all lines are in; after `refused 9 Device` one batch
@@ -489,7 +499,7 @@ more than is said may be in.",
 
 const IMPORT: Page = Page {
     name: "import",
-    arguments: &[SOURCE, TARGET],
+    arguments: &[SOURCE, TARGET, COMPARE],
     about: "Copies a database, with its compressed tables and its logs",
     text: "Copies the database of the LevelDB folder SRC to the folder DST, which has to be
 there and to have none, and prints `tables T logs L entries E rest B`: how many
@@ -514,7 +524,7 @@ copy is there; after `refused 9 Device` it may be.",
 
 const RECOVER: Page = Page {
     name: "recover",
-    arguments: &[FOLDER],
+    arguments: &[FOLDER, COMPARE],
     about: "Brings the logs that are not flushed into the tables",
     text: "Brings the write-ahead logs of the LevelDB folder DIR that are not flushed into
 its tables, as LevelDB does when it opens the folder, and prints
@@ -548,6 +558,7 @@ const COMPACT: Page = Page {
         TEXT,
         WORKERS,
         ACCEPT_REST,
+        COMPARE,
         PROGRESS,
     ],
     about: "Compacts a folder until no level is too large",
@@ -610,7 +621,9 @@ command line.",
 
 const SHELL: Page = Page {
     name: "shell",
-    arguments: &[FOLDER, TEXT, BEGIN, BESIDE_LOG, COMPACTORS, BAIL],
+    arguments: &[
+        FOLDER, TEXT, BEGIN, BESIDE_LOG, RECOVERS, COMPACTORS, BAIL, COMPARE,
+    ],
     about: "Runs commands from standard input on a folder",
     text: "Opens the LevelDB folder DIR once, or begins a database there, as `ingest` does,
 and holds its lock; then it reads commands on standard input, one a line, and
@@ -660,8 +673,8 @@ on standard error asks for each line.
 `installed 0` where they are at what is due. At the end each of them ends what
 it has begun.
 
-Of --begin and --beside-log, and of all that is refused before the first line,
-the page of `ingest` says more. A second program that wants to write in DIR is
+Of --begin, --beside-log and --recover, and of all that is refused before the
+first line, the page of `ingest` says more. A second program that wants to write in DIR is
 `refused 52 Locked` as long as the shell runs.
 
 Exit status: 0 behind `quit` or the end of the input, 1 where a line was bad or
@@ -724,24 +737,28 @@ fn usage(name: CommandName) -> &'static str {
         CommandName::Dump => "lsm dump [FILE]",
         CommandName::Manifest => "lsm manifest [FILE]",
         CommandName::Script => "lsm script [FILE]",
-        CommandName::Check => "lsm check <DIR> [--workers <N>] [--strict] [--progress]",
-        CommandName::List => "lsm list <DIR> [--text] [--quick] [--strict]",
+        CommandName::Check => "lsm check <DIR> [--workers <N>] [--strict] [--compare] [--progress]",
+        CommandName::List => "lsm list <DIR> [--text] [--quick] [--strict] [--compare]",
         CommandName::Levels => "lsm levels <DIR> [--text] [--files] [--svg] [--strict]",
-        CommandName::Get => "lsm get <DIR> <KEY> [--text] [--raw] [--exists] [--quick] [--strict]",
+        CommandName::Get =>
+            "lsm get <DIR> <KEY> [--text] [--raw] [--exists] [--quick] [--strict] [--compare]",
         CommandName::Scan =>
-            "lsm scan <DIR> [--from <KEY>] [--to <KEY>] [--prefix <KEY>] [--limit <N>] [--text] [--keys] [--json] [--count] [--quick] [--strict] [--progress]",
-        CommandName::Ingest => "lsm ingest <DIR> <FILE> [--text] [--begin] [--beside-log]",
-        CommandName::Put => "lsm put <DIR> <KEY> <VALUE> [--text] [--begin] [--beside-log]",
-        CommandName::Delete => "lsm delete <DIR> <KEY> [--text] [--begin] [--beside-log]",
+            "lsm scan <DIR> [--from <KEY>] [--to <KEY>] [--prefix <KEY>] [--limit <N>] [--text] [--keys] [--json] [--count] [--quick] [--strict] [--compare] [--progress]",
+        CommandName::Ingest =>
+            "lsm ingest <DIR> <FILE> [--text] [--begin] [--beside-log] [--recover] [--compare]",
+        CommandName::Put =>
+            "lsm put <DIR> <KEY> <VALUE> [--text] [--begin] [--beside-log] [--recover] [--compare]",
+        CommandName::Delete =>
+            "lsm delete <DIR> <KEY> [--text] [--begin] [--beside-log] [--recover] [--compare]",
         CommandName::Load =>
-            "lsm load <DIR> [FILE] [--text] [--begin] [--beside-log] [--workers <N>] [--from-line <I>] [--last-line] [--progress]",
-        CommandName::Import => "lsm import <SRC> <DST>",
-        CommandName::Recover => "lsm recover <DIR>",
+            "lsm load <DIR> [FILE] [--text] [--begin] [--beside-log] [--recover] [--workers <N>] [--from-line <I>] [--last-line] [--compare] [--progress]",
+        CommandName::Import => "lsm import <SRC> <DST> [--compare]",
+        CommandName::Recover => "lsm recover <DIR> [--compare]",
         CommandName::Compact =>
-            "lsm compact <DIR> [--all] [--from <KEY>] [--to <KEY>] [--text] [--workers <N>] [--accept-rest] [--progress]",
+            "lsm compact <DIR> [--all] [--from <KEY>] [--to <KEY>] [--text] [--workers <N>] [--accept-rest] [--compare] [--progress]",
         CommandName::Clean => "lsm clean <DIR> [--accept-rest]",
         CommandName::Shell =>
-            "lsm shell <DIR> [--text] [--begin] [--beside-log] [--workers <N>] [--bail]",
+            "lsm shell <DIR> [--text] [--begin] [--beside-log] [--recover] [--workers <N>] [--bail] [--compare]",
         CommandName::Bench =>
             "lsm bench <DIR> [--benchmarks <LIST>] [--num <N>] [--value-size <N>] [--workers <N>]",
         CommandName::Help => "lsm help [COMMAND]",

@@ -4,7 +4,6 @@ use Rattle.lsm_directory.specs.DirectoryFault.{file_in}
 use Rattle.lsm_recovery.specs.declared.bring_fault.BringFault.{BringFault}
 use Rattle.lsm_recovery.specs.declared.bring_fault.BringFault.TheVariants.{OutOfMemory, Folder}
 use Rattle.lsm_recovery.specs.declared.bring_fault.BringFault.TheVariants.{Read, Bring, Tables}
-use Rattle.lsm_recovery.specs.declared.bring_fault.BringFault.TheVariants.{Write}
 
 -- the number of the file whose table is refused
 abbrev pub file_of : BringFault → Option ℕ
@@ -13,4 +12,3 @@ file_of (Folder fault) = None
 file_of (Read fault) = None
 file_of (Bring fault) = None
 file_of (Tables fault) = file_in fault
-file_of Write = None

@@ -29,8 +29,6 @@ pub enum BringFault {
     Bring(ImportFault),
     /// The tables are no version.
     Tables(CheckFault),
-    /// The writes came in, and the line of it was not written.
-    Write,
 }
 
 impl fmt::Display for BringFault {
@@ -43,7 +41,6 @@ impl fmt::Display for BringFault {
             BringFault::Read(fault) => write!(f, "{fault}"),
             BringFault::Bring(fault) => write!(f, "refused {} {fault}", fault.number()),
             BringFault::Tables(fault) => write!(f, "refused {} {fault}", fault.number()),
-            BringFault::Write => f.write_str("write fault"),
         }
     }
 }
@@ -66,7 +63,7 @@ impl Exit for BringFault {
             BringFault::Read(fault) => fault.refusal(),
             BringFault::Bring(fault) => Some(u64::from(fault.number())),
             BringFault::Tables(fault) => Some(u64::from(fault.number())),
-            BringFault::OutOfMemory | BringFault::Write => None,
+            BringFault::OutOfMemory => None,
         }
     }
 
@@ -81,10 +78,7 @@ impl Exit for BringFault {
             BringFault::Tables(CheckFault::Read(_, fault)) => {
                 DirectoryFault::Read(*fault).explain(err, &[])
             }
-            BringFault::OutOfMemory
-            | BringFault::Bring(_)
-            | BringFault::Tables(_)
-            | BringFault::Write => Ok(()),
+            BringFault::OutOfMemory | BringFault::Bring(_) | BringFault::Tables(_) => Ok(()),
         }
     }
 }

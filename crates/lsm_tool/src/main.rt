@@ -6,7 +6,7 @@
 
 use lsm_commands::{refuse_words, run};
 use lsm_directory::SystemPaths;
-use lsm_folder::Mute;
+use lsm_folder::{Images, Mute};
 use lsm_terminal::{
     BesideLine, OneLine, Prompted, asking, at_terminal, hold_streams, shows_how_far, tell_unwritten,
 };
@@ -25,7 +25,8 @@ fn is_shell(words: &[String]) -> bool {
     }
 }
 
-/// Does what the words of the command line ask, and answers the exit status. A shell between
+/// Does what the words of the command line ask, and answers the exit status: with `--compare` in
+/// folders whose reads are compared, which are honest whatever the disk is. A shell between
 /// terminals writes a prompt on standard error before each read of standard input; a command that
 /// may take long shows at a terminal how far it is. Where standard output could not be written, a
 /// line says why.
@@ -48,8 +49,18 @@ fn start<R: Threads + Wait + Clock + Sync>(rt: &R, host: HostRuntime) -> io::Res
     };
     let input = Prompted::new(host.stdin(), asks);
     let words = asking(host.alloc(), words, shows)?;
+    let second: Result<HostRuntime, _> = host.clone();
+    let compared = SystemPaths::<Images>::new(second?);
     let paths = SystemPaths::<Mute>::new(host);
-    let status = run(rt, &paths, words.as_slice(), input, &mut out, &mut err);
+    let status = run(
+        rt,
+        &paths,
+        &compared,
+        words.as_slice(),
+        input,
+        &mut out,
+        &mut err,
+    );
     let _ = tell_unwritten(status == 1, out.get_ref().fault(), &mut err);
     let _ = err.end(status == 0);
     Ok(status)

@@ -3,7 +3,7 @@ use Rattle.std.specs.Prelude.{IfOk, is_some}
 use Rattle.clap.specs.Words.{IsAmong, Kinds, Row, Text, kind_of, subcommand_rows_of}
 use Rattle.clap.specs.declared.error.ErrorKind.{ErrorKind}
 use Rattle.clap.specs.declared.error.ErrorKind.TheVariants.{OutOfMemory}
-use Rattle.lsm_grammar.specs.Requests.{AskNothing, IsAsked, IsLine, IsOf, IsOfKind, faults_in, found_in, topic_in}
+use Rattle.lsm_grammar.specs.Requests.{AskNothing, IsAsked, IsLine, IsOf, IsOfKind, faults_in, found_in, manner_in, topic_in}
 use Rattle.lsm_grammar.specs.declared.command_line.CommandLine.{CommandLine}
 use Rattle.lsm_grammar.specs.declared.command_line.CommandLine.TheVariants.{Run, Help, Bad}
 use Rattle.lsm_grammar.specs.declared.request.Request.{Request}
@@ -15,7 +15,8 @@ unasked words found same none = λ request asks. none request (subst (λ (f : Op
 
 line_is : {E : Type 0} (words : List Text) (found : Option (Text × List Row)) (r : Result CommandLine E) → faults_in words ≡ [] → found ≡ found_in words
     → IfOk r (IsOf found) → IfOk r (IsLine words)
-line_is words found (Ok (Run request)) good same of = (good, subst (λ (f : Option (Text × List Row)). IsAsked f request) same of)
+line_is words found (Ok (Run request manner)) good same of =
+    ((good, subst (λ (f : Option (Text × List Row)). IsAsked f request) same of.0), of.1 ∙ ap manner_in same)
 line_is words found (Ok (Help text)) good same of =
     (unasked words found same of.0, inr (good, ap (λ (f : Option (Text × List Row)). is_some (topic_in f)) (sym same) ∙ of.1))
 line_is words found (Ok (Bad text)) good same of =
@@ -36,7 +37,7 @@ asks_nothing k words among = λ request asks. none_among k (faults_in words) amo
 
 told_is : {E : Type 0} (words : List Text) (k : ErrorKind) (r : Result CommandLine E) → (k ≢ OutOfMemory → IsAmong k (faults_in words))
     → IfOk r (λ _. k ≢ OutOfMemory) → IfOk r (IsOfKind k) → IfOk r (IsLine words)
-told_is words k (Ok (Run request)) among other of = absurd of
+told_is words k (Ok (Run request manner)) among other of = absurd of
 told_is words k (Ok (Help text)) among other (inl help) =
     let a = among other in (asks_nothing k words a, inl (inl (subst (λ (x : ErrorKind). IsAmong x (faults_in words)) help a)))
 told_is words k (Ok (Help text)) among other (inr version) =
