@@ -29,7 +29,7 @@ use Rattle.lsm_commands.specs.Compared.{AreCompared, ShowsTheTruth, Tells}
 use Rattle.lsm_commands.specs.Run.{AreFollowed, AreUnfollowed, IsDone, IsFollowed, IsUnfollowed}
 
 never : (b : Bool) → b ≡ false → b ≡ true → ⊥
-never b no yes = absurd cc
+never b is_false is_true = absurd cc
 
 relies : (Honest : Type 0) → Honest → (command : DirectoryCommand) → ReliesOn Honest command
 relies Honest honest (Check workers) = tt
@@ -111,6 +111,7 @@ module _ {C M : Type 0} (folders : Ghosts C M) (marks : mark.Ghosts M)
   pub compared : (old new said_old said_new : Option (List ℕ))
       → IsFollowed folders marks holds text request manner old new said_old said_new
       → AreCompared folders marks holds text words old new said_old said_new
+  unfolding followed
   compared old new said_old said_new done = record {
     done = followed
         folders
