@@ -1,3 +1,4 @@
 pub mod DatabaseLaws
+pub mod KeepingLaws
 pub mod PairLaws
 pub mod RunLaws
