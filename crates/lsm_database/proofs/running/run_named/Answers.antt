@@ -23,7 +23,7 @@ pub returns-in-Ok-run_state-clause-ran : goal.returns-in-Ok-run_state-clause-ran
 returns-in-Ok-run_state-clause-ran g c =
     let H = g.S.Shelf.honest in
     let program = c.args.program in
-    let run = c.in-Ok-run_state.run in
+    let run = c.in-Ok-run_state.run' in
     record {
       state = c.in-Ok.state;
       mid = c.start.new.shelf;

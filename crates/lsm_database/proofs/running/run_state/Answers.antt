@@ -36,7 +36,7 @@ pub returns-in-Some-clause-said : goal.returns-in-Some-clause-said
 returns-in-Some-clause-said g c =
     let said = c.in-Some.ensures.said in
     let program = c.args.program in
-    let answer = c.in-Some.run.0 in (
+    let answer = c.in-Some.run'.0 in (
       said.0,
       said.1,
       subst (λ (es : List Entry). g.P.Program.says program g.S.Shelf.honest es said.0 answer)
