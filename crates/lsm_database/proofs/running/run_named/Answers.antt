@@ -10,8 +10,8 @@ returns-in-Err-clause-refused g c = inl c.in-Err.ensures.refused
 pub run_state-requires-clause-asks : goal.run_state-requires-clause-asks
 run_state-requires-clause-asks g c κs within = λ ws may. may
 
-pub returns-clause-refused : goal.returns-clause-refused
-returns-clause-refused g c = inr (
+pub returns-in-Err-run_state-clause-refused : goal.returns-in-Err-run_state-clause-refused
+returns-in-Err-run_state-clause-refused g c = inr (
   c.in-Ok.state,
   c.start.new.shelf,
   c.in-Ok.ensures.started,
