@@ -76,9 +76,9 @@ where
 /// Opens the database in the folder at a path, or begins one where no file of one is there, and
 /// runs a program on it while two workers compact. Answers what the program answers, and what each
 /// worker has done, the last one where there are three being one that only gathered: a worker that
-/// met a fault has ended early. Nothing comes in but what the program may ask for. Once it answers,
-/// the lock of the folder is free, and all that was written is on the device. `folders` says where
-/// folders are found: `SystemPaths` finds those of the system.
+/// met a fault has ended early. What came in until the program answered is what it may ask for.
+/// Once `open` answers, the lock of the folder is free, and all that was written is on the device.
+/// `folders` says where folders are found: `SystemPaths` finds those of the system.
 ///
 /// The folder has to be there. `Directory` where it can't be locked, read or written, or the
 /// database in it can't be read; `LostCurrent` where it has files of a database and no `CURRENT`;

@@ -1,6 +1,5 @@
-use Rattle.std.proofs.Common.{inl, inr, sym, subst}
+use Rattle.std.proofs.Common.{inl, inr, subst}
 use Rattle.lsm_state.specs.Held.{Held}
-use Rattle.lsm_store.specs.Readers.{SeatsPinners}
 use Rattle.lsm_database.specs.Keeping.{HasSaid}
 use Rattle.lsm_database.proofs.running.run_named.Goals as goal
 
