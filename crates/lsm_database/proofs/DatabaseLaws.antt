@@ -12,7 +12,7 @@ use Rattle.lsm_shelf.specs.Asked.{Asked}
 use Rattle.lsm_shelf.specs.Told.{Becomes, Told}
 use Rattle.lsm_shelf.specs.declared.shelf_fault.ShelfFault.{ShelfFault}
 use Rattle.lsm_batch.specs.declared.write.Write.{Write}
-use Rattle.lsm_version.specs.Versions.{Levels, files}
+use Rattle.lsm_version.specs.Versions.{files}
 use Rattle.lsm_state.specs.Held.{Held, plain}
 use Rattle.lsm_state.specs.Ingesting.{IsIngestRefusal}
 use Rattle.lsm_state.specs.declared.ingest.Ingested.{Ingested}

@@ -12,6 +12,7 @@ use Rattle.lsm_storage.specs.FileShelf.{folder_of}
 use Rattle.lsm_storage.specs.declared.file.file_shelf.FileShelf.{FileShelf}
 use Rattle.lsm_directory.specs.Folders.{IsFolderAt, IsShelfAt, stored_at, told_by}
 use Rattle.lsm_directory.specs.declared.folder.folder_file.FolderFile.{FolderFile}
+use Rattle.lsm_batch.specs.declared.write.Write.{Write}
 use Rattle.lsm_requests.specs.declared.ingest_options.IngestOptions.{IngestOptions}
 use Rattle.lsm_opening.specs.Preparing.{IsPrepared, IsUnprepared, plainly}
 use Rattle.lsm_opening.specs.declared.faults.writer_fault.WriterFault.{WriterFault}
@@ -49,14 +50,17 @@ module _ {C M : Type 0} (folders : Ghosts C M) where
   }
 
   -- where the program ran on it
-  pub runs_at : {X E : Type 0} (r : Result X E) (path : List ℕ) (Says : X → List Entry → Type 0) (ends : X → List WorkerEnd)
-      (start : Start) (logs : List FolderFile) (begun ended : FileShelf C M)
+  pub runs_at : {X E : Type 0} (r : Result X E) (path : List ℕ)
+      (Asks : List Entry → List Write → Type 0) (Says : X → (before after : List Entry) → Type 0)
+      (ends : X → List WorkerEnd) (start : Start) (logs : List FolderFile)
+      (begun ended : FileShelf C M)
       → IsShelfAt folders path (IsPrepared plainly start logs) begun
-      → IfOk r (λ x. Runs (AreHonest folders.calls) start logs (Says x) (ends x) (told_by folders begun) (told_by folders ended))
-      → IfOk r (λ x. RunsAt folders path (Says x) (ends x))
-  runs_at (Ok x) path Says ends start logs begun ended on ran =
+      → IfOk r (λ x. Runs (AreHonest folders.calls) start logs Asks (Says x) (ends x)
+      (told_by folders begun) (told_by folders ended))
+      → IfOk r (λ x. RunsAt folders path Asks (Says x) (ends x))
+  runs_at (Ok x) path Asks Says ends start logs begun ended on ran =
       record { start = start; logs = logs; begun = begun; on = on; ended = ended; ran = ran }
-  runs_at (Err e) path Says ends start logs begun ended on ran = tt
+  runs_at (Err e) path Asks Says ends start logs begun ended on ran = tt
 
 module _ {C M : Type 0} (folders : Ghosts C M) (marks : mark.Ghosts M) where
   -- and where it did not

@@ -1,5 +1,6 @@
 -- What the run of a program on a database is, and why there is none (this project's rule).
 use Rattle.std.specs.Prelude.{◌≡◌, ◌⊎◌, ℕ, List, All}
+use Rattle.lsm_batch.specs.declared.write.Write.{Write}
 use Rattle.lsm_codec.specs.Entries.{Entry}
 use Rattle.lsm_folder.specs.Calls.{AreHonest}
 use Rattle.lsm_folder.specs.declared.folder_calls.FolderCalls.{Ghosts}
@@ -23,19 +24,22 @@ use Rattle.lsm_opening.specs.declared.prepared.Start.{Start}
 use Rattle.lsm_opening.specs.declared.faults.writer_fault.WriterFault.{WriterFault}
 use Rattle.lsm_opening.specs.declared.faults.writer_fault.WriterFault.TheVariants.{Directory}
 use Rattle.lsm_opening.specs.declared.faults.writer_fault.WriterFault.TheVariants.{OutOfMemory}
+use Rattle.lsm_database.specs.Keeping.{HasSaid}
 
 -- ---- on a shelf
 
--- The database was begun or opened, and a program answered; this is what it says, of all that had
--- come in before. Workers compacted beside it, and ended so. Once the database was begun or opened
--- its shelf was asked for forks alone.
+-- The database was begun or opened, and a program answered, which may ask for such batches; this is
+-- what it says, of all that had come in before, and of all that it knew in the end. Workers
+-- compacted beside it, and ended so. Once the database was begun or opened its shelf was asked for
+-- forks alone.
 pub record Runs (Honest : Type 0) (start : Start) (logs : List FolderFile)
-    (Says : List Entry → Type 0) (ends : List WorkerEnd) (was is : Told) : Type 0 where
+    (Asks : List Entry → List Write → Type 0) (Says : (before after : List Entry) → Type 0)
+    (ends : List WorkerEnd) (was is : Told) : Type 0 where
   pub state : Held
   pub mid : Told
   pub started : IsStarted Honest start logs state was mid
   pub forked : Forked mid is
-  pub said : Says state.history
+  pub said : HasSaid (Asks state.history) state (Says state.history)
   pub each : All (IsWorkersEnd Honest) ends
 
 -- memory ran out, or there was no thread; or a shelf was not forked
@@ -56,14 +60,14 @@ IsRunRefusal Stored Refused Honest start logs e was is =
 module _ {C M : Type 0} (folders : Ghosts C M) where
   -- The lock of the folder at this path was held, and it was looked at. On a shelf of it the
   -- database was begun or opened, and a program ran.
-  pub record RunsAt (path : List ℕ) (Says : List Entry → Type 0) (ends : List WorkerEnd)
-      : Type 0 where
+  pub record RunsAt (path : List ℕ) (Asks : List Entry → List Write → Type 0)
+      (Says : (before after : List Entry) → Type 0) (ends : List WorkerEnd) : Type 0 where
     pub start : Start
     pub logs : List FolderFile
     pub begun : FileShelf C M
     pub on : IsShelfAt folders path (IsPrepared plainly start logs) begun
     pub ended : FileShelf C M
-    pub ran : Runs (AreHonest folders.calls) start logs Says ends
+    pub ran : Runs (AreHonest folders.calls) start logs Asks Says ends
         (told_by folders begun) (told_by folders ended)
 
   -- Memory ran out, or no folder was opened at the path; or its lock was not held, or the looking

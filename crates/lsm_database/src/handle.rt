@@ -5,7 +5,9 @@ ghost use Rattle.std.specs.Option.{option_map};
 ghost use Rattle.lsm_database.specs.Calls.{AnswersRead};
 ghost use Rattle.lsm_database.specs.Databases.{ComesIn, Finds, IsUnread, Shows};
 ghost use Rattle.lsm_database.specs.Databases.{StaysOut, seen};
+ghost use Rattle.lsm_database.specs.Keeping.{CameIn};
 
+use crate::asking::{AskedFor, Asking};
 use crate::found::Found;
 use crate::known::Known;
 use crate::lent::{bring_in, find_in, scan_in};
@@ -16,25 +18,29 @@ use lsm_query::Pair;
 use lsm_reader::Cached;
 use lsm_slots::Boarded;
 use lsm_state::{Ingested, StateFault};
-use lsm_store::{Background, Store};
+use lsm_store::{Background, Invariant, Store};
 use lsm_table::{NamedShelf, ReadFault, Shelf};
 use std::alloc::Global;
 use std::sync::Wait;
 
 /// A database that is open, while workers compact beside: the store, a shelf that it writes to, and
-/// one from which it reads, and what it knows to have come in.
+/// one from which it reads, and what it knows to have come in, which was asked for.
 #[derive(Drop)]
-pub(crate) struct Handle<'a, N: Boarded, S: Shelf, R: Wait> {
+pub(crate) struct Handle<'a, N: Boarded, S: Shelf, A: Asking, R: Wait>
+where
+    AskedFor<N, S, A>: Invariant,
+{
     pub(crate) rt: &'a R,
     pub(crate) alloc: Global,
-    pub(crate) store: &'a Store<N, S>,
+    pub(crate) store: &'a Store<N, S, AskedFor<N, S, A>>,
     pub(crate) background: &'a Background,
     pub(crate) shelf: NamedShelf<N, S>,
     pub(crate) blocks: Cached<N, S>,
     pub(crate) memory: Memory<N>,
+    pub ghost asked: { ∥ CameIn A.asks A.found memory ∥₁ },
 }
 
-impl<'a, N: Boarded, S: Shelf, R: Wait> Known for Handle<'a, N, S, R> {
+impl<'a, N: Boarded, S: Shelf, A: Asking, R: Wait> Known for Handle<'a, N, S, A, R> {
     ghost use Rattle.lsm_database.specs.Databases.{seen};
 
     ghost seen = { λ d. seen d.memory d.shelf d.blocks };
@@ -42,11 +48,18 @@ impl<'a, N: Boarded, S: Shelf, R: Wait> Known for Handle<'a, N, S, R> {
     ghost honest = { S.honest };
 
     ghost refuses = { S.refuses N.place };
+
+    ghost found = { A.found };
+
+    ghost asks = { A.asks };
+
+    ghost asked = { λ d. d.asked };
 }
 
-impl<'a, N: Boarded, S: Shelf, R: Wait> Handle<'a, N, S, R> {
+impl<'a, N: Boarded, S: Shelf, A: Asking, R: Wait> Handle<'a, N, S, A, R> {
     // One try, after which the workers look again.
     fn try_write(&mut self, batch: &Batch) -> Result<Ingested, StateFault>
+        requires asked { A.asks batch.now }
         ensures came { IfOk result (λ r. ComesIn batch.now r
             (seen self.old.memory self.old.shelf self.old.blocks)
             (seen self.new.memory self.new.shelf self.new.blocks)) }
@@ -68,6 +81,7 @@ impl<'a, N: Boarded, S: Shelf, R: Wait> Handle<'a, N, S, R> {
 
     /// `Database::write`.
     pub(crate) fn write(&mut self, batch: &Batch) -> Result<Ingested, StateFault>
+        requires asked { A.asks batch.now }
         ensures came { IfOk result (λ r. ComesIn batch.now r
             (seen self.old.memory self.old.shelf self.old.blocks)
             (seen self.new.memory self.new.shelf self.new.blocks)) }

@@ -50,6 +50,7 @@ pub(crate) fn find_in<N: Boarded, S: Shelf>(
     key: &[u8],
 ) -> Result<Option<Vec<u8>>, ReadFault>
     ensures lent { IsLent S.honest state.old memory.old memory.new }
+    ensures same { state.new ≡ state.old }
     ensures answer { S.honest → IfOk result (λ v. option_map (λ b. b.items) v
         ≡ answer (all_entries (files state.old.slots.version)) key.now
         state.old.slots.version.last) }
@@ -72,6 +73,7 @@ pub(crate) fn scan_in<N: Boarded, S: Shelf>(
     limit: usize,
 ) -> Result<Vec<Pair>, ReadFault>
     ensures lent { IsLent S.honest state.old memory.old memory.new }
+    ensures same { state.new ≡ state.old }
     ensures shown { S.honest → IfOk result (λ v. (all : _)
         × IsScan state.old.slots.version.last
         (at_or_past from.now (all_entries (files state.old.slots.version))) all

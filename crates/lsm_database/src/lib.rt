@@ -9,6 +9,7 @@
 #![tactic(auto)]
 
 // A database that is open: what comes in, what is read.
+mod asking;
 mod batches;
 mod database;
 mod found;

@@ -58,7 +58,8 @@ where
     R: Threads + Wait + Sync,
     P: Program,
     ensures ran { IfOk result (λ r. RunsAt C.FolderCalls path.now
-        (λ es. P.says program (AreHonest C.calls) es r.0) r.1.items) }
+        (P.asks program (AreHonest C.calls))
+        (λ es fs. P.says program (AreHonest C.calls) es fs r.0) r.1.items) }
     ensures count { IfOk result (λ r. (2 ≤ vec_len r.1) × (vec_len r.1 ≤ 3)) }
     ensures refused { IfErr result (IsUnopened C.FolderCalls C.Mark.Mark path.now) }
 {
@@ -75,9 +76,9 @@ where
 /// Opens the database in the folder at a path, or begins one where no file of one is there, and
 /// runs a program on it while two workers compact. Answers what the program answers, and what each
 /// worker has done, the last one where there are three being one that only gathered: a worker that
-/// met a fault has ended early. Once it answers, the lock of the
-/// folder is free, and all that was written is on the device. `folders` says where folders are
-/// found: `SystemPaths` finds those of the system.
+/// met a fault has ended early. What came in until the program answered is what it may ask for.
+/// Once `open` answers, the lock of the folder is free, and all that was written is on the device.
+/// `folders` says where folders are found: `SystemPaths` finds those of the system.
 ///
 /// The folder has to be there. `Directory` where it can't be locked, read or written, or the
 /// database in it can't be read; `LostCurrent` where it has files of a database and no `CURRENT`;
@@ -96,7 +97,8 @@ where
     R: Threads + Wait + Sync,
     P: Program,
     ensures ran { IfOk result (λ r. RunsAt C.FolderCalls path.now
-        (λ es. P.says program (AreHonest C.calls) es r.0) r.1.items) }
+        (P.asks program (AreHonest C.calls))
+        (λ es fs. P.says program (AreHonest C.calls) es fs r.0) r.1.items) }
     ensures count { IfOk result (λ r. (2 ≤ vec_len r.1) × (vec_len r.1 ≤ 3)) }
     ensures refused { IfErr result (λ e. IsUnopened C.FolderCalls C.Mark.Mark path.now e.fault) }
 {

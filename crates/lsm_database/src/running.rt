@@ -1,14 +1,19 @@
 //! A program runs on the database of a shelf.
 
-ghost use Rattle.std.specs.Prelude.{◌≡◌, ◌+◌, ◌≤◌, All, IfErr, IfOk, IfSome, vec_len};
+ghost use Rattle.std.specs.Prelude.{◌≡◌, ◌+◌, ◌≤◌, List, All, IfErr, IfOk, IfSome};
+ghost use Rattle.std.specs.Prelude.{vec_len};
+ghost use Rattle.lsm_batch.specs.declared.write.Write.{Write};
 ghost use Rattle.lsm_shelf.specs.Stored.{Stored};
 ghost use Rattle.lsm_shelf.specs.Told.{Forked, NotNamed};
+ghost use Rattle.lsm_store.specs.Readers.{SeatsPinners};
 ghost use Rattle.lsm_store.specs.Workers.{IsWorkersEnd};
 ghost use Rattle.lsm_opening.specs.Parts.{AreOf, usual};
 ghost use Rattle.lsm_database.specs.Calls.{AnswersRead, AnswersWrite};
 ghost use Rattle.lsm_database.specs.Databases.{seen};
-ghost use Rattle.lsm_database.specs.Running.{IsRunRefusal, Runs};
+ghost use Rattle.lsm_database.specs.Keeping.{HasSaid};
+ghost use Rattle.lsm_database.specs.Running.{IsRunRefusal, IsUnforked, Runs};
 
+use crate::asking::{AskedFor, Asking};
 use crate::found::Found;
 use crate::handle::Handle;
 use crate::program::Program;
@@ -47,22 +52,29 @@ fn cache_over<N: Boarded, S: Shelf>(
     Ok(cache)
 }
 
+/// What a read answers, or why it is refused.
+type Answered = Result<Found, ReadFault>;
+
 /// Runs a program on a database.
-fn run_on_handle<N: Boarded, S: Shelf, R: Wait, P: Program>(
-    handle: Handle<'_, N, S, R>,
+fn run_on_handle<N: Boarded, S: Shelf, A: Asking, R: Wait, P: Program>(
+    handle: Handle<'_, N, S, A, R>,
     program: P,
 ) -> P::Answer
-    ensures said { P.says program S.honest handle.entry.memory result }
+    requires asks { (ws : List Write) → P.asks program S.honest handle.memory ws → A.asks ws }
+    requires found { handle.memory ≡ A.found.history }
+    ensures said { HasSaid A.asks A.found (λ es.
+        P.says program S.honest handle.entry.memory es result) }
 {
     run_served(
         handle.alloc,
         handle,
-        |handle: &mut Handle<'_, N, S, R>, batch: &Batch| -> Result<Ingested, StateFault>
+        |handle: &mut Handle<'_, N, S, A, R>, batch: &Batch| -> Result<Ingested, StateFault>
+            requires asked { A.asks batch.now }
             ensures { AnswersWrite (S.refuses N.place) batch.now result
                 (seen handle.old.memory handle.old.shelf handle.old.blocks)
                 (seen handle.new.memory handle.new.shelf handle.new.blocks) }
         { handle.write(batch) },
-        |handle: &mut Handle<'_, N, S, R>, key: &[u8], wanted: Wanted| -> Result<Found, ReadFault>
+        |handle: &mut Handle<'_, N, S, A, R>, key: &[u8], wanted: Wanted| -> Answered
             ensures { AnswersRead S.honest (S.refuses N.place) key.now wanted result
                 (seen handle.old.memory handle.old.shelf handle.old.blocks)
                 (seen handle.new.memory handle.new.shelf handle.new.blocks) }
@@ -74,17 +86,20 @@ fn run_on_handle<N: Boarded, S: Shelf, R: Wait, P: Program>(
 /// Runs a program on the state of a store, while a worker for each shelf compacts: its answer, and
 /// the workers' ends. None where there was no memory and no thread for the workers; then it did not
 /// run.
-fn run_in_store<N: Boarded, S: Shelf, R: Threads + Wait + Sync, P: Program>(
+fn run_in_store<N: Boarded, S: Shelf, A: Asking, R: Threads + Wait + Sync, P: Program>(
     rt: &R,
     alloc: Global,
-    store: &Store<N, S>,
+    store: &Store<N, S, AskedFor<N, S, A>>,
     shelves: Vec<NamedShelf<N, S>>,
     shelf: NamedShelf<N, S>,
     blocks: Cached<N, S>,
     memory: Memory<N>,
     program: P,
 ) -> Option<(P::Answer, Vec<WorkerEnd>)>
-    ensures said { IfSome result (λ r. P.says program S.honest memory r.0) }
+    requires asks { (ws : List Write) → P.asks program S.honest memory ws → A.asks ws }
+    requires found { memory ≡ A.found.history }
+    ensures said { IfSome result (λ r. HasSaid A.asks A.found (λ es.
+        P.says program S.honest memory es r.0)) }
     ensures count { IfSome result (λ r. (vec_len shelves ≤ vec_len r.1)
         × (vec_len r.1 ≤ vec_len shelves + 1)) }
     ensures ends { IfSome result (λ r. All (IsWorkersEnd S.honest) r.1.items) }
@@ -96,7 +111,9 @@ fn run_in_store<N: Boarded, S: Shelf, R: Threads + Wait + Sync, P: Program>(
         shelves,
         &NoGate,
         move |background: &Background| -> P::Answer
-            ensures { P.says program S.honest memory result }
+            requires asks { (ws : List Write) → P.asks program S.honest memory ws → A.asks ws }
+            requires found { memory ≡ A.found.history }
+            ensures { HasSaid A.asks A.found (λ es. P.says program S.honest memory es result) }
         {
             let handle = Handle {
                 rt,
@@ -119,6 +136,49 @@ fn run_in_store<N: Boarded, S: Shelf, R: Threads + Wait + Sync, P: Program>(
     }
 }
 
+/// Runs a program on a state with this history while so many workers compact. Of the shelf only
+/// forks are asked.
+fn run_state<N: Boarded, S: Shelf, A: Asking, R: Threads + Wait + Sync, P: Program>(
+    rt: &R,
+    alloc: Global,
+    state: State<N, S>,
+    memory: Memory<N>,
+    shelf: &mut NamedShelf<N, S>,
+    workers: usize,
+    program: P,
+) -> Result<(P::Answer, Vec<WorkerEnd>), WriterFault>
+    requires seats { SeatsPinners state }
+    requires known { memory ≡ state.history }
+    requires asks { (ws : List Write) → P.asks program S.honest state.history ws → A.asks ws }
+    requires found { A.found ≡ state }
+    ensures said { IfOk result (λ r. HasSaid A.asks A.found (λ es.
+        P.says program S.honest state.history es r.0)) }
+    ensures count { IfOk result (λ r. (workers ≤ vec_len r.1) × (vec_len r.1 ≤ workers + 1)) }
+    ensures ends { IfOk result (λ r. All (IsWorkersEnd S.honest) r.1.items) }
+    ensures told { Forked shelf.old shelf.new }
+    ensures refused { IfErr result IsUnforked }
+{
+    let blocks = match cache_over(alloc, shelf) {
+        Ok(blocks) => blocks,
+        Err(fault) => return Err(WriterFault::of_shelf(fault)),
+    };
+    let Crew {
+        store,
+        shelves,
+        own,
+    } = match Crew::new(alloc, state, shelf, workers) {
+        Ok(crew) => crew,
+        Err((_state, fault)) => return Err(WriterFault::of_shelf(fault)),
+    };
+    let run = run_in_store::<N, S, A, R, P>(
+        rt, alloc, &store, shelves, own, blocks, memory, program,
+    );
+    match run {
+        Some(run) => Ok(run),
+        None => Err(WriterFault::OutOfMemory),
+    }
+}
+
 /// Begins or opens the database of a shelf, and runs a program on it while so many workers compact.
 /// Once it is begun or opened the shelf is asked for forks alone.
 fn run_named<N: Boarded, S: Shelf, R: Threads + Wait + Sync, P: Program>(
@@ -132,7 +192,8 @@ fn run_named<N: Boarded, S: Shelf, R: Threads + Wait + Sync, P: Program>(
 ) -> Result<(P::Answer, Vec<WorkerEnd>), WriterFault>
     requires parts { AreOf usual N.registry N.board N.history parts }
     ensures ran { IfOk result (λ r. Runs S.honest prepared.now.start prepared.now.logs.items
-        (λ es. P.says program S.honest es r.0) r.1.items shelf.old shelf.new) }
+        (P.asks program S.honest) (λ es fs. P.says program S.honest es fs r.0) r.1.items shelf.old
+        shelf.new) }
     ensures count { IfOk result (λ r. (workers ≤ vec_len r.1) × (vec_len r.1 ≤ workers + 1)) }
     ensures refused { IfErr result (λ e. IsRunRefusal (Stored S.Receipt (S.is_of N.place)
         S.Receipt.number S.Receipt.image) (S.refuses N.place) S.honest prepared.now.start
@@ -143,21 +204,9 @@ fn run_named<N: Boarded, S: Shelf, R: Threads + Wait + Sync, P: Program>(
         Err(fault) => return Err(fault),
     };
     let memory = state.remember();
-    let blocks = match cache_over(alloc, shelf) {
-        Ok(blocks) => blocks,
-        Err(fault) => return Err(WriterFault::of_shelf(fault)),
-    };
-    let Crew {
-        store,
-        shelves,
-        own,
-    } = match Crew::new(alloc, state, shelf, workers) {
-        Ok(crew) => crew,
-        Err((_state, fault)) => return Err(WriterFault::of_shelf(fault)),
-    };
-    match run_in_store(rt, alloc, &store, shelves, own, blocks, memory, program) {
-        Some(run) => Ok(run),
-        None => Err(WriterFault::OutOfMemory),
+    match run_state::<N, S, Brand, R, P>(rt, alloc, state, memory, shelf, workers, program) {
+        Ok(run) => Ok(run),
+        Err(fault) => Err(fault),
     }
 }
 
@@ -174,7 +223,8 @@ fn run_as<N: Boarded, S: Shelf, R: Threads + Wait + Sync, P: Program>(
     requires parts { AreOf usual N.registry N.board N.history parts }
     requires shelf { (S.told shelf).place ≡ N.place }
     ensures ran { IfOk result.0 (λ r. Runs S.honest prepared.now.start prepared.now.logs.items
-        (λ es. P.says program S.honest es r.0) r.1.items (S.told shelf) (S.told result.1)) }
+        (P.asks program S.honest) (λ es fs. P.says program S.honest es fs r.0) r.1.items
+        (S.told shelf) (S.told result.1)) }
     ensures count { IfOk result.0 (λ r. (workers ≤ vec_len r.1)
         × (vec_len r.1 ≤ workers + 1)) }
     ensures refused { IfErr result.0 (λ e. IsRunRefusal (Stored S.Receipt (S.is_of N.place)
@@ -198,7 +248,8 @@ pub(crate) fn run_on<S: Shelf, R: Threads + Wait + Sync, P: Program>(
     program: P,
 ) -> (Result<(P::Answer, Vec<WorkerEnd>), WriterFault>, S)
     ensures ran { IfOk result.0 (λ r. Runs S.honest prepared.now.start prepared.now.logs.items
-        (λ es. P.says program S.honest es r.0) r.1.items (S.told shelf) (S.told result.1)) }
+        (P.asks program S.honest) (λ es fs. P.says program S.honest es fs r.0) r.1.items
+        (S.told shelf) (S.told result.1)) }
     ensures count { IfOk result.0 (λ r. (workers ≤ vec_len r.1)
         × (vec_len r.1 ≤ workers + 1)) }
     ensures refused { IfErr result.0 (λ e. IsRunRefusal (Stored S.Receipt

@@ -1,6 +1,9 @@
 //! A database whose calls are closures.
 
+ghost use Rattle.std.specs.Prelude.{◌≡◌, List};
+ghost use Rattle.lsm_batch.specs.declared.write.Write.{Write};
 ghost use Rattle.lsm_database.specs.Calls.{AnswersRead, AnswersWrite};
+ghost use Rattle.lsm_database.specs.Keeping.{HasSaid};
 
 use crate::batches::{delete_of, put_of};
 use crate::database::Database;
@@ -41,8 +44,13 @@ impl<
 
     ghost refuses = { I.refuses };
 
+    ghost found = { I.found };
+
+    ghost asks = { I.asks };
+
     ghost ready = { λ s.
-        (W.IsAlwaysCallable s.write × ((x : _) (b : _) (r : _) (y : _) → W.post s.write x b r y
+        (((x : _) (b : _) → I.asks b.now → W.pre s.write x b)
+        × ((x : _) (b : _) (r : _) (y : _) → W.post s.write x b r y
         → AnswersWrite I.refuses b.now r (I.seen x.now) (I.seen y.now)))
         × (G.IsAlwaysCallable s.read
         × ((x : _) (k : _) (w : _) (r : _) (y : _) → G.post s.read x k w r y
@@ -86,13 +94,17 @@ pub(crate) fn run_served<
     G: Fn(&mut I, &[u8], Wanted) -> Result<Found, ReadFault> + Drop,
     P: Program,
 >(alloc: Global, inner: I, write: W, read: G, program: P) -> P::Answer
-    requires write { W.IsAlwaysCallable write
+    requires write { ((x : _) (b : _) → I.asks b.now → W.pre write x b)
         × ((x : _) (b : _) (r : _) (y : _) → W.post write x b r y
         → AnswersWrite I.refuses b.now r (I.seen x.now) (I.seen y.now)) }
     requires read { G.IsAlwaysCallable read
         × ((x : _) (k : _) (w : _) (r : _) (y : _) → G.post read x k w r y
         → AnswersRead I.honest I.refuses k.now w r (I.seen x.now) (I.seen y.now)) }
-    ensures said { P.says program I.honest (I.seen inner).known result }
+    requires asks { (ws : List Write) → P.asks program I.honest (I.seen inner).known ws
+        → I.asks ws }
+    requires found { (I.seen inner).known ≡ I.found.history }
+    ensures said { HasSaid I.asks I.found (λ es.
+        P.says program I.honest (I.seen inner).known es result) }
 {
     let mut database = Served {
         alloc,

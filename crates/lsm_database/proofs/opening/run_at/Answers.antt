@@ -11,7 +11,10 @@ pub returns-clause-ran : goal.returns-clause-ran
 returns-clause-ran g c =
     let start = c.in-Ok.found.1.start in
     let logs = c.in-Ok.found.1.logs.items in
-    runs_at g.C.FolderCalls c.run_on-run.result.0 c.args.path.now (λ r es. g.P.Program.says c.args.program (AreHonest g.C.FolderCalls.calls) es r.0) (λ r. r.1.items)
+    runs_at g.C.FolderCalls c.run_on-run.result.0 c.args.path.now
+    (g.P.Program.asks c.args.program (AreHonest g.C.FolderCalls.calls))
+    (λ r es fs. g.P.Program.says c.args.program (AreHonest g.C.FolderCalls.calls) es fs r.0)
+    (λ r. r.1.items)
     start logs c.over-shelf.result c.run_on-run.result.1
     (shelf_on g.C.FolderCalls c.args.path.now (IsPrepared plainly start logs) c.in-Ok.found.0 c.over-shelf.result c.in-Ok.ensures.prepared c.over-shelf.ensures.folder
     c.over-shelf.ensures.fresh)

@@ -1,33 +1,36 @@
-use Rattle.std.proofs.Common.{inl, inr, refl, subst}
-use Rattle.lsm_shelf.proofs.CallerLemmas.{forked_then}
+use Rattle.std.proofs.Common.{inl, inr, subst}
+use Rattle.lsm_state.specs.Held.{Held}
+use Rattle.lsm_database.specs.Keeping.{HasSaid}
 use Rattle.lsm_database.proofs.running.run_named.Goals as goal
 
 pub returns-in-Err-clause-refused : goal.returns-in-Err-clause-refused
 returns-in-Err-clause-refused g c = inl c.in-Err.ensures.refused
 
-pub returns-in-Err-cache_over-clause-refused : goal.returns-in-Err-cache_over-clause-refused
-returns-in-Err-cache_over-clause-refused g c =
-    inr (c.in-Ok.state, c.start.new.shelf, c.in-Ok.ensures.started, c.cache_over.ensures.told, inr (c.in-Err-cache_over.fault, c.of_shelf.ensures, c.in-Err-cache_over.ensures.cause))
+pub run_state-requires-clause-asks : goal.run_state-requires-clause-asks
+run_state-requires-clause-asks g c κs within = λ ws may. may
 
-pub returns-in-Err-new-clause-refused : goal.returns-in-Err-new-clause-refused
-returns-in-Err-new-clause-refused g c =
-    inr (
-      c.in-Ok.state,
-      c.start.new.shelf,
-      c.in-Ok.ensures.started,
-      forked_then _ _ _ c.cache_over.ensures.told c.new.ensures.told,
-      inr (c.in-Err-new.fault, c.of_shelf-in-Err-new.ensures, c.in-Err-new.ensures.cause),
-    )
+pub returns-in-Err-run_state-clause-refused : goal.returns-in-Err-run_state-clause-refused
+returns-in-Err-run_state-clause-refused g c = inr (
+  c.in-Ok.state,
+  c.start.new.shelf,
+  c.in-Ok.ensures.started,
+  c.run_state.ensures.told,
+  c.in-Err-run_state.ensures.refused,
+)
 
-pub returns-clause-refused : goal.returns-clause-refused
-returns-clause-refused g c = inr (c.in-Ok.state, c.start.new.shelf, c.in-Ok.ensures.started, forked_then _ _ _ c.cache_over.ensures.told c.new.ensures.told, inl refl)
-
-pub returns-in-Some-clause-ran : goal.returns-in-Some-clause-ran
-returns-in-Some-clause-ran g c = record {
-  state = c.in-Ok.state;
-  mid = c.start.new.shelf;
-  started = c.in-Ok.ensures.started;
-  forked = forked_then _ _ _ c.cache_over.ensures.told c.new.ensures.told;
-  said = subst (λ es. g.P.Program.says c.args.program g.S.Shelf.honest es c.in-Some.run'.0) c.remember-memory.ensures.seen c.in-Some.ensures.said;
-  each = c.in-Some.ensures.ends;
-}
+pub returns-in-Ok-run_state-clause-ran : goal.returns-in-Ok-run_state-clause-ran
+returns-in-Ok-run_state-clause-ran g c =
+    let H = g.S.Shelf.honest in
+    let program = c.args.program in
+    let run = c.in-Ok-run_state.run' in
+    record {
+      state = c.in-Ok.state;
+      mid = c.start.new.shelf;
+      started = c.in-Ok.ensures.started;
+      forked = c.run_state.ensures.told;
+      said = subst
+          (λ (h : Held). HasSaid (g.P.Program.asks program H h.history) h
+          (λ es. g.P.Program.says program H h.history es run.0))
+          c.remember-memory.ensures.same c.in-Ok-run_state.ensures.said;
+      each = c.in-Ok-run_state.ensures.ends;
+    }
