@@ -28,7 +28,8 @@ pub record IsKept (Lies : ℕ → List ℕ → Type 0) (v : Version) : Type 0 wh
 
 -- ---- a folder
 
--- The manifest that `CURRENT` shows, if any, comes to a version that the folder keeps.
+-- The version to which the manifest that `CURRENT` shows comes, if there is one, is kept by the
+-- folder.
 abbrev pub KeepsShown : Disk → Type 0
 KeepsShown d = (number : ℕ) (bytes : List ℕ) (v : Version) → number < 2 ^ 64
     → Shows d current_name (current_text number) → Shows d (manifest_name number) bytes
@@ -42,8 +43,8 @@ KeepsFound found = (number : ℕ) (bytes : List ℕ) (v : Version) → number < 
     → ComesTo bytes v → IsKept (λ n image. found (table_name n) ≡ Some image) v
 
 -- What an opening that reads no table was given is what the folder shows: the manifest that was
--- read is the one that `CURRENT` names, and of the number and the size of a file of its shape the
--- shelf keeps no other image than the folder shows.
+-- read is the one that `CURRENT` names, and of the number and the size of a file of the shape the
+-- shelf keeps no other image than the folder shows. That the shape is the manifest's the laws say.
 pub record FindsShown (Keeps : ℕ → List ℕ → Type 0) (h : HeldManifest) (shape : Version)
     (d : Disk) : Type 0 where
   pub current : Shows d current_name (current_text h.number)
@@ -75,7 +76,7 @@ KeepsWritten w (Remove number) = Unit {0}
 KeepsWritten w (Append text version) = IsKept (IsCounted w.tables) version
 KeepsWritten w (Start number bytes version) = IsKept (IsCounted w.tables) version
 
--- so each one of a run, where all that came before was answered Ok
+-- so each one of a run, by what is counted on where all that came before it was answered Ok
 abbrev pub KeepsEach : World → List Event → Type 0
 KeepsEach w [] = Unit {0}
 KeepsEach w (Counts number image ∷ es) = KeepsEach (counting number image w) es

@@ -149,11 +149,11 @@ pub fn histories_keep_what_is_known()
 {}
 
 /// The tables of the manifest that `CURRENT` shows are kept, so an opening may go without reading
-/// them. Where each version that is known has its tables among those that are counted on, and these
-/// alone under its numbers (`AreKept`), the folder keeps the version that it shows (`shown`), and
-/// so does what a crash leaves of it (`found`). Through any history of runs, cuts, refusals,
-/// crashes and starts that stays so, where each version that is written is such a one when it is
-/// (`histories`): those of a database are (`databases_keep_what_they_show`).
+/// them. Where the tables that are counted on keep each version that may be (`AreKept`), the folder
+/// keeps the version that it shows (`shown`), and so does what a crash leaves of it (`found`).
+/// Through any history of runs, cuts, refusals, crashes and starts that stays so, where the tables
+/// that are counted on when a version is written keep it (`histories`), as those of a database do
+/// (`databases_keep_what_they_show`).
 pub fn what_is_shown_is_kept()
     ensures shown { (known : Known) (d : Disk) → IsHeld d known → AreKept known → KeepsShown d }
     ensures found { (known : Known) (d : Disk) (found : Found) → IsHeld d known → AreKept known
@@ -189,8 +189,8 @@ pub fn contents_keep_what_is_shown<C: Contents>()
         image ≡ fitted (length image) (C.contents folder (table_name n))) h shape d }
 {}
 
-/// And so is one whose tables a program knows (`Known<K>` of `lsm_admission`, which is honest), where
-/// it knows what the folder shows of these files.
+/// And so is one whose tables a program knows (`Known<K>` of `lsm_admission`, which is honest),
+/// where it knows what the folder shows of these files.
 pub fn known_tables_keep_what_is_shown<K: KnownTables>()
     ensures { (h : HeldManifest) (shape : Version) (rest : ℕ) (d : Disk) → KeepsShown d
         → h.number < 2 ^ 64 → IsRecovered h shape rest

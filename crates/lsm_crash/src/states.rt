@@ -360,8 +360,9 @@ pub fn databases_keep_what_they_show<P: Premise>()
 /// Where a database was used in any lives, over an honest shelf, and a key was read by an opening
 /// that reads no table, of what the folder shows then (`FindsShown`), over an honest shelf
 /// (`IsAnswered`, as `get_unjudged` of `lsm_admission` says of its answer): the answer is that of
-/// every ingest that was answered Ok in any of these lives, and of one that a crash cut, whole or
-/// not at all. No premise is over what the tables are.
+/// what was there before (`es`; nothing in `new`), of every ingest that was answered Ok in any of
+/// these lives, and of each that a crash cut, whole or not at all. In `new` no premise is over what
+/// the tables are.
 pub fn quick_answers_give_what_came_in<P: Premise, N: Naming, S: Finding>()
     ensures lives { (lives : List Life) (v : Levels) (es : List Entry) (w u : World) (d e : Disk)
         (shape : Version) (user : List ℕ) (a : Option (List ℕ)) (was is : Told)
