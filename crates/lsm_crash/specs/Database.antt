@@ -134,8 +134,8 @@ Refuses honest old new (Install done) asks next = (fault : StateFault) × (was :
 Refuses honest old new (Gather number) asks next = (fault : GatherFault) × (was : Told)
     × (is : Told) × IsGatherRefusal honest old new fault was is × HasMade asks was is
     × IsNextOfGather old asks next
-Refuses honest old new (Collect removed) asks next = (fault : StateFault) × (was : Told) × (is : Told)
-    × (new ≡ with_slots old new.slots) × IsCollectRefusal old new fault removed was is
+Refuses honest old new (Collect removed) asks next = (fault : StateFault) × (was : Told)
+    × (is : Told) × (new ≡ with_slots old new.slots) × IsCollectRefusal old new fault removed was is
     × (HasMade asks was is ⊎ HasMade (asks ++ next) was is)
     × IsNext next (CollectRefused (Was next) new)
     × ((number : ℕ) → Has (asks ++ next) (shelf.Remove number) → number < 2 ^ 64)

@@ -18,8 +18,8 @@ use Rattle.lsm_crash.specs.Operations.{Start, either, started, starting}
 use Rattle.lsm_crash.specs.Among.{CutAmong, CutDropping, DoneAmong, DoneDropping}
 use Rattle.lsm_crash.specs.History.{IsRead}
 use Rattle.lsm_crash.specs.Database.{Answered, Builds, Collect, Deed, Gather, HasMade, Ingest}
-use Rattle.lsm_crash.specs.Database.{Install, IsCut, IsMade, IsState, Looks, Opens, Refused, Turn, Works}
-use Rattle.lsm_crash.specs.Database.{opened_world, plans_of}
+use Rattle.lsm_crash.specs.Database.{Install, IsCut, IsMade, IsState, Looks, Opens, Refused, Turn}
+use Rattle.lsm_crash.specs.Database.{Works, opened_world, plans_of}
 
 -- ---- what ingests bring in, and what reads give
 

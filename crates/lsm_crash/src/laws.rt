@@ -15,6 +15,7 @@ ghost use Rattle.lsm_storage.specs.Plans.{Step as Asked, AppendStopped, PutStopp
 ghost use Rattle.lsm_storage.specs.Plans.{RemoveStopped, StartStopped, StartedFrom, append_plan};
 ghost use Rattle.lsm_storage.specs.Plans.{done, manifest_measured, name_plan, put_plan};
 ghost use Rattle.lsm_storage.specs.Plans.{remove_plan, start_plan};
+ghost use Rattle.lsm_shelf.specs.Told.{Place};
 ghost use Rattle.lsm_shelf.specs.declared.shelf_fault.ShelfFault.{ShelfFault};
 ghost use Rattle.lsm_shelf.specs.declared.shelf_fault.ShelfFault.TheVariants.{OutOfMemory};
 ghost use Rattle.lsm_admission.specs.Keeping.{KeepsTables};
@@ -47,7 +48,6 @@ ghost use Rattle.lsm_crash.specs.Kept.{KeepsShown};
 use lsm_admission::KnownTables;
 use lsm_finding::Finding;
 use lsm_folder::Contents;
-use lsm_table::Naming;
 
 /// A crash in any call of an operation, after any run of operations, among calls of other threads:
 /// `CURRENT` names the manifest from before that operation or the one from after it, the whole
@@ -167,11 +167,11 @@ pub fn what_is_shown_is_kept()
 /// So the premise of an opening that reads no table is met, where the manifest that was read is the
 /// one that `CURRENT` shows, by a shelf that keeps, under the numbers of its files, no image of a
 /// file's size but the one that the folder shows.
-pub fn shelves_keep_what_is_shown<N: Naming, S: Finding>()
-    ensures { (h : HeldManifest) (shape : Version) (rest : ℕ) (d : Disk) → KeepsShown d
-        → h.number < 2 ^ 64 → IsRecovered h shape rest
-        → FindsShown (S.keeps N.place) h shape d
-        → KeepsTables (S.keeps N.place) shape }
+pub fn shelves_keep_what_is_shown<S: Finding>()
+    ensures { (place : Place) (h : HeldManifest) (shape : Version) (rest : ℕ) (d : Disk)
+        → KeepsShown d → h.number < 2 ^ 64 → IsRecovered h shape rest
+        → FindsShown (S.keeps place) h shape d
+        → KeepsTables (S.keeps place) shape }
 {}
 
 /// Such a shelf is that on a folder of the system with the program's witness, `Mute<C>`, for each

@@ -13,7 +13,7 @@ ghost use Rattle.lsm_model.specs.Plain.{Spends};
 ghost use Rattle.lsm_storage.specs.FileNames.{table_name};
 ghost use Rattle.lsm_shelf.specs.Asked.{Asked, Put, Remove, StartManifest};
 ghost use Rattle.lsm_shelf.specs.Stored.{Stored};
-ghost use Rattle.lsm_shelf.specs.Told.{Becomes, Counted, Told, finding};
+ghost use Rattle.lsm_shelf.specs.Told.{Becomes, Counted, Place, Told, finding};
 ghost use Rattle.lsm_batch.specs.declared.write.Write.{Write};
 ghost use Rattle.lsm_merge.specs.Outputs.{putting_all};
 ghost use Rattle.lsm_merge.specs.Work.{Done, puts_by};
@@ -42,8 +42,8 @@ ghost use Rattle.lsm_crash.specs.Database.{AllowsAll, Asks, Deed, IsIngestOf, Is
 ghost use Rattle.lsm_crash.specs.Database.{IsState, Turn};
 ghost use Rattle.lsm_crash.specs.Database.{Answered, Follows, HasMade, IsMade, Opens};
 ghost use Rattle.lsm_crash.specs.Database.{Ingest, SmallRun, Works, after_all, opened_world};
-ghost use Rattle.lsm_crash.specs.Database.{plans_of};
-ghost use Rattle.lsm_crash.specs.Database.{Builds, Collect, Gather, Install, IsDrawn, Looks, Refused};
+ghost use Rattle.lsm_crash.specs.Database.{plans_of, Refused};
+ghost use Rattle.lsm_crash.specs.Database.{Builds, Collect, Gather, Install, IsDrawn, Looks};
 ghost use Rattle.lsm_crash.specs.Database.{AllDone, AllFail, Stays, operations};
 ghost use Rattle.lsm_crash.specs.Lives.{Ages, AllLeave, Answers, FromNothing, Life};
 ghost use Rattle.lsm_crash.specs.Lives.{SmallAges, Struck, Worked, brought};
@@ -363,20 +363,21 @@ pub fn databases_keep_what_they_show<P: Premise>()
 /// what was there before (`es`; nothing in `new`), of every ingest that was answered Ok in any of
 /// these lives, and of each that a crash cut, whole or not at all. In `new` no premise is over what
 /// the tables are.
-pub fn quick_answers_give_what_came_in<P: Premise, N: Naming, S: Finding>()
-    ensures lives { (lives : List Life) (v : Levels) (es : List Entry) (w u : World) (d e : Disk)
-        (shape : Version) (user : List ℕ) (a : Option (List ℕ)) (was is : Told)
+pub fn quick_answers_give_what_came_in<P: Premise, S: Finding>()
+    ensures lives { (place : Place) (lives : List Life) (v : Levels) (es : List Entry)
+        (w u : World) (d e : Disk) (shape : Version) (user : List ℕ) (a : Option (List ℕ))
+        (was is : Told)
         → P.holds → S.honest → IsSettled d w → Shown v d → length v.tables ≡ 7 → Answers v es
         → IsSound v → Ages P.holds lives w d u e
-        → (q : IsAnswered (S.keeps N.place) (S.honest × KeepsTables (S.keeps N.place) shape) shape
-        user a was is) → FindsShown (S.keeps N.place) q.held shape e
+        → (q : IsAnswered (S.keeps place) (S.honest × KeepsTables (S.keeps place) shape) shape
+        user a was is) → FindsShown (S.keeps place) q.held shape e
         → (x : Levels) × (fs : List Entry) × AllLeave lives v es x fs
         × (a ≡ answer fs user x.last) }
-    ensures new { (tries : List Held) (lives : List Life) (d e : Disk) (o : Option World)
-        (shape : Version) (user : List ℕ) (a : Option (List ℕ)) (was is : Told)
+    ensures new { (place : Place) (tries : List Held) (lives : List Life) (d e : Disk)
+        (o : Option World) (shape : Version) (user : List ℕ) (a : Option (List ℕ)) (was is : Told)
         → P.holds → S.honest → IsVacant d → FromNothing P.holds tries lives d o e
-        → (q : IsAnswered (S.keeps N.place) (S.honest × KeepsTables (S.keeps N.place) shape) shape
-        user a was is) → FindsShown (S.keeps N.place) q.held shape e
+        → (q : IsAnswered (S.keeps place) (S.honest × KeepsTables (S.keeps place) shape) shape
+        user a was is) → FindsShown (S.keeps place) q.held shape e
         → (x : Levels) × (fs : List Entry) × AllLeave lives no_levels [] x fs
         × (a ≡ answer fs user x.last) }
 {
