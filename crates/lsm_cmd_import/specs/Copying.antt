@@ -1,5 +1,5 @@
 -- A copy of a database, and why there is none (this project's rule).
-use Rattle.std.specs.Prelude.{◌≡◌, ◌⊎◌, ℕ, ◌+◌, List, [], ◌∷◌, ◌++◌, length}
+use Rattle.std.specs.Prelude.{◌≡◌, ◌⊎◌, ℕ, ◌+◌, List, [], ◌∷◌, ◌++◌, All, length}
 use Rattle.std.specs.List.{sum_by}
 use Rattle.lsm_codec.specs.Entries.{answer}
 use Rattle.lsm_codec.specs.Keys.{UserKey}
@@ -25,13 +25,20 @@ use Rattle.lsm_cmd_import.specs.declared.copy_fault.CopyFault.{CopyFault}
 use Rattle.lsm_cmd_import.specs.declared.copy_fault.CopyFault.TheVariants.{OutOfMemory, Tables}
 use Rattle.lsm_cmd_import.specs.declared.copy_fault.CopyFault.TheVariants.{Copy}
 
--- The copied tables were read again: they are a version, sound over an honest shelf, which has so
--- many entries.
-pub record IsJudged (Honest : Type 0) (tables : Copied) (entries : ℕ) : Type 0 where
+-- The shelf gave the image of each table of the version, for that table's number. `Into` says which
+-- images it gave for which numbers.
+abbrev pub AreGiven : (ℕ → List ℕ → Type 0) → Levels → Type 0
+AreGiven Into version = All (All (λ t. Into t.number t.image)) version.tables
+
+-- The copied tables were read again from the shelf: they are a version, sound over an honest shelf,
+-- which has so many entries.
+pub record IsJudged (Into : ℕ → List ℕ → Type 0) (Honest : Type 0) (tables : Copied) (entries : ℕ)
+    : Type 0 where
   pub shape : Form
   pub replayed : IsReplayed (tables.edit ∷ []) shape
   pub version : Levels
   pub of_shape : IsOfShape shape version
+  pub given : AreGiven Into version
   pub sound : Honest → IsSound version
   pub counted : entries ≡ sum_by count_of version.tables
 
@@ -40,7 +47,7 @@ pub record IsJudged (Honest : Type 0) (tables : Copied) (entries : ℕ) : Type 0
 pub record IsFilled (Into : ℕ → List ℕ → Type 0) (Honest : Type 0) (batches : List WriteBatch)
     (tables : Copied) (entries : ℕ) (whole : Copied) : Type 0 where
   pub before : ℕ
-  pub judged : IsJudged Honest tables before
+  pub judged : IsJudged Into Honest tables before
   pub logs : HasLogs Into batches tables whole
   pub counted : entries ≡ before + length logs.batch
 

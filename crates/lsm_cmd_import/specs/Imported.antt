@@ -135,12 +135,19 @@ module _ {C M : Type 0} (folders : Ghosts C M) where
       × ((folder : C) × IsFolderAt folders path (IsPrepared plainly start logs) folder)
       × TakenBy start logs fault))
 
-  -- memory ran out, or the folders were not both opened
+  -- In the folder at the second path there can be no copy, and the one at the first path was opened
+  -- before.
+  abbrev pub HasNoTarget : ImportLine → CopyFault → Type 0
+  HasNoTarget line fault = (files : List FolderFile) × (folder : C)
+      × IsFolderAt folders line.source.now (TellsBeside files) folder
+      × IsNoTarget line.target.now fault
+
+  -- memory ran out, or the folders were not both opened: the source's is the first
   abbrev pub AreUnready : ImportLine → CopyFault → Type 0
   AreUnready line fault =
       (fault ≡ OutOfMemory)
       ⊎ (((e : DirectoryFault) × (fault ≡ Source e) × IsFolderFault e)
-      ⊎ IsNoTarget line.target.now fault)
+      ⊎ HasNoTarget line fault)
 
 module _ {C M : Type 0} (folders : Ghosts C M) (marks : mark.Ghosts M) where
   -- The database in the folder at the one path was copied to the folder at the other.

@@ -13,6 +13,7 @@ ghost use Rattle.lsm_cmd_import.specs.Copying.{IsUnbegun, IsUnjudged, IsUnmade, 
 ghost use Rattle.lsm_cmd_import.specs.declared.copy_fault.CopyFault.TheVariants.{OutOfMemory};
 
 use crate::copy_fault::CopyFault;
+use crate::given::tables_are_given;
 use lsm_import::{Copied, ImportFault, copies_answer};
 use lsm_manifest::Shape;
 use lsm_table::{NamedShelf, Naming, Records, Registry, Shelf, TableOptions};
@@ -44,7 +45,9 @@ fn judge<M: Naming, T: Shelf, R: Wait>(
     copied: &Copied,
 ) -> Result<u64, CopyFault>
     requires named { records ≡ M.registry }
-    ensures judged { IfOk result (IsJudged T.honest copied.now) }
+    ensures judged { IfOk result (IsJudged
+        (Stored T.Receipt (T.is_of M.place) T.Receipt.number T.Receipt.image) T.honest
+        copied.now) }
     ensures refused { IfErr result (IsUnjudged
         (Stored T.Receipt (T.is_of M.place) T.Receipt.number T.Receipt.image) (T.refuses M.place)
         T.honest copied.now) }
@@ -56,7 +59,8 @@ fn judge<M: Naming, T: Shelf, R: Wait>(
     };
     let registry = Registry::shared(alloc, records)?;
     let none = JudgedTables::none(alloc);
-    let (_version, counts) = check_by(target, rt, alloc, &shape, registry, none)?;
+    let (version, counts) = check_by(target, rt, alloc, &shape, registry, none)?;
+    tables_are_given(&version);
     let entries = sum_of(&counts)?;
     Ok(entries)
 }

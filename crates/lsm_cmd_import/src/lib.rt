@@ -12,6 +12,7 @@ mod copy_fault;
 
 // The copy, and what is said of it.
 mod copying;
+mod given;
 mod importing;
 mod reply;
 
