@@ -24,7 +24,7 @@ TOP = HERE.parent
 PAGE = HERE / "FIGURES.md"
 BEGIN, END = "<!-- rows: checks/run.sh --record writes them -->", "<!-- end of rows -->"
 HEAD = ["| Check | Day | Commit | Build | Form | Result | Minutes | What it said |", "|---|---|---|---|---|---|---|---|"]
-LONGEST = 85  # characters of what a check said
+LONGEST = 64  # characters of what a check said
 
 
 def checks():
