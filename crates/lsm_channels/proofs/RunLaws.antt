@@ -1,7 +1,6 @@
 -- How a run ends.
 use Rattle.std.proofs.Common.{◌≡◌, ℕ, zero, suc, ◌+◌, ◌<◌, ◌≤◌, ℤ, pos, Bool, true, List, [], ◌∷◌, ◌++◌, length, map, take, drop, Option, Result, Ok, Err, IfErr, IfOk, refl, sym, ap, ◌∙◌, subst, inl, inr, ◌⊎◌, arith}
 use Rattle.std.specs.Prelude.{◌^◌, MatchResult, slice_index_or}
-use Rattle.std.specs.Int.{w32, from_le_bytes}
 use Rattle.lsm_folder.specs.Calls.{Call, opened}
 use Rattle.lsm_folder.specs.declared.folder_calls.FolderCalls.{Ghosts}
 use Rattle.lsm_folder.specs.declared.folder_fault.FolderFault.{FolderFault}

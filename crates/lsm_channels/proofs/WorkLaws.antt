@@ -1,5 +1,5 @@
 -- What workers of a compact request did.
-use Rattle.std.proofs.Common.{◌≡◌, ℕ, zero, suc, true, List, [], ◌∷◌, Option, None, Some, Result, Ok, Err, IfErr, OnOk, refl, sym, ap, ◌∙◌, subst, inl, inr}
+use Rattle.std.proofs.Common.{◌≡◌, ℕ, zero, suc, true, List, [], ◌∷◌, Option, None, Some, Result, Ok, Err, IfErr, OnOk, refl, sym, subst, inl, inr}
 use Rattle.lsm_codec.specs.Entries.{Entry}
 use Rattle.lsm_frames.specs.Requests.{Between}
 use Rattle.lsm_shelf.specs.Asked.{Asked}
@@ -10,7 +10,7 @@ use Rattle.lsm_state.specs.Held.{Held}
 use Rattle.lsm_state.specs.declared.state_fault.StateFault.{StateFault}
 use Rattle.lsm_state.specs.declared.state_fault.StateFault.TheVariants as state
 use Rattle.lsm_store.specs.Workers.{IsEndOf, IsOfReserving, IsWorkersEnd}
-use Rattle.lsm_store.specs.Working.{AreReturned, IsReturned, given_each, given_one}
+use Rattle.lsm_store.specs.Working.{AreReturned, given_each}
 use Rattle.lsm_store.specs.declared.picks.Picks.{Picks}
 use Rattle.lsm_store.specs.declared.worker_end.WorkerEnd.{WorkerEnd}
 use Rattle.lsm_store.specs.declared.worker_fault.WorkerFault.{WorkerFault}

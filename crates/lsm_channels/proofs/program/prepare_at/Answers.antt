@@ -1,4 +1,4 @@
-use Rattle.std.proofs.Common.{◌≡◌, ap, inl, inr, refl, subst}
+use Rattle.std.proofs.Common.{ap, inl, inr, refl, subst}
 use Rattle.lsm_opening.specs.Preparing.{IsPrepared, IsUnprepared, plainly}
 use Rattle.lsm_opening.specs.WriterFault.{of_shelf}
 use Rattle.lsm_requests.specs.declared.ingest_options.IngestOptions.{IngestOptions}

@@ -1,4 +1,4 @@
-use Rattle.std.proofs.Common.{inl, inr, refl, length, map, subst, sym}
+use Rattle.std.proofs.Common.{inl, inr, refl}
 use Rattle.lsm_channels.proofs.KeepingLaws.{come_found, come_quiet, come_requests}
 use Rattle.lsm_channels.proofs.WireLaws.{told_for}
 use Rattle.lsm_channels.specs.Serving.{End, end}

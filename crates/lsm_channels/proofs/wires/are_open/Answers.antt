@@ -1,4 +1,4 @@
-use Rattle.std.proofs.Common.{◌<◌, ◌+◌, ℤ, pos, true, subst, arith}
+use Rattle.std.proofs.Common.{◌+◌, ℤ, pos, true, subst, arith}
 use Rattle.std.specs.Int.{w32}
 use Rattle.std.proofs.lemmas.Int.{to_z_pos}
 use borrow.Author.Count.{below_more, below_none}
