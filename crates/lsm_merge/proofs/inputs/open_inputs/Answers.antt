@@ -1,6 +1,7 @@
 use Rattle.std.proofs.Common.{ℕ, ◌≤◌, List, subst}
 use Rattle.lsm_codec.specs.Lists.{Has}
 use Rattle.lsm_codec.proofs.CallerLemmas.{has_left, has_right}
+use Rattle.lsm_shelf.proofs.CallerLemmas.{becomes_then}
 use Rattle.lsm_table.specs.Registry.{Table}
 use Rattle.lsm_merge.specs.declared.merge_fault.MergeFault.{MergeFault}
 use Rattle.lsm_merge.specs.Causes.{HasCause, NamesRefused}
@@ -78,3 +79,12 @@ returns-in_err-push_upper-clause-refused g c = λ options.
 pub returns-in_err-push_run-clause-refused : goal.returns-in_err-push_run-clause-refused
 returns-in_err-push_run-clause-refused g c = λ options.
     err_is (NamesRefused (g.S.Shelf.refuses g.N.Naming.place) options) c.from_residual-in_err-push_run.result c.in_err-push_run.field-0.0 c.from_residual-in_err-push_run.ensures.1 (c.in_err-push_run.ensures.refused options)
+
+pub returns-clause-told : goal.returns-clause-told
+returns-clause-told g c = becomes_then c.args.shelf.now c.push_upper.new.shelf c.push_run.new.shelf c.push_upper.ensures.told c.push_run.ensures.told
+
+pub returns-in_err-new-clause-told : goal.returns-in_err-new-clause-told
+returns-in_err-new-clause-told g c = becomes_then c.args.shelf.now c.push_upper.new.shelf c.push_run.new.shelf c.push_upper.ensures.told c.push_run.ensures.told
+
+pub returns-in_err-push_run-clause-told : goal.returns-in_err-push_run-clause-told
+returns-in_err-push_run-clause-told g c = becomes_then c.args.shelf.now c.push_upper.new.shelf c.push_run.new.shelf c.push_upper.ensures.told c.push_run.ensures.told

@@ -1,9 +1,10 @@
-use Rattle.std.proofs.Common.{◌<◌, length, arith}
+use Rattle.std.proofs.Common.{◌∙◌, ◌<◌, ◌++◌, List, ap, append-nil, length, arith, sym, take_all}
 use Rattle.lsm_merge.specs.declared.merge_fault.MergeFault.{MergeFault}
 use Rattle.lsm_merge.specs.Causes.{HasCause, NamesRefused}
-use Rattle.lsm_merge.specs.Inputs.{files_in, numbers_of, streams}
+use Rattle.lsm_merge.specs.Inputs.{entries_of_tables, files_in, numbers_of, streams}
 use Rattle.lsm_merge.proofs.InputLaws.{cause_more, entries_more, files_more, number_one, one_sorted, whole_one}
-use Rattle.lsm_shelf.proofs.CallerLemmas.{becomes_then}
+use Rattle.lsm_shelf.proofs.CallerLemmas.{becomes_same, becomes_then}
+use Rattle.lsm_table.specs.Registry.{Table}
 use Rattle.lsm_merge.proofs.PlaceLaws.{becomes_rises, cause_after, err_is}
 use Rattle.lsm_merge.proofs.inputs.push_each.Goals as goal
 
@@ -41,3 +42,21 @@ loop-table-preserved g c =
 pub returns-in_err-push_run-clause-refused : goal.returns-in_err-push_run-clause-refused
 returns-in_err-push_run-clause-refused g c = λ options.
     err_is (NamesRefused (g.S.Shelf.refuses g.N.Naming.place) options) c.from_residual.result c.in_err-push_run.field-0.0 c.from_residual.ensures.1 (c.in_err-push_run.ensures.refused options)
+
+pub loop-table-init : goal.loop-table-init
+loop-table-init g c = record {
+  told = becomes_same c.args.shelf.now;
+  entries = λ honest. sym (append-nil (streams c.args.runs.now.items));
+  ordered = λ honest a. a;
+  files = sym (append-nil (files_in c.args.runs.now.items));
+}
+
+pub returns-clause-entries : goal.returns-clause-entries
+returns-clause-entries g c = λ honest.
+    c.loop-table.invariant.entries honest
+    ∙ ap (λ (ts : List Table). streams c.args.runs.now.items ++ entries_of_tables ts) (take_all c.loop-table.table-index c.args.tables.now c.loop-table-test.false)
+
+pub returns-clause-files : goal.returns-clause-files
+returns-clause-files g c =
+    c.loop-table.invariant.files
+    ∙ ap (λ (ts : List Table). files_in c.args.runs.now.items ++ numbers_of ts) (take_all c.loop-table.table-index c.args.tables.now c.loop-table-test.false)

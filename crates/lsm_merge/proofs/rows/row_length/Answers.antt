@@ -19,3 +19,6 @@ loop-end-preserved c = record {
 
 pub returns-after-loop-end-clause-rising : goal.returns-after-loop-end-clause-rising
 returns-after-loop-end-clause-rising c = front_rises c.args.ranges.now c.loop-end.end c.loop-end.invariant.inside c.loop-end.invariant.rising
+
+pub returns-else-rises-clause-rising : goal.returns-else-rises-clause-rising
+returns-else-rises-clause-rising c = front_rises c.args.ranges.now c.loop-end.end c.loop-end.invariant.inside c.loop-end.invariant.rising

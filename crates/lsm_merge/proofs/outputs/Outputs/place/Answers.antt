@@ -6,7 +6,7 @@ use Rattle.lsm_shelf.specs.Asked.{Asked}
 use Rattle.lsm_shelf.specs.declared.shelf_fault.ShelfFault.{ShelfFault}
 use Rattle.lsm_merge.specs.Causes.{IsUnasked, NamesRefused, NamesTicket}
 use Rattle.lsm_merge.specs.Limits.{IsOverLimit, IsSizeFault}
-use Rattle.lsm_merge.specs.Outputs.{Made, entries_of_last}
+use Rattle.lsm_merge.specs.Outputs.{Made, PutsMore, entries_of_last}
 use Rattle.lsm_merge.specs.PutBefore.{IsClosing, PutsLast}
 use Rattle.lsm_merge.proofs.PutBefore.{closed_one}
 use Rattle.lsm_merge.proofs.PutLaws.{err_if}
@@ -51,3 +51,6 @@ returns-clause-stands g c =
 
 pub returns-in_err-close_before-clause-stands : goal.returns-in_err-close_before-clause-stands
 returns-in_err-close_before-clause-stands g c = err_if c.from_residual.result c.in_err-close_before.ensures.stands
+
+pub returns-clause-told : goal.returns-clause-told
+returns-clause-told g c = subst (λ (put : List ℕ). PutsMore c.args.self.now.put put c.args.shelf.now c.close_before.new.shelf) (sym c.add.ensures.put) c.close_before.ensures.told
