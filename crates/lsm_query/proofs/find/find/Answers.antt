@@ -3,7 +3,7 @@ use Rattle.std.proofs.lemmas.Result.{err_from_is_err_and}
 use Rattle.lsm_codec.specs.Entries.{newest}
 use Rattle.lsm_table.specs.Registry.{Table}
 use Rattle.lsm_table.specs.Found.{found_in, seen, value_of}
-use Rattle.lsm_table.proofs.CallerLemmas.{becomes_then}
+use Rattle.lsm_table.proofs.CallerLemmas.{becomes_then, read_counted_later}
 use Rattle.lsm_model.specs.Files.{all_entries}
 use Rattle.lsm_version.specs.Versions.{files_from, files_of}
 use Rattle.lsm_version.specs.Reads.{AreSound, IsSoundLevel}
@@ -57,3 +57,14 @@ loop-number-preserved g c =
           ∙ sym (level_missed k s n ts rest (found_none (newest k s (all_entries (files_of n ts))) tells))
           ∙ ap (λ (ls : List (List Table)). newest k s (all_entries (files_from n ls))) (sym at) ∙ c.loop-number.invariant.same h a);
     }
+
+pub returns-in-Some-clause-told : goal.returns-in-Some-clause-told
+returns-in-Some-clause-told g c = becomes_then _ _ _ c.loop-number.invariant.told c.find_at_level.ensures.told
+
+pub returns-in_err-found-clause-told : goal.returns-in_err-found-clause-told
+returns-in_err-found-clause-told g c = becomes_then _ _ _ c.loop-number.invariant.told c.find_at_level.ensures.told
+
+pub returns-in_err-found-clause-cause : goal.returns-in_err-found-clause-cause
+returns-in_err-found-clause-cause g c =
+    let p = err_from_is_err_and c.from_residual.result c.from_residual.ensures.1 in
+    rw (p.1, p.2) (read_counted_later c.in_err-found.field-0.0 _ _ _ c.loop-number.invariant.told c.in_err-found.ensures.cause)

@@ -1,8 +1,9 @@
 use Rattle.std.proofs.Common.{◌∙◌, sym, ap, subst, ℕ, Some}
+use Rattle.std.proofs.lemmas.Result.{err_from_is_err_and}
 use Rattle.lsm_codec.specs.Entries.{newest}
 use Rattle.lsm_table.specs.Found.{found_in, seen, value_of}
 use Rattle.lsm_table.specs.HeldTable.{entries_in}
-use Rattle.lsm_table.proofs.CallerLemmas.{becomes_then}
+use Rattle.lsm_table.proofs.CallerLemmas.{becomes_then, read_counted_later}
 use Rattle.lsm_query.proofs.Finding.{Looked, number_found, number_missed, numbers_done, found_some, found_none}
 use Rattle.lsm_query.proofs.find.find_by_number.Goals as goal
 
@@ -31,3 +32,14 @@ loop-table-preserved g c =
 pub returns-clause-found : goal.returns-clause-found
 returns-clause-found g c = λ h l.
     ap found_in (sym (numbers_done c.args.level.now c.args.user.now c.args.seq c.loop-table.bound l (c.loop-table.invariant.looked h l) c.in_default.ensures))
+
+pub returns-in-Some-2-clause-told : goal.returns-in-Some-2-clause-told
+returns-in-Some-2-clause-told g c = becomes_then _ _ _ c.loop-table.invariant.told c.find_in_table.ensures.told
+
+pub returns-in_err-found-clause-told : goal.returns-in_err-found-clause-told
+returns-in_err-found-clause-told g c = becomes_then _ _ _ c.loop-table.invariant.told c.find_in_table.ensures.told
+
+pub returns-in_err-found-clause-cause : goal.returns-in_err-found-clause-cause
+returns-in_err-found-clause-cause g c =
+    let e = err_from_is_err_and c.from_residual.result c.from_residual.ensures.1 in
+    rw (e.1, e.2) (read_counted_later c.in_err-found.field-0.0 _ _ _ c.loop-table.invariant.told c.in_err-found.ensures.cause)

@@ -73,3 +73,6 @@ pub returns-clause-runs : goal.returns-clause-runs
 returns-clause-runs g c = λ h.
     let past : length c.args.levels.now ≤ c.loop-number.number = subst (λ (n : ℕ). n ≤ c.loop-number.number) c.count-number-end.ensures c.loop-number-test.false in
     runs_whole c.args.from.now (level_in c.args.levels.now 0) c.loop-number.number c.args.levels.now (map (λ r. r.placed) c.loop-number.runs.items) past (c.loop-number.invariant.made h)
+
+pub returns-in_err-open_row-clause-told : goal.returns-in_err-open_row-clause-told
+returns-in_err-open_row-clause-told g c = becomes_then _ _ _ c.loop-number.invariant.told c.open_row.ensures.told

@@ -91,3 +91,6 @@ pub returns-in_err-open_row-clause-cause : goal.returns-in_err-open_row-clause-c
 returns-in_err-open_row-clause-cause g c =
     let p = err_from_is_err_and c.from_residual-in_err-open_row.result c.from_residual-in_err-open_row.ensures.1 in
     rw (p.1, p.2) (read_counted_later c.in_err-open_row.field-0.0.fault _ _ _ c.loop-index.invariant.told c.in_err-open_row.ensures.cause)
+
+pub returns-in_err-open_row-clause-told : goal.returns-in_err-open_row-clause-told
+returns-in_err-open_row-clause-told g c = becomes_then _ _ _ c.loop-index.invariant.told c.open_row.ensures.told
