@@ -743,7 +743,8 @@ fn usage(name: CommandName) -> &'static str {
         CommandName::Get =>
             "lsm get <DIR> <KEY> [--text] [--raw] [--exists] [--quick] [--strict] [--compare]",
         CommandName::Scan =>
-            "lsm scan <DIR> [--from <KEY>] [--to <KEY>] [--prefix <KEY>] [--limit <N>] [--text] [--keys] [--json] [--count] [--quick] [--strict] [--compare] [--progress]",
+            "lsm scan <DIR> [--from <KEY>] [--to <KEY>] [--prefix <KEY>] [--limit <N>] [--text] \
+             [--keys] [--json] [--count] [--quick] [--strict] [--compare] [--progress]",
         CommandName::Ingest =>
             "lsm ingest <DIR> <FILE> [--text] [--begin] [--beside-log] [--recover] [--compare]",
         CommandName::Put =>
@@ -751,14 +752,17 @@ fn usage(name: CommandName) -> &'static str {
         CommandName::Delete =>
             "lsm delete <DIR> <KEY> [--text] [--begin] [--beside-log] [--recover] [--compare]",
         CommandName::Load =>
-            "lsm load <DIR> [FILE] [--text] [--begin] [--beside-log] [--recover] [--workers <N>] [--from-line <I>] [--last-line] [--compare] [--progress]",
+            "lsm load <DIR> [FILE] [--text] [--begin] [--beside-log] [--recover] [--workers <N>] \
+             [--from-line <I>] [--last-line] [--compare] [--progress]",
         CommandName::Import => "lsm import <SRC> <DST> [--compare]",
         CommandName::Recover => "lsm recover <DIR> [--compare]",
         CommandName::Compact =>
-            "lsm compact <DIR> [--all] [--from <KEY>] [--to <KEY>] [--text] [--workers <N>] [--accept-rest] [--compare] [--progress]",
+            "lsm compact <DIR> [--all] [--from <KEY>] [--to <KEY>] [--text] [--workers <N>] \
+             [--accept-rest] [--compare] [--progress]",
         CommandName::Clean => "lsm clean <DIR> [--accept-rest]",
         CommandName::Shell =>
-            "lsm shell <DIR> [--text] [--begin] [--beside-log] [--recover] [--workers <N>] [--bail] [--compare]",
+            "lsm shell <DIR> [--text] [--begin] [--beside-log] [--recover] [--workers <N>] \
+             [--bail] [--compare]",
         CommandName::Bench =>
             "lsm bench <DIR> [--benchmarks <LIST>] [--num <N>] [--value-size <N>] [--workers <N>]",
         CommandName::Help => "lsm help [COMMAND]",
