@@ -1,5 +1,6 @@
 -- Forks of a shelf, counted.
-use Rattle.std.proofs.Common.{◌≡◌, ℕ, zero, suc, ◌+◌, List, [], ◌∷◌, ◌++◌, replicate, refl, sym, ap, ◌∙◌, subst, arith}
+use Rattle.std.proofs.Common.{◌≡◌, ℕ, zero, suc, ◌+◌, List, [], ◌∷◌, ◌++◌, replicate, refl, sym, ap}
+use Rattle.std.proofs.Common.{◌∙◌, subst, arith}
 use Rattle.lsm_shelf.specs.Place.{Place}
 use Rattle.lsm_shelf.specs.Told.{Becomes, Forked, Told, forking, fresh}
 

@@ -26,7 +26,8 @@ use Rattle.lsm_crash.proofs.Soundness.{WholeTables, deed_whole, sound_state, wor
 use Rattle.lsm_crash.proofs.Answering.{ReadsAll, deed_reads, made_answers, same_answers, works_read}
 
 -- what holds of a folder that may be opened
-pub record IsBorn (given honest : Type 0) (v : Levels) (es : List Entry) (w : World) (d : Disk) : Type 0 where
+pub record IsBorn (given honest : Type 0) (v : Levels) (es : List Entry) (w : World) (d : Disk) :
+    Type 0 where
   pub settled : IsSettled d w
   pub shown : Shown v d
   pub seven : length v.tables ≡ 7
@@ -184,7 +185,9 @@ module _ (honest : Type 0) (board : TableId) (d : Disk) (vacant : IsVacant d) wh
 -- ---- many lives
 
 module _ (given : Type 0) (law : TablesChange) (honest : Type 0) (all : ReadsAll honest) where
-  pub ages_born : (lives : List Life) (v : Levels) (es : List Entry) (w u : World) (d e : Disk) → IsBorn given honest v es w d → Ages honest lives w d u e → (x : Levels) × (fs : List Entry) × AllLeave lives v es x fs × IsBorn given honest x fs u e
+  pub ages_born : (lives : List Life) (v : Levels) (es : List Entry) (w u : World) (d e : Disk)
+      → IsBorn given honest v es w d → Ages honest lives w d u e
+      → (x : Levels) × (fs : List Entry) × AllLeave lives v es x fs × IsBorn given honest x fs u e
   ages_born [] v es w u d e b h = (v, es, (refl, refl), subst (λ y. IsBorn given honest v es u y) (sym h.1) (subst (λ y. IsBorn given honest v es y d) (sym h.0) b))
   ages_born (life ∷ lives) v es w u d e b h =
       let x = life_leaves given law honest all h.0 es (λ t y m. Begins honest h.0 h.1 t w y d m) (λ t known m. BeginsCut honest h.0 h.1 t w known d m) (opens given honest h.0 h.1 v es w d b) (opens_cut given honest h.0 h.1 v es w d b) life h.2 h.3 h.4 in
@@ -215,19 +218,27 @@ IsLeftOf honest lives o e = ((o ≡ None) × (lives ≡ []) × IsVacant e) ⊎ (
 
 -- the same, with all that holds of the folder
 abbrev pub IsBornOf : Type 0 → List Life → Option World → Disk → Type 0
-IsBornOf honest lives o e = ((o ≡ None) × (lives ≡ []) × IsVacant e) ⊎ ((u : World) × (o ≡ Some u) × (x : Levels) × (fs : List Entry) × AllLeave lives no_levels [] x fs × IsBorn (Unit {0}) honest x fs u e)
+IsBornOf honest lives o e =
+    ((o ≡ None) × (lives ≡ []) × IsVacant e) ⊎ ((u : World) × (o ≡ Some u) × (x : Levels) ×
+    (fs : List Entry) × AllLeave lives no_levels [] x fs × IsBorn (Unit {0}) honest x fs u e)
 
-pub nothing_born : (law : TablesChange) (honest : Type 0) (all : ReadsAll honest) (tries : List Held) (lives : List Life) (d e : Disk) (o : Option World) → IsVacant d → FromNothing honest tries lives d o e → IsBornOf honest lives o e
+pub nothing_born : (law : TablesChange) (honest : Type 0) (all : ReadsAll honest)
+    (tries : List Held) (lives : List Life) (d e : Disk) (o : Option World) → IsVacant d →
+    FromNothing honest tries lives d o e → IsBornOf honest lives o e
 nothing_born law honest all [] [] d e o vacant h = inl (h.0, refl, subst IsVacant (sym h.1) vacant)
 nothing_born law honest all [] (life ∷ lives) d e o vacant h =
     let given = Unit {0} in
     let x = life_leaves given law honest all h.0 [] (λ t y m. Makes honest h.0 t y d m) (λ t known m. MakesCut honest h.0 t known d m) (makes honest h.0 d vacant) (makes_cut honest h.0 d vacant) life h.1 h.2 h.4 in
     let r = ages_born given law honest all lives x.version x.entries h.1 h.3 h.2 e x.born h.5 in
     inr (h.3, h.6, r.0, r.1, (x.version, x.entries, x.may, r.2), r.3)
-nothing_born law honest all (h ∷ tries) lives d e o vacant l = nothing_born law honest all tries lives l.3 e o (fresh_vacant l.5.0 l.3 l.5.3 l.5.2) l.6
+nothing_born law honest all (h ∷ tries) lives d e o vacant l = nothing_born law honest all tries
+    lives l.3 e o (fresh_vacant l.5.0 l.3 l.5.3 l.5.2) l.6
 
-pub from_nothing : (law : TablesChange) (honest : Type 0) (all : ReadsAll honest) (tries : List Held) (lives : List Life) (d e : Disk) (o : Option World) → IsVacant d → FromNothing honest tries lives d o e → IsLeftOf honest lives o e
-from_nothing law honest all tries lives d e o vacant h = elim (nothing_born law honest all tries lives d e o vacant h) [
-  | inl none ↦ inl none
-  | inr r ↦ inr (r.0, r.1, r.5.settled, (r.2, r.3, r.4, r.5.shown, r.5.answers, r.5.sound tt))
-]
+pub from_nothing : (law : TablesChange) (honest : Type 0) (all : ReadsAll honest)
+    (tries : List Held) (lives : List Life) (d e : Disk) (o : Option World) → IsVacant d →
+    FromNothing honest tries lives d o e → IsLeftOf honest lives o e
+from_nothing law honest all tries lives d e o vacant h =
+    elim (nothing_born law honest all tries lives d e o vacant h) [
+      | inl none ↦ inl none
+      | inr r ↦ inr (r.0, r.1, r.5.settled, (r.2, r.3, r.4, r.5.shown, r.5.answers, r.5.sound tt))
+    ]

@@ -166,7 +166,9 @@ in_file_order (fs ∷ levels) up = (up 0 (omega arith), in_file_order levels (λ
 
 -- ---- files of levels, and the tables that were read for them
 
-pub level_of_file : (levels : List (List TableFile)) (file : TableFile) → Has (all_files levels) file → (level : ℕ) × (level < length levels) × Has (get_or levels level []) file
+pub level_of_file : (levels : List (List TableFile)) (file : TableFile)
+    → Has (all_files levels) file
+    → (level : ℕ) × (level < length levels) × Has (get_or levels level []) file
 level_of_file [] file h = absurd h
 level_of_file (fs ∷ levels) file h = elim (has_cases fs (all_files levels) file h) [
   | inl k ↦ (0, omega arith, k)
@@ -203,7 +205,8 @@ stored_at Stored [] all level a h = absurd h
 stored_at Stored (ts ∷ tables) all zero a h = stored_one Stored ts all.0 a h
 stored_at Stored (ts ∷ tables) all (suc level) a h = stored_at Stored tables all.1 level a h
 
-pub placed_from : (tables : List (List Table)) (level : ℕ) (a : Table) → Has (level_in (placed_levels tables) level) a → Has (level_in tables level) a
+pub placed_from : (tables : List (List Table)) (level : ℕ) (a : Table)
+    → Has (level_in (placed_levels tables) level) a → Has (level_in tables level) a
 placed_from [] level a h = absurd h
 placed_from (ts ∷ tables) zero a h = elim (all_has ts [] a h) [ inl k ↦ k | inr none ↦ absurd none ]
 placed_from (ts ∷ tables) (suc level) a h = placed_from tables level a h

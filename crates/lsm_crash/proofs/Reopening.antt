@@ -23,7 +23,9 @@ use Rattle.lsm_crash.proofs.Forms.{recorded_describes, table_named}
 use Rattle.lsm_crash.proofs.Deeds.{are_there}
 use Rattle.lsm_crash.proofs.Opening.{number_in, only_has, only_less, settled_fewer, shows_one}
 
-module _ (honest : Type 0) (board : TableId) (limit : ℕ) (h : Held) (d : Disk) (known : Known) (v : Version) (l : IsLawfulState honest board h) (i : IsHeld d known) (p : Opens honest limit h d) (to : ComesTo h.journal.bytes v) where
+module _ (honest : Type 0) (board : TableId) (limit : ℕ) (h : Held) (d : Disk) (known : Known)
+    (v : Version) (l : IsLawfulState honest board h) (i : IsHeld d known)
+    (p : Opens honest limit h d) (to : ComesTo h.journal.bytes v) where
   number_is : h.journal.number ≡ p.begun.number
   number_is = ap (λ (j : HeldManifest). j.number) p.begun.rolls.held
 
@@ -47,10 +49,15 @@ module _ (honest : Type 0) (board : TableId) (limit : ℕ) (h : Held) (d : Disk)
 
   -- the tables of what is opened are counted on
   pub reopened_has : HasTables known.tables h.slots.version
-  reopened_has level t k = image_at t (i.there read.0 read.1 t.number (table_named read.0 h.slots.version level t read_describes p.begun.found.loaded.recorded.own.seven k)) (p.images level t k)
+  reopened_has level t k =
+      image_at t (i.there read.0 read.1 t.number
+      (table_named read.0 h.slots.version level t read_describes
+      p.begun.found.loaded.recorded.own.seven k)) (p.images level t k)
 
   only_tables : HasTables (only_of (numbers_in h.slots.version) known.tables) h.slots.version
-  only_tables level t k = only_has (numbers_in h.slots.version) known.tables t.number (number_in h.slots.version level t k) ∙ reopened_has level t k
+  only_tables level t k =
+      only_has (numbers_in h.slots.version) known.tables t.number
+      (number_in h.slots.version level t k) ∙ reopened_has level t k
 
   new_describes : Describes v h.slots.version
   new_describes = recorded_describes l.journaled.0 h.journal h.slots.version h.next v l.journaled.1 to
@@ -78,10 +85,13 @@ module _ (honest : Type 0) (board : TableId) (limit : ℕ) (h : Held) (d : Disk)
     }
 
     pub reopened_settled : (e : Disk)
-        → DoneDropping known.tables h.journal.number (start_plan h.journal.number h.journal.bytes) d e
+        → DoneDropping known.tables h.journal.number (start_plan h.journal.number h.journal.bytes) d
+        e
         → IsSettled e (opened_world h v (started known h.journal.number h.journal.bytes v))
     reopened_settled e done =
         settled_fewer e (started known h.journal.number h.journal.bytes v)
         (only_of (numbers_in h.slots.version) known.tables)
         (follow_done known h.journal.number h.journal.bytes v may d e i done)
-        (λ n image k. (only_less (numbers_in h.slots.version) known.tables n image k).1) (are_there v h.slots.version (only_of (numbers_in h.slots.version) known.tables) new_describes only_tables)
+        (λ n image k. (only_less (numbers_in h.slots.version) known.tables n image k).1)
+        (are_there v h.slots.version (only_of (numbers_in h.slots.version) known.tables)
+        new_describes only_tables)

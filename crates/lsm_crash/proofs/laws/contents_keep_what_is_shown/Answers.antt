@@ -6,5 +6,7 @@ returns g c = λ folder h shape rest d keeps small r current its named.
     record {
       current = current;
       manifest = its;
-      images = contents_shown (g.C.Contents.contents folder) d shape (keeps h.number h.bytes shape small current its (recovered_comes h shape rest r)) named;
+      images =
+          contents_shown (g.C.Contents.contents folder) d shape
+          (keeps h.number h.bytes shape small current its (recovered_comes h shape rest r)) named;
     }

@@ -6,5 +6,8 @@ returns g c = λ h shape rest d keeps small r current its named.
     record {
       current = current;
       manifest = its;
-      images = λ file image k size is. images_shown g.K.KnownTables.images d shape (keeps h.number h.bytes shape small current its (recovered_comes h shape rest r)) named file image k is;
+      images = λ file image k size is.
+          images_shown g.K.KnownTables.images d shape
+          (keeps h.number h.bytes shape small current its (recovered_comes h shape rest r)) named
+          file image k is;
     }

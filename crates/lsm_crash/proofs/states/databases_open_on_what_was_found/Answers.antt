@@ -21,7 +21,8 @@ returns-clause-shown g c = found_shown
 
 pub returns-clause-unsure : goal.returns-clause-unsure
 returns-clause-unsure g c = λ board limit h d e known v asks l i p made above to done. (
-  reopened_settled g.P.Premise.holds board limit h d known v l.0 i p to above e (opening_done g.P.Premise.holds limit h d p asks made known.tables e done),
+  reopened_settled g.P.Premise.holds board limit h d known v l.0 i p to above e
+      (opening_done g.P.Premise.holds limit h d p asks made known.tables e done),
   reopened_world g.P.Premise.holds board limit h d known v l.0 i p to,
   reopened_version g.P.Premise.holds board limit h d known v l.0 i p to,
 )

@@ -3,7 +3,8 @@ use Rattle.std.specs.Prelude.{IfOk, is_some}
 use Rattle.clap.specs.Words.{IsAmong, Kinds, Row, Text, kind_of, subcommand_rows_of}
 use Rattle.clap.specs.declared.error.ErrorKind.{ErrorKind}
 use Rattle.clap.specs.declared.error.ErrorKind.TheVariants.{OutOfMemory}
-use Rattle.lsm_grammar.specs.Requests.{AskNothing, IsAsked, IsLine, IsOf, IsOfKind, faults_in, found_in, manner_in, topic_in}
+use Rattle.lsm_grammar.specs.Requests.{AskNothing, IsAsked, IsLine, IsOf, IsOfKind, faults_in}
+use Rattle.lsm_grammar.specs.Requests.{found_in, manner_in, topic_in}
 use Rattle.lsm_grammar.specs.declared.command_line.CommandLine.{CommandLine}
 use Rattle.lsm_grammar.specs.declared.command_line.CommandLine.TheVariants.{Run, Help, Bad}
 use Rattle.lsm_grammar.specs.declared.request.Request.{Request}
@@ -15,8 +16,11 @@ unasked words found same none = λ request asks. none request (subst (λ (f : Op
 
 line_is : {E : Type 0} (words : List Text) (found : Option (Text × List Row)) (r : Result CommandLine E) → faults_in words ≡ [] → found ≡ found_in words
     → IfOk r (IsOf found) → IfOk r (IsLine words)
-line_is words found (Ok (Run request manner)) good same of =
-    ((good, subst (λ (f : Option (Text × List Row)). IsAsked f request) same of.0), of.1 ∙ ap manner_in same)
+line_is words found (Ok (Run request manner)) good same of = (
+  (good, subst (λ (f : Option (Text × List Row)). IsAsked f request) same of.0),
+  of.1 ∙ ap
+      manner_in same,
+)
 line_is words found (Ok (Help text)) good same of =
     (unasked words found same of.0, inr (good, ap (λ (f : Option (Text × List Row)). is_some (topic_in f)) (sym same) ∙ of.1))
 line_is words found (Ok (Bad text)) good same of =
