@@ -19,9 +19,10 @@ use Rattle.lsm_admission.specs.Keeping.{KeepsTables}
 use Rattle.lsm_admission.specs.declared.answer_fault.AnswerFault.{AnswerFault}
 use Rattle.lsm_admission.specs.declared.answer_fault.AnswerFault.TheVariants.{Open, Read}
 use Rattle.lsm_admission.proofs.Kept.{kept_of_shape}
+use Rattle.lsm_journal.specs.declared.manifest_limit.ManifestLimit.{ManifestLimit}
 
 -- it was admitted, at a later moment too
-later : (Keeps : ℕ → List ℕ → Type 0) (shape : Form) (limit : ℕ) (h : HeldManifest) (v : Levels)
+later : (Keeps : ℕ → List ℕ → Type 0) (shape : Form) (limit : ManifestLimit) (h : HeldManifest) (v : Levels)
     (rest next : ℕ) (was mid is : Told) → IsAdmitted Keeps shape limit h v rest next was mid
     → Becomes mid is → IsAdmitted Keeps shape limit h v rest next was is
 later Keeps shape limit h v rest next was mid is a same = record {
@@ -35,7 +36,7 @@ later Keeps shape limit h v rest next was mid is a same = record {
 }
 
 -- the read of a version that was admitted
-pub answered : (Keeps : ℕ → List ℕ → Type 0) (Kept : Type 0) (shape : Form) (limit : ℕ)
+pub answered : (Keeps : ℕ → List ℕ → Type 0) (Kept : Type 0) (shape : Form) (limit : ManifestLimit)
     (h : HeldManifest) (v : Levels) (rest next : ℕ) (was mid is : Told) (user : List ℕ)
     (a : Option (List ℕ)) (seq : ℕ)
     → IsAdmitted Keeps shape limit h v rest next was mid → Becomes mid is
@@ -57,7 +58,7 @@ answered Keeps Kept shape limit h v rest next was mid is user a seq admitted sam
     }
 
 pub unread : (Keeps : ℕ → List ℕ → Type 0) (Refused : Asked → ShelfFault → Type 0) (Kept : Type 0)
-    (shape : Form) (limit : ℕ) (h : HeldManifest) (v : Levels) (rest next : ℕ) (was mid is : Told)
+    (shape : Form) (limit : ManifestLimit) (h : HeldManifest) (v : Levels) (rest next : ℕ) (was mid is : Told)
     (fault : ReadFault)
     → IsAdmitted Keeps shape limit h v rest next was mid → Becomes mid is
     → IsSomeReadRefusal Refused fault → (Kept → IsMemoryOrShelf fault)

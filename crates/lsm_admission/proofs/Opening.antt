@@ -26,6 +26,7 @@ use Rattle.lsm_journal.specs.Finding.{IsFound, IsLeastFree, IsWithoutRoom, taken
 use Rattle.lsm_admission.specs.Admitted.{IsAdmitted, IsNotAdmitted, IsUnlisted, IsTakenLast}
 use Rattle.lsm_admission.specs.AdmitRefusal.{IsAdmitRefusal}
 use Rattle.lsm_admission.specs.FoundTables.{IsFoundFrom}
+use Rattle.lsm_journal.specs.declared.manifest_limit.ManifestLimit.{ManifestLimit}
 
 -- a manifest that was read records each version of its shape (a law of journals)
 abbrev pub RecoveredIsRecorded : Type 0
@@ -165,7 +166,7 @@ without_room_listed rest h shape listed was mid is r t same = record {
 
 -- ---- what is found
 
-pub admitted_there : (Keeps : ℕ → List ℕ → Type 0) (limit rest : ℕ) (h : HeldManifest)
+pub admitted_there : (Keeps : ℕ → List ℕ → Type 0) (limit : ManifestLimit) (rest : ℕ) (h : HeldManifest)
     (shape : Form) (v : Levels) (listed : List ℕ) (next : ℕ) (was mid is : Told)
     → IsRecovered h shape rest → IsFoundFrom Keeps shape v → h.limit ≡ limit
     → IsLeastFree shape.next (taken_numbers listed v h.number) next → next < 2 ^ 64
@@ -183,7 +184,7 @@ admitted_there Keeps limit rest h shape v listed next was mid is r f limit_is le
     }
 
 -- where the version is of the shape and sound, it is what a judgment of every table finds
-pub admitted_found : (honest : Type 0) (Keeps : ℕ → List ℕ → Type 0) (limit rest : ℕ)
+pub admitted_found : (honest : Type 0) (Keeps : ℕ → List ℕ → Type 0) (limit : ManifestLimit) (rest : ℕ)
     (h : HeldManifest) (shape : Form) (v : Levels) (next : ℕ) (was is : Told) → RecoveredIsRecorded
     → IsOfShape shape v → IsSound v → IsAdmitted Keeps shape limit h v rest next was is
     → IsFound honest limit h v rest next was is

@@ -19,14 +19,14 @@ use Rattle.lsm_journal.specs.declared.open_fault.OpenFault.TheVariants.{OutOfMem
 use Rattle.lsm_journal.specs.declared.open_fault.OpenFault.TheVariants.{Check, NumbersSpent}
 use Rattle.lsm_admission.specs.AdmitRefusal.{IsAdmitRefusal}
 use Rattle.lsm_admission.specs.FoundTables.{IsFoundFrom}
+use Rattle.lsm_journal.specs.declared.manifest_limit.ManifestLimit.{ManifestLimit}
 
 -- The manifest that was read comes to the shape, with so many bytes at its end that hold no whole
 -- record; the tables of the version were found for the files of that shape, and none was read. The
 -- next number is the least that is at least the manifest's next file number and above every number
 -- that is taken. The shelf was read and listed, and nothing was written.
-pub record IsAdmitted (Keeps : ℕ → List ℕ
-    → Type 0) (shape : Form) (limit : ℕ) (h : HeldManifest) (v : Levels) (rest next : ℕ) (was is
-    : Told) : Type 0 where
+pub record IsAdmitted (Keeps : ℕ → List ℕ → Type 0) (shape : Form) (limit : ManifestLimit)
+    (h : HeldManifest) (v : Levels) (rest next : ℕ) (was is : Told) : Type 0 where
   pub listed : List ℕ
   pub recovered : IsRecovered h shape rest
   pub found : IsFoundFrom Keeps shape v

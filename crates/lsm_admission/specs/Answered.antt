@@ -17,6 +17,7 @@ use Rattle.lsm_admission.specs.Admitted.{IsAdmitted, IsOpenRefusal}
 use Rattle.lsm_admission.specs.Keeping.{KeepsTables}
 use Rattle.lsm_admission.specs.declared.answer_fault.AnswerFault.{AnswerFault}
 use Rattle.lsm_admission.specs.declared.answer_fault.AnswerFault.TheVariants.{Open, Read}
+use Rattle.lsm_journal.specs.declared.manifest_limit.ManifestLimit.{ManifestLimit}
 
 -- The database of a manifest with this shape was admitted, and no byte of a table was read till
 -- then. Where `Kept` holds its version is of the shape and sound, and the answer is that of all
@@ -28,7 +29,7 @@ pub record IsAnswered (Keeps : ℕ → List ℕ
   pub version : Levels
   pub rest : ℕ
   pub next : ℕ
-  pub limit : ℕ
+  pub limit : ManifestLimit
   pub admitted : IsAdmitted Keeps shape limit held version rest next was is
   pub of_shape : Kept → IsOfShape shape version
   pub sound : Kept → IsSound version
@@ -42,7 +43,7 @@ pub record IsUnread (Keeps : ℕ → List ℕ → Type 0) (Refused : Asked → S
   pub version : Levels
   pub rest : ℕ
   pub next : ℕ
-  pub limit : ℕ
+  pub limit : ManifestLimit
   pub admitted : IsAdmitted Keeps shape limit held version rest next was is
   pub asked : IsSomeReadRefusal Refused fault
   pub sound : Kept → IsMemoryOrShelf fault

@@ -11,7 +11,8 @@ ghost use Rattle.lsm_admission.specs.Keeping.{KeepsTables};
 use crate::admitting::admit;
 use crate::next_number::next_free;
 use lsm_finding::Finding;
-use lsm_journal::{Journal, OpenFault, RecoverFault, Recovered, recovered_is_recorded};
+use lsm_journal::{Journal, ManifestLimit, OpenFault, RecoverFault, Recovered};
+use lsm_journal::recovered_is_recorded;
 use lsm_table::{NamedShelf, Naming, Registry, Shelf};
 use lsm_version::Version;
 use std::alloc::Global;
@@ -23,7 +24,7 @@ fn recover_named<N: Naming, S: Shelf, R: Wait>(
     rt: &R,
     alloc: Global,
     shelf: S,
-    limit: u64,
+    limit: ManifestLimit,
 ) -> (Result<Recovered, RecoverFault>, S)
     requires named { (S.told shelf).place ≡ N.place }
     ensures found { IfOk result.0 (λ r. Becomes
@@ -42,12 +43,12 @@ fn recover_named<N: Naming, S: Shelf, R: Wait>(
 
 /// Reads the manifest that the directory of a shelf names, and what its edits come to, before a
 /// name is picked for the shelf: what its tables have to keep can then be said of the shape that
-/// was read. The shelf is given back. As `Journal::recover`; the limit is in bytes.
+/// was read. The shelf is given back. As `Journal::recover`.
 pub fn recover_manifest<S: Shelf, R: Wait>(
     rt: &R,
     alloc: Global,
     shelf: S,
-    limit: u64,
+    limit: ManifestLimit,
 ) -> (Result<Recovered, RecoverFault>, S)
     ensures found { IfOk result.0 (λ r. Becomes
         (finding r.journal.number r.journal.bytes (S.told shelf)) (S.told result.1)) }

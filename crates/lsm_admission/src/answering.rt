@@ -10,7 +10,7 @@ ghost use Rattle.lsm_admission.specs.Keeping.{KeepsTables};
 use crate::admitted::{Admitted, recover_manifest};
 use crate::answer_fault::AnswerFault;
 use lsm_finding::{Finding, Vouched, Vouching};
-use lsm_journal::Recovered;
+use lsm_journal::{ManifestLimit, Recovered};
 use lsm_query::get;
 use lsm_table::{NamedShelf, Naming, Records, Registry};
 use std::alloc::Global;
@@ -121,7 +121,7 @@ pub fn get_unjudged<S: Finding, R: Wait>(
         (S.refuses (S.told shelf).place) S.honest e (S.told shelf) (S.told result.1)) }
 {
     // A journal that nothing is sent through has no use for its limit.
-    let (recovered, shelf) = recover_manifest(rt, alloc, shelf, u64::MAX);
+    let (recovered, shelf) = recover_manifest(rt, alloc, shelf, ManifestLimit::none());
     match recovered {
         Ok(recovered) => get_recovered(rt, alloc, shelf, recovered, user),
         Err(fault) => (Err(AnswerFault::from(fault)), shelf),

@@ -16,6 +16,6 @@ pub(crate) fn options_for(channels: usize) -> Options
 {
     Options {
         readers: channels,
-        ..Options::usual()
+        ..Options::with_growing_manifests()
     }
 }

@@ -18,8 +18,8 @@ use Rattle.lsm_script.specs.Scripts.{AreReplies, ends_list}
 use Rattle.lsm_script.specs.Steps.{IsStep, stage_of}
 use Rattle.lsm_script.specs.declared.command.Command.{Command}
 use Rattle.lsm_script.specs.declared.reply.Reply.{Reply}
-use Rattle.lsm_opening.specs.Parts.{usual}
-use Rattle.lsm_opening.specs.Starting.{IsBeginRefusal, IsNew}
+use Rattle.lsm_opening.specs.Parts.{plain}
+use Rattle.lsm_opening.specs.Starting.{IsBeginRefusal, IsNewWith}
 use Rattle.lsm_opening.specs.WriterFault.{of_shelf}
 use Rattle.lsm_opening.specs.declared.faults.writer_fault.WriterFault.{WriterFault}
 use Rattle.lsm_opening.specs.declared.faults.writer_fault.WriterFault.TheVariants.{OutOfMemory, Write}
@@ -52,10 +52,10 @@ not_begun Refused e was is (inl memory) = inl memory.0
 not_begun Refused e was is (inr (inl (spent, last, same))) = absurd (omega (arith, last))
 not_begun Refused e was is (inr (inr (fault, same, refused, asked, counted))) = inr (fault, same, refused)
 
-created_history : (publisher : Known) (pinners : List Known) → history_of (created_state usual publisher pinners) ≡ nothing
+created_history : (publisher : Known) (pinners : List Known) → history_of (created_state plain publisher pinners) ≡ nothing
 created_history publisher pinners = refl
 
-pub is_played : (honest : Type 0) (commands : List Command) (replies : List Reply) (was mid now : Told) (before after : Held) → IsNew 1 before was mid
+pub is_played : (honest : Type 0) (commands : List Command) (replies : List Reply) (was mid now : Told) (before after : Held) → IsNewWith plain 1 before was mid
     → ((jobs : List Work) × (results : List Done) × AreReplies (IsStep honest) commands replies (stage_of before mid) record { state = after; told = now; jobs = jobs; results = results })
     → ((t : History) × AreReplies (IsAnswered honest) commands replies (history_of before) t × IsOf honest t after)
     → ArePlayed honest commands replies was

@@ -12,7 +12,8 @@ use Rattle.lsm_script.specs.Scripts.{AreReplies, ends_list}
 use Rattle.lsm_script.specs.Steps.{IsStep, Stage, stage_of}
 use Rattle.lsm_script.specs.declared.command.Command.{Command}
 use Rattle.lsm_script.specs.declared.reply.Reply.{Reply}
-use Rattle.lsm_opening.specs.Starting.{IsNew}
+use Rattle.lsm_opening.specs.Parts.{plain}
+use Rattle.lsm_opening.specs.Starting.{IsNewWith}
 use Rattle.lsm_opening.specs.WriterFault.{of_shelf}
 use Rattle.lsm_opening.specs.declared.faults.writer_fault.WriterFault.{WriterFault}
 use Rattle.lsm_opening.specs.declared.faults.writer_fault.WriterFault.TheVariants.{OutOfMemory}
@@ -36,7 +37,7 @@ pub record ArePlayed (honest : Type 0) (commands : List Command) (replies : List
     : Type 0 where
   pub before : Held
   pub mid : Told
-  pub created : IsNew 1 before was mid
+  pub created : IsNewWith plain 1 before was mid
   pub after : Stage
   pub steps : AreReplies (IsStep honest) commands replies (stage_of before mid) after
   pub history : History

@@ -9,15 +9,15 @@ ghost use Rattle.lsm_journal.specs.Sending.{IsCreateRefusal};
 ghost use Rattle.lsm_shelf.specs.Told.{Told};
 ghost use Rattle.lsm_shelf.specs.declared.shelf_fault.ShelfFault.{ShelfFault};
 ghost use Rattle.lsm_cmd_convert.specs.Played.{ArePlayed, ArePlayedInMemory, IsUncreatedInMemory};
-ghost use Rattle.lsm_opening.specs.Parts.{AreOf, usual};
+ghost use Rattle.lsm_opening.specs.Parts.{AreOf, plain};
 ghost use Rattle.lsm_opening.specs.WriterFault.{of_shelf};
 ghost use Rattle.lsm_opening.specs.declared.faults.writer_fault.WriterFault.TheVariants.{OutOfMemory};
 
 use lsm_codec::List;
-use lsm_opening::{NewParts, WriterFault, begin};
+use lsm_opening::{NewParts, WriterFault, begin_with};
 use lsm_script::{Command, Reply, run};
 use lsm_slots::Boarded;
-use lsm_state::State;
+use lsm_state::{Options, State};
 use lsm_storage::MemoryShelf;
 use lsm_table::{NamedShelf, Shelf};
 use std::alloc::Global;
@@ -32,12 +32,13 @@ fn play_named<N: Boarded, S: Shelf, R: Wait>(
     parts: NewParts<S>,
     commands: &[Command],
 ) -> Result<List<Reply>, WriterFault>
-    requires parts { AreOf usual N.registry N.board N.history parts }
+    requires parts { AreOf parts.options N.registry N.board N.history parts }
+    requires options { parts.options ≡ plain }
     ensures played { IfOk result (λ replies. ArePlayed S.honest commands.now replies shelf.old) }
     ensures fault { IfErr result (λ e. (e ≡ OutOfMemory) ⊎ ((fault : ShelfFault)
         × (e ≡ of_shelf fault) × IsCreateRefusal fault shelf.old shelf.new)) }
 {
-    let state: State<N, S> = match begin(rt, alloc, shelf, 1, parts) {
+    let state: State<N, S> = match begin_with(rt, alloc, shelf, 1, parts) {
         Ok(state) => state,
         Err(fault) => return Err(fault),
     };
@@ -55,7 +56,8 @@ fn play_as<N: Boarded, S: Shelf, R: Wait>(
     parts: NewParts<S>,
     commands: &[Command],
 ) -> Result<List<Reply>, WriterFault>
-    requires parts { AreOf usual N.registry N.board N.history parts }
+    requires parts { AreOf parts.options N.registry N.board N.history parts }
+    requires options { parts.options ≡ plain }
     requires shelf { (S.told shelf).place ≡ N.place }
     ensures played { IfOk result (λ replies.
         ArePlayed S.honest commands.now replies (S.told shelf)) }
@@ -76,6 +78,6 @@ pub(crate) fn play<R: Wait>(
     ensures fault { IfErr result (λ e. (e ≡ OutOfMemory) ⊎ IsUncreatedInMemory e) }
 {
     let shelf = MemoryShelf::new(alloc)?;
-    let parts = NewParts::make(alloc)?;
+    let parts = NewParts::with(alloc, Options::usual())?;
     play_as::<Brand, MemoryShelf, R>(rt, alloc, shelf, parts, commands)
 }

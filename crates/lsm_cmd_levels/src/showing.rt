@@ -16,7 +16,7 @@ use lsm_directory::{
     DirectoryFault, FolderFile, Wording, first_unread, push_logs, push_rest, refuse_left_out,
     write_output,
 };
-use lsm_journal::{Journal, Recovered};
+use lsm_journal::{Journal, ManifestLimit, Recovered};
 use lsm_manifest::Shape;
 use lsm_requests::LevelsOutput;
 use lsm_table::{NamedShelf, Naming, Shelf};
@@ -148,7 +148,7 @@ fn read_named<N: Naming, S: Shelf, R: Wait>(
     ensures fault { IfErr result (λ e. IsNotNamed (S.refuses N.place) e shelf.old shelf.new) }
 {
     // Nothing is sent through the journal, so it has no use for its limit.
-    match Journal::recover(rt, alloc, shelf, u64::MAX) {
+    match Journal::recover(rt, alloc, shelf, ManifestLimit::none()) {
         Ok(recovered) => Ok(recovered),
         Err(fault) => Err(DirectoryFault::Manifest(fault)),
     }

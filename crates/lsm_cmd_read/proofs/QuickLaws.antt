@@ -66,10 +66,11 @@ use Rattle.lsm_cmd_read.proofs.ReadingOutcomes.{counted_from, found_held, holds_
 use Rattle.lsm_cmd_read.proofs.ReadingOutcomes.{recover_reads}
 use Rattle.lsm_cmd_read.proofs.LookedLaws.{looks_quiet}
 use Rattle.lsm_table.proofs.CallerLemmas.{read_counted_later}
+use Rattle.lsm_journal.specs.declared.manifest_limit.ManifestLimit.{ManifestLimit}
 
 -- ---- what is admitted
 
-pub admitted_held : (Files Stored : ℕ → List ℕ → Type 0) (shape : Shape) (limit : ℕ)
+pub admitted_held : (Files Stored : ℕ → List ℕ → Type 0) (shape : Shape) (limit : ManifestLimit)
     (h : HeldManifest) (v : Levels) (m : NamedManifest) (next : ℕ) (was is : Told)
     → IsAdmitted Files shape limit h v m.rest next was is → m.number ≡ h.number → m.log ≡ h.log
     → m.prev_log ≡ h.prev_log → AreGiven Stored v → Admits Files Stored shape was is v m

@@ -40,6 +40,7 @@ use Rattle.lsm_directory.specs.declared.folder.beside.Beside.{Beside}
 use Rattle.lsm_directory.specs.declared.folder.named_manifest.NamedManifest.{NamedManifest}
 use Rattle.lsm_directory.specs.declared.faults.directory_fault.DirectoryFault.{DirectoryFault}
 use Rattle.lsm_directory.specs.declared.faults.directory_fault.DirectoryFault.TheVariants.{
+use Rattle.lsm_journal.specs.declared.manifest_limit.ManifestLimit.{ManifestLimit}
   OutOfMemory,
   Write,
   Shelf,
@@ -340,7 +341,7 @@ reads_refused Stored Refused Honest open_faults.NumbersSpent was is r =
     inr (r.held.number, r.held.bytes, inr (r.listed, r.told))
 
 -- a directory that was found
-pub found_held : (Honest : Type 0) (limit : ℕ) (h : HeldManifest) (v : Levels) (m : NamedManifest)
+pub found_held : (Honest : Type 0) (limit : ManifestLimit) (h : HeldManifest) (v : Levels) (m : NamedManifest)
     (next : ℕ) (was is : Told) → IsFound Honest limit h v m.rest next was is → m.number ≡ h.number
     → m.log ≡ h.log
     → m.prev_log ≡ h.prev_log → Holds Honest was is v m
@@ -356,7 +357,7 @@ found_held Honest limit h v m next was is f numbered logs previous =
       previous = sym previous;
     }
 
-pub reads_found : (Honest : Type 0) (limit : ℕ) (h : HeldManifest) (v : Levels) (rest next : ℕ)
+pub reads_found : (Honest : Type 0) (limit : ManifestLimit) (h : HeldManifest) (v : Levels) (rest next : ℕ)
     (was is : Told) → IsFound Honest limit h v rest next was is → OnlyReads was is
 reads_found Honest limit h v rest next was is f = inr (h.number, h.bytes, inr (f.listed, f.told))
 

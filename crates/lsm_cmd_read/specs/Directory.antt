@@ -5,6 +5,7 @@ use Rattle.lsm_version.specs.Versions.{Levels}
 use Rattle.lsm_journal.specs.Finding.{IsFound}
 use Rattle.lsm_journal.specs.HeldManifest.{HeldManifest}
 use Rattle.lsm_directory.specs.declared.folder.named_manifest.NamedManifest.{NamedManifest}
+use Rattle.lsm_journal.specs.declared.manifest_limit.ManifestLimit.{ManifestLimit}
 
 -- Between these moments the shelf was asked for its manifest at most, then to list its tables at
 -- most, and else for nothing but tables: it put no table, was asked to remove none, and began and
@@ -24,7 +25,7 @@ OnlyReads was is =
 -- a table that is listed, of a table of the version or of the manifest is 2^64 - 1.
 pub record Holds (Honest : Type 0) (was is : Told) (v : Levels) (m : NamedManifest) : Type 0 where
   pub held : HeldManifest
-  pub limit : ℕ
+  pub limit : ManifestLimit
   pub next : ℕ
   pub found : IsFound Honest limit held v m.rest next was is
   pub numbered : held.number ≡ m.number

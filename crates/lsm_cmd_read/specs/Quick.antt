@@ -26,6 +26,7 @@ use Rattle.lsm_directory.specs.declared.folder.named_manifest.NamedManifest.{Nam
 use Rattle.lsm_cmd_read.specs.Answers.{Asking, IsPerformFault, IsQuiet, Moment, Prints}
 use Rattle.lsm_cmd_read.specs.Answers.{PrintsBefore, ReliesOn}
 use Rattle.lsm_cmd_read.specs.Directory.{AreGiven, Holds}
+use Rattle.lsm_journal.specs.declared.manifest_limit.ManifestLimit.{ManifestLimit}
 
 -- ---- which lines may be quick
 
@@ -53,7 +54,7 @@ is_quick (Scan options) quick = quick
 pub record Admits (Files Stored : ℕ → List ℕ → Type 0) (shape : Shape) (was is : Told) (v : Levels)
     (m : NamedManifest) : Type 0 where
   pub held : HeldManifest
-  pub limit : ℕ
+  pub limit : ManifestLimit
   pub next : ℕ
   pub admitted : IsAdmitted Files shape limit held v m.rest next was is
   pub numbered : held.number ≡ m.number

@@ -8,7 +8,7 @@ ghost use Rattle.lsm_shelf.specs.Stored.{Stored};
 
 use crate::given::tables_are_given;
 use lsm_directory::{DirectoryFault, NamedManifest};
-use lsm_journal::Found;
+use lsm_journal::{Found, ManifestLimit};
 use lsm_table::{NamedShelf, Naming, Registry, Shelf};
 use lsm_verify::Watch;
 use lsm_version::Version;
@@ -51,7 +51,7 @@ pub fn open<N: Naming, S: Shelf, R: Threads + Wait + Sync, W: Watch + Sync>(
     ensures reads { OnlyReads shelf.old shelf.new }
 {
     // A journal that nothing is sent through has no use for its limit.
-    let found = Found::read_by(rt, alloc, shelf, registry, u64::MAX, shelves, watch)?;
+    let found = Found::read_by(rt, alloc, shelf, registry, ManifestLimit::none(), shelves, watch)?;
     tables_are_given(&found.version);
     Ok(Opened {
         version: found.version,

@@ -17,7 +17,7 @@ use crate::performing::read_on;
 use lsm_admission::recover_manifest;
 use lsm_directory::{DirectoryFault, refuse_beside};
 use lsm_finding::{Finding, Vouched, Vouching};
-use lsm_journal::Recovered;
+use lsm_journal::{ManifestLimit, Recovered};
 use lsm_table::{NamedShelf, Naming, Records, Registry};
 use std::alloc::Global;
 use std::io::Write;
@@ -162,7 +162,7 @@ pub(crate) fn begin_quickly<S: Finding, R: Wait, O: Write, E: Write>(
     ensures reads { OnlyReads (S.told shelf) (S.told result.1) }
 {
     // A journal that nothing is sent through has no use for its limit.
-    let (recovered, shelf) = recover_manifest(rt, alloc, shelf, u64::MAX);
+    let (recovered, shelf) = recover_manifest(rt, alloc, shelf, ManifestLimit::none());
     match recovered {
         Ok(recovered) => begin_recovered(rt, alloc, shelf, recovered, inquiry, out, err),
         Err(fault) => (Err(DirectoryFault::from(fault)), shelf),

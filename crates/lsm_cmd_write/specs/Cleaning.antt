@@ -22,7 +22,7 @@ use Rattle.lsm_shelf.specs.Told.{Place, Told, fresh}
 use Rattle.lsm_shelf.specs.declared.shelf_fault.ShelfFault.{ShelfFault}
 use Rattle.lsm_version.specs.Versions.{Levels, numbers_in}
 use Rattle.lsm_journal.specs.Finding.{IsFindRefusal, IsFound}
-use Rattle.lsm_journal.specs.HeldManifest.{HeldManifest}
+use Rattle.lsm_journal.specs.HeldManifest.{HeldManifest, no_limit}
 use Rattle.lsm_journal.specs.declared.open_fault.OpenFault.{OpenFault}
 use Rattle.lsm_directory.specs.FileNames.{IsFileName}
 use Rattle.lsm_directory.specs.Folders.{stored_at, told_by}
@@ -51,7 +51,7 @@ pub record IsKept (Honest : Type 0) (manifest : HeldManifest) (rest : ℕ) (tabl
     (was is : Told) : Type 0 where
   pub version : Levels
   pub next : ℕ
-  pub found : IsFound Honest (2 ^ 64 - 1) manifest version rest next was is
+  pub found : IsFound Honest no_limit manifest version rest next was is
   pub all : (n : ℕ) → Has tables n ↔ Has (numbers_in version) n
 
 -- memory ran out, or there was none to be found

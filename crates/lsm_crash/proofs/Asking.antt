@@ -24,6 +24,7 @@ use Rattle.lsm_crash.specs.Disk.{Disk}
 use Rattle.lsm_crash.specs.Known.{World}
 use Rattle.lsm_crash.specs.States.{IsWorldOf}
 use Rattle.lsm_crash.specs.Database.{HasMade, Install, IsMade as IsCreated, IsReady, Opens}
+use Rattle.lsm_journal.specs.declared.manifest_limit.ManifestLimit.{ManifestLimit}
 
 -- ---- a list that grew by calls grew by no others
 
@@ -84,10 +85,10 @@ install_asks old new done was is i asks h =
 pub collect_asks : (h : Held) (removed : List ℕ) (was is : Told) → AreCollected h removed was is → (asks : List Asked) → HasMade asks was is → asks ≡ map Remove removed
 collect_asks h removed was is c asks made = only_going asks (map Remove removed) was is made c.told.made
 
-pub open_made : (honest : Type 0) (limit : ℕ) (h : Held) (d : Disk) (p : Opens honest limit h d) → HasMade (StartManifest h.journal.number h.journal.bytes ∷ []) p.was p.is
+pub open_made : (honest : Type 0) (limit : ManifestLimit) (h : Held) (d : Disk) (p : Opens honest limit h d) → HasMade (StartManifest h.journal.number h.journal.bytes ∷ []) p.was p.is
 open_made honest limit h d p = begun_made honest limit h.journal h.slots.version h.next p.was p.is p.begun
 
-pub open_asks : (honest : Type 0) (limit : ℕ) (h : Held) (d : Disk) (p : Opens honest limit h d) (asks : List Asked) → HasMade asks p.was p.is → asks ≡ StartManifest h.journal.number h.journal.bytes ∷ []
+pub open_asks : (honest : Type 0) (limit : ManifestLimit) (h : Held) (d : Disk) (p : Opens honest limit h d) (asks : List Asked) → HasMade asks p.was p.is → asks ≡ StartManifest h.journal.number h.journal.bytes ∷ []
 open_asks honest limit h d p asks made =
     only_going asks (StartManifest h.journal.number h.journal.bytes ∷ []) p.was p.is made (open_made honest limit h d p)
 

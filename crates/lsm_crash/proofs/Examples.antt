@@ -54,6 +54,7 @@ use Rattle.lsm_crash.proofs.Making.{made_settled, made_world}
 use Rattle.lsm_crash.proofs.Opening.{opening_allowed, opening_done, opening_settled, opening_world}
 use Rattle.lsm_crash.proofs.Turning.{cut_known, works_keep}
 use Rattle.lsm_crash.proofs.Possible.{Can, deed_can, opened_can, removes_can, start_free, works_can}
+use Rattle.lsm_journal.specs.declared.manifest_limit.ManifestLimit.{ManifestLimit}
 
 -- ---- operations that are refused, or cut
 
@@ -231,7 +232,7 @@ module _ (honest : Type 0) (board : TableId) where
 -- ---- a life that is cut in a call, and one more
 
 -- an opening after which a table has no file yet
-begins_can : (honest : Type 0) (limit : ℕ) (h : Held) (w : World) (d : Disk) (p : Opens honest limit h d) (asks : List Asked) (n : ℕ) → HasMade asks p.was p.is → d.names (table_name n) ≡ None → n < 2 ^ 64
+begins_can : (honest : Type 0) (limit : ManifestLimit) (h : Held) (w : World) (d : Disk) (p : Opens honest limit h d) (asks : List Asked) (n : ℕ) → HasMade asks p.was p.is → d.names (table_name n) ≡ None → n < 2 ^ 64
     → (m : Disk) × DoneDropping w.tables h.journal.number (plans_of p.begun.before.number asks) d m
     × (m.names (table_name n) ≡ None)
 begins_can honest limit h w d p asks n made free small =
@@ -247,7 +248,7 @@ begins_can honest limit h w d p asks n made free small =
     )
 
 -- an opening, whatever is there
-opens_can : (honest : Type 0) (board : TableId) (limit : ℕ) (h : Held) (w : World) (d : Disk) (p : Opens honest limit h d) → IsState honest board h → (u : World) × (m : Disk) × Begins honest board limit h w u d m
+opens_can : (honest : Type 0) (board : TableId) (limit : ManifestLimit) (h : Held) (w : World) (d : Disk) (p : Opens honest limit h d) → IsState honest board h → (u : World) × (m : Disk) × Begins honest board limit h w u d m
 opens_can honest board limit h w d p l =
     let asks = StartManifest h.journal.number h.journal.bytes ∷ [] in
     let made = open_made honest limit h d p in
@@ -255,7 +256,7 @@ opens_can honest board limit h w d p l =
     let can = opened_can honest limit h d p asks made w.tables in
     (opened_world h v.0 w, can.0, (v.0, asks, l, p, made, v.1, can.1, refl))
 
-module _ (law : TablesChange) (honest : Type 0) (board : TableId) (limit : ℕ) (h now new : Held) (ws xs : List Write) (r s : Ingested) (w : World) (d : Disk) where
+module _ (law : TablesChange) (honest : Type 0) (board : TableId) (limit : ManifestLimit) (h now new : Held) (ws xs : List Write) (r s : Ingested) (w : World) (d : Disk) where
   pub small_ages : (was is then so : Told) → IsState honest board h → IsState honest board now → IsState honest board new → IsSettled d w → d.names (table_name h.next) ≡ None → Opens honest limit h d
       → IsWelcome h ws → Ingests h now ws r was is → Follows honest h now (Answered (Ingest ws r)) → IsWelcome now xs → Ingests now new xs s then so → Follows honest now new (Answered (Ingest xs s))
       → SmallAges honest board limit (Struck h now new (Answered (Ingest ws r) ∷ []) (Ingest xs s)) w d

@@ -21,6 +21,7 @@ use Rattle.lsm_crash.proofs.Names.{texts_apart}
 use Rattle.lsm_crash.proofs.Standing.{stands_shows}
 use Rattle.lsm_crash.proofs.Forms.{recorded_describes}
 use Rattle.lsm_crash.proofs.Opening.{shows_one}
+use Rattle.lsm_journal.specs.declared.manifest_limit.ManifestLimit.{ManifestLimit}
 
 fresh_shows : (found : Found) (d : Disk) (q bytes : List ℕ) → IsFresh found d → found q ≡ Some bytes → Shows d q bytes
 fresh_shows found d q bytes fresh is = (let s = fresh.some q bytes is in (s.0, s.1, s.2))
@@ -73,7 +74,7 @@ one_way u v seven to images F h =
     let same : file_of (0 + level) t ≡ file_of (0 + level) s.0 = same_file (0 + level) t s.0 number (ap (λ (f : TableFile). f.smallest) (sym s.2)) (ap (λ (f : TableFile). f.largest) (sym s.2)) (images level level t s.0 at.2 s.1 number) in
     subst (Has (files v)) (sym same ∙ at.3) (in_files 0 v.tables level s.0 s.1)
 
-module _ (honest : Type 0) (limit : ℕ) (h : Held) (d : Disk) (v : Levels) (f : Shown v d) (p : Opens honest limit h d) (seven : length v.tables ≡ 7) where
+module _ (honest : Type 0) (limit : ManifestLimit) (h : Held) (d : Disk) (v : Levels) (f : Shown v d) (p : Opens honest limit h d) (seven : length v.tables ≡ 7) where
   number_is : f.manifest ≡ p.begun.before.number
   number_is = texts_apart f.manifest p.begun.before.number f.small
       (let a = p.begun.found.least.0.1 p.begun.before.number (has_right (p.begun.found.listed ++ numbers_in h.slots.version) (p.begun.before.number ∷ []) p.begun.before.number (inl refl)) in let b = p.begun.after in let c = p.begun.fits in omega arith)

@@ -24,6 +24,7 @@ use Rattle.lsm_crash.proofs.Making.{made_finds, made_held, made_settled, made_wo
 use Rattle.lsm_crash.proofs.Found.{found_shown, opened_last, opened_same, settled_shown}
 use Rattle.lsm_crash.proofs.Soundness.{WholeTables, deed_whole, sound_state, works_whole}
 use Rattle.lsm_crash.proofs.Answering.{ReadsAll, deed_reads, made_answers, same_answers, works_read}
+use Rattle.lsm_journal.specs.declared.manifest_limit.ManifestLimit.{ManifestLimit}
 
 -- what holds of a folder that may be opened
 pub record IsBorn (given honest : Type 0) (v : Levels) (es : List Entry) (w : World) (d : Disk) :
@@ -124,7 +125,7 @@ module _ (given : Type 0) (law : TablesChange) (honest : Type 0) (all : ReadsAll
 
 -- ---- a life that begins with an opening
 
-module _ (given honest : Type 0) (board : TableId) (limit : ℕ) (v : Levels) (es : List Entry) (w : World) (d : Disk) (b : IsBorn given honest v es w d) where
+module _ (given honest : Type 0) (board : TableId) (limit : ManifestLimit) (v : Levels) (es : List Entry) (w : World) (d : Disk) (b : IsBorn given honest v es w d) where
   -- the version that was opened reads as the one that was shown
   opened_reads : (h : Held) → IsState honest board h → Opens honest limit h d → honest → Answers h.slots.version es
   opened_reads h l p fair = same_answers v h.slots.version es (l.0.law.meaning fair).lawful

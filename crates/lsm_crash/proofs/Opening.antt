@@ -32,6 +32,7 @@ use Rattle.lsm_crash.proofs.Forms.{recorded_describes, table_named}
 use Rattle.lsm_crash.proofs.Deeds.{are_there}
 use Rattle.lsm_crash.proofs.Asking.{open_asks}
 use Rattle.lsm_crash.proofs.Turning.{finds}
+use Rattle.lsm_journal.specs.declared.manifest_limit.ManifestLimit.{ManifestLimit}
 
 -- ---- a name shows one text
 
@@ -74,7 +75,7 @@ number_in v level t h = has_number (files v) (file_of (0 + level) t) (in_files 0
 
 -- ---- the calls that an opening makes
 
-module _ (honest : Type 0) (limit : ℕ) (h : Held) (d : Disk) (p : Opens honest limit h d) (asks : List Asked) (made : HasMade asks p.was p.is) where
+module _ (honest : Type 0) (limit : ManifestLimit) (h : Held) (d : Disk) (p : Opens honest limit h d) (asks : List Asked) (made : HasMade asks p.was p.is) where
   pub opening_done : (tables : Tables) (e : Disk)
       → DoneDropping tables h.journal.number (plans_of p.begun.before.number asks) d e
       → DoneDropping tables h.journal.number (start_plan h.journal.number h.journal.bytes) d e
@@ -91,7 +92,7 @@ module _ (honest : Type 0) (limit : ℕ) (h : Held) (d : Disk) (p : Opens honest
 
 -- ---- an opening
 
-module _ (honest : Type 0) (board : TableId) (limit : ℕ) (h : Held) (d : Disk) (w : World) (v : Version) (l : IsLawfulState honest board h) (i : IsSettled d w) (p : Opens honest limit h d) (to : ComesTo h.journal.bytes v) where
+module _ (honest : Type 0) (board : TableId) (limit : ManifestLimit) (h : Held) (d : Disk) (w : World) (v : Version) (l : IsLawfulState honest board h) (i : IsSettled d w) (p : Opens honest limit h d) (to : ComesTo h.journal.bytes v) where
   above : (m : ℕ) → Has (taken_numbers p.begun.found.listed h.slots.version p.begun.before.number) m → m < p.begun.number
   above m k = p.begun.found.least.0.1 m k
 

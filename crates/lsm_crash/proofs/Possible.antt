@@ -36,6 +36,7 @@ use Rattle.lsm_crash.proofs.Asking.{collect_asks, create_asks, gather_asks, inge
 use Rattle.lsm_crash.proofs.Worlds.{TablesChange, none_or}
 use Rattle.lsm_crash.proofs.Making.{made_settled, made_world, making_done}
 use Rattle.lsm_crash.proofs.Turning.{rest_leaves, works_keep}
+use Rattle.lsm_journal.specs.declared.manifest_limit.ManifestLimit.{ManifestLimit}
 
 -- these can be done, one after another, from this disk
 abbrev pub Can : World → Version → List Asked → Disk → Type 0
@@ -115,7 +116,7 @@ module _ (honest : Type 0) (board : TableId) (old new : Held) (w : World) (v : V
 
 -- ---- openings, and a new database
 
-pub opened_can : (honest : Type 0) (limit : ℕ) (h : Held) (d : Disk) (p : Opens honest limit h d)
+pub opened_can : (honest : Type 0) (limit : ManifestLimit) (h : Held) (d : Disk) (p : Opens honest limit h d)
     (asks : List Asked) → HasMade asks p.was p.is → (tables : Tables) → (e : Disk)
     × DoneDropping tables h.journal.number (plans_of p.begun.before.number asks) d e
 opened_can honest limit h d p asks made tables =

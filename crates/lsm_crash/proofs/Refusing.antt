@@ -71,6 +71,7 @@ use Rattle.lsm_crash.proofs.Names.{texts_apart}
 use Rattle.lsm_crash.proofs.Found.{same_file}
 use Rattle.lsm_crash.proofs.Opening.{shows_one}
 use Rattle.lsm_crash.proofs.EditsAgain.{edit_again}
+use Rattle.lsm_journal.specs.declared.manifest_limit.ManifestLimit.{ManifestLimit}
 
 -- ---- the manifest
 
@@ -497,7 +498,7 @@ module _ (Stored : ℕ → List ℕ → Type 0) (v : Levels) (d : Disk) (was is 
     later_counted shelf.Missing mid f m c = rose was.misses mid.misses is.misses m c
     later_counted (shelf.Taken n) mid f m c = rose was.misses mid.misses is.misses m c
 
-    of_start : (e : OpenFault) (Refused : Asked → ShelfFault → Type 0) (honest : Type 0) (limit : ℕ) → IsStartRefusal Refused honest limit e was is → IsNotWhatWasFound P e
+    of_start : (e : OpenFault) (Refused : Asked → ShelfFault → Type 0) (honest : Type 0) (limit : ManifestLimit) → IsStartRefusal Refused honest limit e was is → IsNotWhatWasFound P e
     of_start (opening.Shelf e) Refused honest limit r = counts e (later_counted e r.read r.found.told.faults r.found.told.misses r.cause.1)
     of_start opening.NumbersSpent Refused honest limit r = tt
     of_start (opening.Recover e) Refused honest limit r = absurd r
@@ -509,7 +510,7 @@ module _ (Stored : ℕ → List ℕ → Type 0) (v : Levels) (d : Disk) (was is 
   not_found P counts law e Refused honest fair r = of_find P counts law e Refused honest fair r
 
   pub not_opened : (P : ShelfFault → Type 0) → ((fault : ShelfFault) → Counted fault was is → P fault) → ((x : Form) (w : Levels) → IsOfShape x w → AreInFileOrder x.levels → AreLevelsOf x.last x.levels w.tables)
-      → (e : OpenFault) (Refused : Asked → ShelfFault → Type 0) (honest : Type 0) (limit : ℕ) → honest → IsOpenRefusal Stored Refused honest limit e was is → IsNotWhatWasFound P e
+      → (e : OpenFault) (Refused : Asked → ShelfFault → Type 0) (honest : Type 0) (limit : ManifestLimit) → honest → IsOpenRefusal Stored Refused honest limit e was is → IsNotWhatWasFound P e
   not_opened P counts law e Refused honest limit fair (inl r) = of_find P counts law e Refused honest fair r
   not_opened P counts law e Refused honest limit fair (inr r) = of_start P counts e Refused honest limit r
 

@@ -22,8 +22,9 @@ use Rattle.lsm_crash.proofs.Calls.{read_manifest}
 use Rattle.lsm_crash.proofs.Forms.{recorded_describes, table_named}
 use Rattle.lsm_crash.proofs.Deeds.{are_there}
 use Rattle.lsm_crash.proofs.Opening.{number_in, only_has, only_less, settled_fewer, shows_one}
+use Rattle.lsm_journal.specs.declared.manifest_limit.ManifestLimit.{ManifestLimit}
 
-module _ (honest : Type 0) (board : TableId) (limit : ℕ) (h : Held) (d : Disk) (known : Known)
+module _ (honest : Type 0) (board : TableId) (limit : ManifestLimit) (h : Held) (d : Disk) (known : Known)
     (v : Version) (l : IsLawfulState honest board h) (i : IsHeld d known)
     (p : Opens honest limit h d) (to : ComesTo h.journal.bytes v) where
   number_is : h.journal.number ≡ p.begun.number

@@ -40,6 +40,7 @@ use Rattle.lsm_crash.proofs.Soundness.{deed_whole, sound_state, works_whole}
 use Rattle.lsm_crash.proofs.Lives.{ages_sound, from_nothing}
 use Rattle.lsm_crash.proofs.Keeping.{counted_kept, shape_of, version_kept}
 use Rattle.lsm_crash.proofs.Lasting.{held_shown, left_found}
+use Rattle.lsm_journal.specs.declared.manifest_limit.ManifestLimit.{ManifestLimit}
 
 -- the manifest that is shown comes to one shape
 pub shown_shape : (v : Levels) (d : Disk) (s : Shown v d) (number : ℕ) (bytes : List ℕ)
@@ -100,7 +101,7 @@ made_kept honest board h v fair l m to =
     to (new_describes honest board h v l to) (no_table honest board h v l.0 m to)
 
 -- that of an opening
-pub opened_kept : (honest : Type 0) (board : TableId) (limit : ℕ) (h : Held) (d : Disk)
+pub opened_kept : (honest : Type 0) (board : TableId) (limit : ManifestLimit) (h : Held) (d : Disk)
     (known : Known) (v : Version) → honest → IsState honest board h → IsHeld d known → Opens honest
     limit h d → ComesTo h.journal.bytes v → IsKept (IsCounted known.tables) v
 opened_kept honest board limit h d known v fair l i p to =

@@ -44,6 +44,7 @@ use Rattle.lsm_crash.specs.Operations.{Allows, Append, Operation, Put, Remove, S
 use Rattle.lsm_crash.specs.Operations.{started}
 use Rattle.lsm_crash.specs.Among.{CutOf, DoneAmong, DoneOf, FailsAmong, IsGap, counting, failed}
 use Rattle.lsm_crash.specs.States.{Finds}
+use Rattle.lsm_journal.specs.declared.manifest_limit.ManifestLimit.{ManifestLimit}
 
 -- ---- what a call asks of its shelf
 
@@ -293,7 +294,7 @@ opened_world h v w = record {
 
 -- What the contract says of an `open` that is answered Ok, of the manifest that the folder shows;
 -- the tables of the version have the images that the folder shows.
-pub record Opens (honest : Type 0) (limit : ℕ) (h : Held) (d : Disk) : Type 0 where
+pub record Opens (honest : Type 0) (limit : ManifestLimit) (h : Held) (d : Disk) : Type 0 where
   pub was : Told
   pub is : Told
   pub begun : IsBegun honest limit h.journal h.slots.version h.next was is

@@ -20,6 +20,7 @@ use Rattle.lsm_crash.specs.History.{IsRead}
 use Rattle.lsm_crash.specs.Database.{Answered, Builds, Collect, Deed, Gather, HasMade, Ingest}
 use Rattle.lsm_crash.specs.Database.{Install, IsCut, IsMade, IsState, Looks, Opens, Refused, Turn}
 use Rattle.lsm_crash.specs.Database.{Works, opened_world, plans_of}
+use Rattle.lsm_journal.specs.declared.manifest_limit.ManifestLimit.{ManifestLimit}
 
 -- ---- what ingests bring in, and what reads give
 
@@ -72,7 +73,8 @@ LivedFrom honest board Begun Cut (Unopened h) u e = (known : Known) × (m : Disk
     × Cut h known m × Crashed known m u e
 
 -- it was opened
-abbrev pub Begins : Type 0 → TableId → ℕ → Held → (w u : World) → (d e : Disk) → Type 0
+abbrev pub Begins : Type 0 → TableId → ManifestLimit → Held → (w u : World) → (d e : Disk)
+    → Type 0
 Begins honest board limit h w u d e = (v : Version) × (asks : List Asked)
     × IsState honest board h × (p : Opens honest limit h d) × HasMade asks p.was p.is
     × ComesTo h.journal.bytes v
@@ -80,7 +82,8 @@ Begins honest board limit h w u d e = (v : Version) × (asks : List Asked)
     × (u ≡ opened_world h v w)
 
 -- the opening was cut; so much is known
-abbrev pub BeginsCut : Type 0 → TableId → ℕ → Held → World → Known → (d e : Disk) → Type 0
+abbrev pub BeginsCut : Type 0 → TableId → ManifestLimit → Held → World → Known → (d e : Disk)
+    → Type 0
 BeginsCut honest board limit h w known d e = (v : Version) × (asks : List Asked)
     × IsState honest board h × (p : Opens honest limit h d) × HasMade asks p.was p.is
     × ComesTo h.journal.bytes v
@@ -88,8 +91,8 @@ BeginsCut honest board limit h w known d e = (v : Version) × (asks : List Asked
     × (known ≡ either w (Start h.journal.number h.journal.bytes v))
 
 -- from the disk that is opened
-abbrev pub Lived : Type 0 → TableId → ℕ → Life → (w : World) → (d : Disk) → (u : World)
-    → (e : Disk) → Type 0
+abbrev pub Lived : Type 0 → TableId → ManifestLimit → Life → (w : World) → (d : Disk)
+    → (u : World) → (e : Disk) → Type 0
 Lived honest board limit life w d u e = LivedFrom honest board
     (λ h x m. Begins honest board limit h w x d m)
     (λ h known m. BeginsCut honest board limit h w known d m) life u e
@@ -110,8 +113,8 @@ MayLeave (Unopened h) es v fs = (v ≡ h.slots.version) × (fs ≡ es)
 -- manifests of its own
 abbrev pub Ages : Type 0 → List Life → (w : World) → (d : Disk) → (u : World) → (e : Disk) → Type 0
 Ages honest [] w d u e = (u ≡ w) × (e ≡ d)
-Ages honest (life ∷ lives) w d u e = (board : TableId) × (limit : ℕ) × (x : World) × (m : Disk)
-    × Lived honest board limit life w d x m × Ages honest lives x m u e
+Ages honest (life ∷ lives) w d u e = (board : TableId) × (limit : ManifestLimit) × (x : World)
+    × (m : Disk) × Lived honest board limit life w d x m × Ages honest lives x m u e
 
 -- the version that the last one left, and all that came in until then
 abbrev pub AllLeave : List Life → (v : Levels) → (es : List Entry) → Levels → List Entry → Type 0
@@ -159,14 +162,14 @@ FromNothing honest (h ∷ tries) lives d o e = (board : TableId) × (known : Kno
 
 -- From this disk on there is such a life; and any opening of what it left is a life more, or is
 -- one where a crash cuts it.
-pub record SmallAges (honest : Type 0) (board : TableId) (limit : ℕ) (life : Life) (w : World)
-    (d : Disk) : Type 0 where
+pub record SmallAges (honest : Type 0) (board : TableId) (limit : ManifestLimit) (life : Life)
+    (w : World) (d : Disk) : Type 0 where
   pub world : World
   pub left : Disk
   pub lived : Lived honest board limit life w d world left
-  pub again : (other : TableId) (more : ℕ) (h : Held) → Opens honest more h left
+  pub again : (other : TableId) (more : ManifestLimit) (h : Held) → Opens honest more h left
       → IsState honest other h
       → (u : World) × (e : Disk) × Ages honest (life ∷ Closed h h [] ∷ []) w d u e
-  pub cut : (other : TableId) (more : ℕ) (h : Held) → Opens honest more h left
+  pub cut : (other : TableId) (more : ManifestLimit) (h : Held) → Opens honest more h left
       → IsState honest other h
       → (u : World) × (e : Disk) × Ages honest (life ∷ Unopened h ∷ []) w d u e

@@ -52,6 +52,7 @@ ghost use Rattle.lsm_crash.specs.Kept.{KeepsShown};
 ghost use Rattle.lsm_admission.specs.Answered.{IsAnswered};
 ghost use Rattle.lsm_admission.specs.Keeping.{KeepsTables};
 ghost use Rattle.lsm_crash.specs.Versions.{ComesTo, Tables, Version};
+ghost use Rattle.lsm_journal.specs.declared.manifest_limit.ManifestLimit.{ManifestLimit};
 ghost use Rattle.lsm_journal.specs.HeldManifest.{HeldManifest};
 ghost use Rattle.lsm_journal.specs.Recorded.{IsRecorded};
 ghost use Rattle.lsm_journal.specs.Finding.{IsFindRefusal};
@@ -98,7 +99,7 @@ pub fn shelves_tell_what_was_asked<P: Premise>()
         → HasMade (changes_by (with_slots old i.slots) i.change ∷ []) was is }
     ensures collect { (h : Held) (removed : List ℕ) (was is : Told)
         → AreCollected h removed was is → HasMade (map Remove removed) was is }
-    ensures open { (limit : ℕ) (h : Held) (d : Disk) → (p : Opens P.holds limit h d)
+    ensures open { (limit : ManifestLimit) (h : Held) (d : Disk) → (p : Opens P.holds limit h d)
         → HasMade (StartManifest h.journal.number h.journal.bytes ∷ []) p.was p.is }
     ensures create { (h : Held) → (m : IsMade h)
         → HasMade (StartManifest h.journal.number h.journal.bytes ∷ []) m.was m.now }
@@ -182,21 +183,21 @@ pub fn refused_calls_keep_the_version<P: Premise>()
 /// known, and then it alone is, where the number of its manifest is above those that `CURRENT` may
 /// name.
 pub fn databases_open_on_what_was_found<P: Premise>()
-    ensures opened { (board : TableId) (limit : ℕ) (h : Held) (d e : Disk) (w : World) (v : Version)
-        (asks : List Asked)
+    ensures opened { (board : TableId) (limit : ManifestLimit) (h : Held) (d e : Disk) (w : World)
+        (v : Version) (asks : List Asked)
         → IsState P.holds board h → IsSettled d w → (p : Opens P.holds limit h d)
         → HasMade asks p.was p.is → ComesTo h.journal.bytes v
         → DoneDropping w.tables h.journal.number (plans_of p.begun.before.number asks) d e
         → IsSettled e (opened_world h v w) × IsWorldOf h (opened_world h v w) }
-    ensures cut { (board : TableId) (limit : ℕ) (h : Held) (d e : Disk) (w : World) (v : Version)
-        (asks : List Asked) (found : Found)
+    ensures cut { (board : TableId) (limit : ManifestLimit) (h : Held) (d e : Disk) (w : World)
+        (v : Version) (asks : List Asked) (found : Found)
         → IsState P.holds board h → IsSettled d w → (p : Opens P.holds limit h d)
         → HasMade asks p.was p.is → ComesTo h.journal.bytes v
         → CutDropping w.tables h.journal.number (plans_of p.begun.before.number asks) d e
         → IsLeft e found
         → Finds h.slots.version found }
-    ensures unsure { (board : TableId) (limit : ℕ) (h : Held) (d e : Disk) (known : Known)
-        (v : Version) (asks : List Asked)
+    ensures unsure { (board : TableId) (limit : ManifestLimit) (h : Held) (d e : Disk)
+        (known : Known) (v : Version) (asks : List Asked)
         → IsState P.holds board h → IsHeld d known → (p : Opens P.holds limit h d)
         → HasMade asks p.was p.is
         → ((m : ℕ) → Has known.manifests m → m < h.journal.number) → ComesTo h.journal.bytes v
@@ -204,7 +205,7 @@ pub fn databases_open_on_what_was_found<P: Premise>()
         → IsSettled e (opened_world h v (started known h.journal.number h.journal.bytes v))
         × IsWorldOf h (opened_world h v (started known h.journal.number h.journal.bytes v))
         × ((s : Version) × Has known.versions s × Describes s h.slots.version) }
-    ensures same { (limit : ℕ) (h : Held) (d : Disk) (v : Levels) → Shown v d
+    ensures same { (limit : ManifestLimit) (h : Held) (d : Disk) (v : Levels) → Shown v d
         → Opens P.holds limit h d → length v.tables ≡ 7
         → ((F : File) → Has (files v) F ↔ Has (files h.slots.version) F)
         × (v.last ≡ h.slots.version.last) }
@@ -218,15 +219,15 @@ pub fn databases_open_on_what_was_found<P: Premise>()
 /// count that rose (`open`; `read` of an opening for reading alone). Where the shelf counted
 /// nothing that is missing or taken, what it refused was for memory or for the device (`device`).
 pub fn openings_are_not_refused_for_what_is_shown<N: Naming, S: Shelf>()
-    ensures open { (limit : ℕ) (e : OpenFault) (v : Levels) (d : Disk) (was is : Told) → S.honest
-        → IsSound v → Shown v d
+    ensures open { (limit : ManifestLimit) (e : OpenFault) (v : Levels) (d : Disk) (was is : Told)
+        → S.honest → IsSound v → Shown v d
         → ReadsShown (Stored S.Receipt (S.is_of N.place) S.Receipt.number S.Receipt.image) v d
         was is
         → IsOpenRefusal (Stored S.Receipt (S.is_of N.place) S.Receipt.number S.Receipt.image)
         (S.refuses N.place) S.honest limit e was is
         → IsNotWhatWasFound (λ fault. Counted fault was is) e }
-    ensures device { (limit : ℕ) (e : OpenFault) (v : Levels) (d : Disk) (was is : Told) → S.honest
-        → IsSound v → Shown v d
+    ensures device { (limit : ManifestLimit) (e : OpenFault) (v : Levels) (d : Disk) (was is : Told)
+        → S.honest → IsSound v → Shown v d
         → ReadsShown (Stored S.Receipt (S.is_of N.place) S.Receipt.number S.Receipt.image) v d
         was is
         → IsOpenRefusal (Stored S.Receipt (S.is_of N.place) S.Receipt.number S.Receipt.image)
@@ -326,7 +327,7 @@ pub fn databases_keep_what_they_show<P: Premise>()
     ensures makes { (board : TableId) (h : Held) (v : Version) → P.holds
         → IsState P.holds board h → IsMade h → ComesTo h.journal.bytes v
         → IsKept (IsCounted nothing.tables) v }
-    ensures opens { (board : TableId) (limit : ℕ) (h : Held) (d : Disk) (known : Known)
+    ensures opens { (board : TableId) (limit : ManifestLimit) (h : Held) (d : Disk) (known : Known)
         (v : Version) → P.holds → IsState P.holds board h → IsHeld d known
         → Opens P.holds limit h d → ComesTo h.journal.bytes v
         → IsKept (IsCounted known.tables) v }
@@ -409,8 +410,8 @@ pub fn premises_of_runs_are_met<P: Premise>()
         → Follows P.holds old new (Answered deed)
         → (u : World) × (e : Disk)
         × Works P.holds board old new (Answered deed ∷ []) w u d e }
-    ensures opened { (limit : ℕ) (h : Held) (d : Disk) (asks : List Asked) (tables : Tables)
-        → (p : Opens P.holds limit h d) → HasMade asks p.was p.is
+    ensures opened { (limit : ManifestLimit) (h : Held) (d : Disk) (asks : List Asked)
+        (tables : Tables) → (p : Opens P.holds limit h d) → HasMade asks p.was p.is
         → (e : Disk)
         × DoneDropping tables h.journal.number (plans_of p.begun.before.number asks) d e }
     ensures small { (board : TableId) (h new : Held) (first asks : List Asked) (ws : List Write)
@@ -463,7 +464,7 @@ pub fn premises_of_runs_are_met<P: Premise>()
         → (known : Known) × (all : Known) × (e : Disk)
         × IsCut P.holds board old new (Ingest ws r) w known d d
         × IsCut P.holds board old new (Ingest ws r) w all d e }
-    ensures ages { (board : TableId) (limit : ℕ) (h now new : Held) (ws xs : List Write)
+    ensures ages { (board : TableId) (limit : ManifestLimit) (h now new : Held) (ws xs : List Write)
         (r s : Ingested) (w : World) (d : Disk) → IsIngestOf P.holds board h now ws r
         → IsIngestOf P.holds board now new xs s → IsSettled d w
         → d.names (table_name h.next) ≡ None → Opens P.holds limit h d

@@ -20,6 +20,7 @@ use Rattle.lsm_version.specs.Versions.{IsSound, Levels, files, numbers_in}
 use Rattle.lsm_verify.specs.declared.check_fault.CheckFault.{CheckFault}
 use Rattle.lsm_verify.specs.declared.check_fault.CheckFault.TheVariants.{Read, DoubleFile, Overlap, WrongRange, AgeOrder}
 use Rattle.lsm_journal.specs.HeldManifest.{HeldManifest}
+use Rattle.lsm_journal.specs.declared.manifest_limit.ManifestLimit.{ManifestLimit}
 use Rattle.lsm_journal.specs.Recorded.{IsRecorded}
 use Rattle.lsm_journal.specs.Recovering.{IsRecovered}
 use Rattle.lsm_journal.specs.Finding.{IsFound, IsLeastFree, IsLoaded, IsNoVersion, IsTakenLast, IsUnlisted, IsWithoutRoom, taken_numbers}
@@ -117,7 +118,7 @@ taken_last honest rest h shape v listed was mid is l spent t same = record {
   told = then_listed listed (finding h.number h.bytes was) mid is t same;
 }
 
-pub found_there : (honest : Type 0) (limit rest : ℕ) (h : HeldManifest) (shape : Form) (v : Levels) (listed : List ℕ) (next : ℕ) (was mid is : Told) → IsLoaded honest h shape rest v → h.limit ≡ limit
+pub found_there : (honest : Type 0) (limit : ManifestLimit) (rest : ℕ) (h : HeldManifest) (shape : Form) (v : Levels) (listed : List ℕ) (next : ℕ) (was mid is : Told) → IsLoaded honest h shape rest v → h.limit ≡ limit
     → IsLeastFree shape.next (taken_numbers listed v h.number) next → next < 2 ^ 64 → Becomes (finding h.number h.bytes was) mid → Becomes (listing listed mid) is → IsFound honest limit h v rest next was is
 found_there honest limit rest h shape v listed next was mid is l limit_is least fits t same = record {
   shape = shape;
@@ -143,15 +144,15 @@ without_room_listed rest h shape listed was mid is r t same = record {
 }
 
 -- memory ran out where all was read
-pub found_without_room : (honest : Type 0) (limit : ℕ) (h : HeldManifest) (v : Levels) (rest next : ℕ) (was is : Told) → IsFound honest limit h v rest next was is → IsWithoutRoom was is
+pub found_without_room : (honest : Type 0) (limit : ManifestLimit) (h : HeldManifest) (v : Levels) (rest next : ℕ) (was is : Told) → IsFound honest limit h v rest next was is → IsWithoutRoom was is
 found_without_room honest limit h v rest next was is f =
     record { held = h; shape = f.shape; rest = rest; recovered = f.loaded.recovered; told = inr (f.listed, f.told) }
 
 -- ---- what callers need of what was read
 
-pub found_recorded : (honest : Type 0) (limit : ℕ) (h : HeldManifest) (v : Levels) (rest next : ℕ) (was is : Told) → IsFound honest limit h v rest next was is → IsRecorded rest h v next
+pub found_recorded : (honest : Type 0) (limit : ManifestLimit) (h : HeldManifest) (v : Levels) (rest next : ℕ) (was is : Told) → IsFound honest limit h v rest next was is → IsRecorded rest h v next
 found_recorded honest limit h v rest next was is f = later rest h v f.shape.next next f.loaded.recorded f.least.0.0
 
-pub found_below : (honest : Type 0) (limit : ℕ) (h : HeldManifest) (v : Levels) (rest next : ℕ) (was is : Told) → IsFound honest limit h v rest next was is → (n : ℕ) → Has (numbers_in v) n → n < next
+pub found_below : (honest : Type 0) (limit : ManifestLimit) (h : HeldManifest) (v : Levels) (rest next : ℕ) (was is : Told) → IsFound honest limit h v rest next was is → (n : ℕ) → Has (numbers_in v) n → n < next
 found_below honest limit h v rest next was is f n k = f.least.0.1 n
     (has_left (f.listed ++ numbers_in v) (h.number ∷ []) n (has_right f.listed (numbers_in v) n k))

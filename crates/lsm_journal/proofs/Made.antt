@@ -7,6 +7,7 @@ use Rattle.lsm_shelf.specs.declared.shelf_fault.ShelfFault.{ShelfFault}
 use Rattle.lsm_shelf.specs.declared.shelf_fault.ShelfFault.TheVariants as shelf
 use Rattle.lsm_version.specs.Versions.{Levels}
 use Rattle.lsm_journal.specs.HeldManifest.{HeldManifest, is_at_limit}
+use Rattle.lsm_journal.specs.declared.manifest_limit.ManifestLimit.{ManifestLimit}
 use Rattle.lsm_journal.specs.Difference.{Difference}
 use Rattle.lsm_journal.specs.Finding.{IsFindRefusal, IsFound}
 use Rattle.lsm_journal.specs.Recovering.{IsRecoverRefusal}
@@ -28,7 +29,7 @@ create_refused_made number shelf.Missing was is r = absurd r
 create_refused_made number (shelf.Taken n) was is r = elim r [ inl read ↦ read.1.made | inr taken ↦ taken.1.made ]
 
 -- a database that is there: it was read alone
-pub found_made : (honest : Type 0) (limit : ℕ) (h : HeldManifest) (v : Levels) (rest next : ℕ) (was is : Told) → IsFound honest limit h v rest next was is → is.made ≡ was.made
+pub found_made : (honest : Type 0) (limit : ManifestLimit) (h : HeldManifest) (v : Levels) (rest next : ℕ) (was is : Told) → IsFound honest limit h v rest next was is → is.made ≡ was.made
 found_made honest limit h v rest next was is f = f.told.made
 
 recover_refused_made : (Refused : Asked → ShelfFault → Type 0) (e : RecoverFault) (was is : Told) → IsRecoverRefusal Refused e was is → is.made ≡ was.made

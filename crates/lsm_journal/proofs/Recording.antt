@@ -11,6 +11,7 @@ use Rattle.lsm_manifest.proofs.CallerLemmas.{grown, manifest_fits, none_spelled,
 use Rattle.lsm_version.specs.Changes.{with_pointer}
 use Rattle.lsm_version.specs.Versions.{Levels, no_levels}
 use Rattle.lsm_journal.specs.HeldManifest.{HeldManifest}
+use Rattle.lsm_journal.specs.declared.manifest_limit.ManifestLimit.{ManifestLimit}
 use Rattle.lsm_journal.specs.Sending.{with_front}
 use Rattle.lsm_journal.specs.Difference.{Difference, FitsComing, FitsDifference, FitsPlace, LeadsTo, changed_by, deleted_numbers}
 use Rattle.lsm_journal.specs.Recorded.{ComesTo, FitsLevels, HasOwnNumbers, IsRecorded}
@@ -76,9 +77,9 @@ grown_recorded law h i d w next fits l is spelled =
     }
 
 -- after a new manifest
-pub started_recorded : (h i : HeldManifest) (number : ℕ) (v : Levels) (next : ℕ) → HasOwnNumbers v
-    → i ≡ record h { number = number; bytes = record_of [] (version_edit h v next) } → IsEdit (edit_text (version_edit h v next)) (version_edit h v next) → IsRecorded 0 i v next
-started_recorded h i number v next own is spelled =
+pub started_recorded : (h i : HeldManifest) (number : ℕ) (limit : ManifestLimit) (v : Levels) (next : ℕ) → HasOwnNumbers v
+    → i ≡ record h { number = number; bytes = record_of [] (version_edit h v next); limit = limit } → IsEdit (edit_text (version_edit h v next)) (version_edit h v next) → IsRecorded 0 i v next
+started_recorded h i number limit v next own is spelled =
     let e : Change = version_edit h v next in
     subst (λ (x : HeldManifest). IsRecorded 0 x v next) (sym is) record {
       edits = e ∷ [];
@@ -89,7 +90,7 @@ started_recorded h i number v next own is spelled =
       own = own;
     }
 
-pub created_recorded : (number limit : ℕ) → IsEdit (edit_text (first_edit_under number)) (first_edit_under number) → IsRecorded 0 (created_under number limit) no_levels (number + 1)
+pub created_recorded : (number : ℕ) (limit : ManifestLimit) → IsEdit (edit_text (first_edit_under number)) (first_edit_under number) → IsRecorded 0 (created_under number limit) no_levels (number + 1)
 created_recorded number limit spelled = record {
   edits = first_edit_under number ∷ [];
   manifest = grown [] (edit_text (first_edit_under number)) [] (first_edit_under number) none_spelled spelled;

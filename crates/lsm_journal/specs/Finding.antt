@@ -14,6 +14,7 @@ use Rattle.lsm_verify.specs.Settled.{IsSettled, KeepsAge}
 use Rattle.lsm_version.specs.Versions.{IsSound, Levels, files, numbers_in}
 use Rattle.lsm_verify.specs.declared.check_fault.CheckFault.{CheckFault}
 use Rattle.lsm_journal.specs.HeldManifest.{HeldManifest}
+use Rattle.lsm_journal.specs.declared.manifest_limit.ManifestLimit.{ManifestLimit}
 use Rattle.lsm_journal.specs.Recorded.{IsRecorded}
 use Rattle.lsm_journal.specs.Recovering.{IsRecovered, IsRecoverRefusal, RecoverCounted}
 use Rattle.lsm_journal.specs.declared.open_fault.OpenFault.{OpenFault}
@@ -55,8 +56,8 @@ pub record IsLoaded (Honest : Type 0) (h : HeldManifest) (shape : Form) (rest : 
 -- version of that shape; so many bytes at its end hold no whole record. The next number is the
 -- least that is at least the manifest's next file number and above every number that is taken. The
 -- shelf was read and listed, and nothing was written.
-pub record IsFound (Honest : Type 0) (limit : ℕ) (h : HeldManifest) (v : Levels) (rest next : ℕ)
-    (was is : Told) : Type 0 where
+pub record IsFound (Honest : Type 0) (limit : ManifestLimit) (h : HeldManifest) (v : Levels)
+    (rest next : ℕ) (was is : Told) : Type 0 where
   pub shape : Form
   pub listed : List ℕ
   pub loaded : IsLoaded Honest h shape rest v

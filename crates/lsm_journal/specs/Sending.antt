@@ -1,6 +1,6 @@
 -- What is sent to the shelf, and what the journal holds then (LevelDB's `VersionSet::LogAndApply`;
 -- that a new manifest is due by its size is this project's rule).
-use Rattle.std.specs.Prelude.{◌≡◌, ℕ, ◌+◌, List, [], ◌++◌, take, ◌⊎◌, MatchBool, if◌then◌else◌}
+use Rattle.std.specs.Prelude.{◌≡◌, ℕ, ◌+◌, List, [], ◌++◌, take, length, ◌⊎◌, MatchBool, if◌then◌else◌}
 use Rattle.lsm_shelf.specs.declared.shelf_fault.ShelfFault.{ShelfFault}
 use Rattle.lsm_shelf.specs.declared.shelf_fault.ShelfFault.TheVariants.{OutOfMemory, Device}
 use Rattle.lsm_shelf.specs.declared.shelf_fault.ShelfFault.TheVariants.{Missing, Taken}
@@ -11,7 +11,7 @@ use Rattle.lsm_manifest.specs.Edit.{IsEdit}
 use Rattle.lsm_manifest.specs.EditFit.{Change}
 use Rattle.lsm_manifest.specs.EditWriting.{edit_text}
 use Rattle.lsm_version.specs.Versions.{Levels}
-use Rattle.lsm_journal.specs.HeldManifest.{HeldManifest, is_at_limit}
+use Rattle.lsm_journal.specs.HeldManifest.{HeldManifest, grown, is_at_limit}
 use Rattle.lsm_journal.specs.Difference.{Difference}
 use Rattle.lsm_journal.specs.Writing.{change_edit, first_edit_under, record_of, version_edit}
 
@@ -26,10 +26,14 @@ abbrev pub with_front : HeldManifest → Change → ℕ → HeldManifest
 with_front h edit count = record h { bytes = h.bytes ++ take count (record_of h.bytes edit) }
 
 -- A new manifest of this number, of one edit, took the place of the one before, here and on the
--- shelf. Its bytes spell the edit.
+-- shelf. Its bytes spell the edit. By its size the limit grows, if it does.
 pub record Starts (number : ℕ) (edit : Change) (old new : HeldManifest) (was is : Told)
     : Type 0 where
-  pub held : new ≡ record old { number = number; bytes = record_of [] edit }
+  pub held : new ≡ record old {
+    number = number;
+    bytes = record_of [] edit;
+    limit = grown old.limit (length (record_of [] edit));
+  }
   pub sent : Becomes (sending number (record_of [] edit) was) is
   pub spelled : IsEdit (edit_text edit) edit
 

@@ -11,6 +11,7 @@ use Rattle.lsm_manifest.specs.Shape.{Form}
 use Rattle.lsm_manifest.specs.WholeEdit.{placed_at, whole_edit}
 use Rattle.lsm_version.specs.Versions.{Levels}
 use Rattle.lsm_journal.specs.HeldManifest.{HeldManifest}
+use Rattle.lsm_journal.specs.declared.manifest_limit.ManifestLimit.{ManifestLimit}
 use Rattle.lsm_journal.specs.Recorded.{meta_of}
 use Rattle.lsm_journal.specs.Difference.{Difference}
 
@@ -35,7 +36,7 @@ first_edit_under number = record {
 }
 
 -- its manifest
-abbrev pub created_under : ℕ → ℕ → HeldManifest
+abbrev pub created_under : ℕ → ManifestLimit → HeldManifest
 created_under number limit = record {
   number = number;
   bytes = record_of [] (first_edit_under number);
@@ -45,7 +46,7 @@ created_under number limit = record {
 }
 
 -- that of manifest 1, so that 2 is the next number
-abbrev pub created : ℕ → HeldManifest
+abbrev pub created : ManifestLimit → HeldManifest
 created limit = created_under 1 limit
 
 -- ---- a change

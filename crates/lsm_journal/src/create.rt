@@ -10,6 +10,7 @@ ghost use Rattle.lsm_journal.specs.Sending.{IsCreateRefusalUnder};
 ghost use Rattle.lsm_journal.specs.Writing.{created, created_under};
 
 use crate::journal::Journal;
+use crate::manifest_limit::ManifestLimit;
 use crate::written::{first_edit, manifest_of};
 use lsm_table::{NamedShelf, Naming, Shelf, ShelfFault};
 use std::alloc::Global;
@@ -17,7 +18,7 @@ use std::sync::Wait;
 
 impl Journal {
     /// Begins a database where there is none: manifest 1, which records no table, and 2 as the next
-    /// file number. The limit is in bytes.
+    /// file number.
     ///
     /// `Taken` with the number of the manifest that is there; then `OutOfMemory`, `Device`, and
     /// `Taken` of number 1 where another began one meanwhile. A refused call sent nothing that took
@@ -26,7 +27,7 @@ impl Journal {
         rt: &R,
         alloc: Global,
         shelf: &mut NamedShelf<N, S>,
-        limit: u64,
+        limit: ManifestLimit,
     ) -> Result<Journal, ShelfFault>
         ensures created { IfOk result (λ j. j ≡ created limit) }
         ensures recorded { IfOk result (λ j. IsRecorded 0 j no_levels 2) }
@@ -53,7 +54,7 @@ impl Journal {
         rt: &R,
         alloc: Global,
         shelf: &mut NamedShelf<N, S>,
-        limit: u64,
+        limit: ManifestLimit,
         number: u64,
     ) -> Result<Journal, ShelfFault>
         requires numbers { number + 1 < 2 ^ 64 }

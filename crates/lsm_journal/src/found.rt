@@ -12,6 +12,7 @@ ghost use Rattle.lsm_shelf.specs.Stored.{Stored};
 
 use crate::journal::Journal;
 use crate::laws::recovered_is_recorded;
+use crate::manifest_limit::ManifestLimit;
 use crate::open_fault::OpenFault;
 use crate::recover::Recovered;
 use lsm_table::{NamedShelf, Naming, Registry, Shelf};
@@ -66,7 +67,7 @@ impl<N: Naming, S: Shelf> Found<N, S> {
         alloc: Global,
         shelf: &mut NamedShelf<N, S>,
         registry: &Arc<Registry<N, S>>,
-        limit: u64,
+        limit: ManifestLimit,
     ) -> Result<Found<N, S>, OpenFault>
         ensures found { IfOk result (λ f. IsFound S.honest limit f.journal f.version f.rest f.next
             shelf.old shelf.new) }
@@ -89,7 +90,7 @@ impl<N: Naming, S: Shelf> Found<N, S> {
         alloc: Global,
         shelf: &mut NamedShelf<N, S>,
         registry: &Arc<Registry<N, S>>,
-        limit: u64,
+        limit: ManifestLimit,
         shelves: Vec<NamedShelf<N, S>>,
         watch: &W,
     ) -> Result<Found<N, S>, OpenFault>

@@ -3,18 +3,19 @@
 ghost use Rattle.std.specs.Prelude.{◌≡◌, IsTrue};
 ghost use Rattle.lsm_journal.specs.HeldManifest.{is_at_limit};
 
+use crate::manifest_limit::ManifestLimit;
 use std::marker::Model;
 
 /// The manifest that a database holds: its number and bytes, the log numbers that it keeps from the
-/// manifest it was read from (tags 2 and 9 of LevelDB's `db/version_edit.cc`), and the size in
-/// bytes from which a new manifest is due.
+/// manifest it was read from (tags 2 and 9 of LevelDB's `db/version_edit.cc`), and the size from
+/// which a new manifest is due.
 #[derive(Debug, Drop)]
 pub struct Journal {
     pub(crate) number: u64,
     pub(crate) bytes: Vec<u8>,
     pub(crate) log: u64,
     pub(crate) prev_log: u64,
-    pub(crate) limit: u64,
+    pub(crate) limit: ManifestLimit,
 }
 
 impl Model for Journal {
@@ -67,6 +68,6 @@ impl Journal {
     pub fn is_at_limit(&self) -> bool
         ensures { result ≡ is_at_limit self.now }
     {
-        self.limit <= self.bytes.len() as u64
+        self.limit.bytes <= self.bytes.len() as u64
     }
 }

@@ -16,6 +16,7 @@ mod written;
 // The manifest held, and how it begins.
 mod create;
 mod journal;
+mod manifest_limit;
 mod recover;
 mod recover_fault;
 
@@ -33,6 +34,7 @@ mod laws;
 pub use found::Found;
 pub use journal::Journal;
 pub use keys::added_keys_fit;
+pub use manifest_limit::ManifestLimit;
 pub use laws::{
     differences_fit, recorded_keys_fit, recovered_is_recorded, torn_changes_record_one_of_two,
     whole_keys_fit,

@@ -7,6 +7,7 @@ ghost use Rattle.lsm_journal.specs.Recovering.{IsNoManifest, IsRecordRefusal, Is
 ghost use Rattle.lsm_journal.specs.Recovering.{IsRecovered, RecoverCounted, SameCounts};
 
 use crate::journal::Journal;
+use crate::manifest_limit::ManifestLimit;
 use crate::recover_fault::RecoverFault;
 use lsm_codec::Bytes;
 use lsm_manifest::{Edit, EditFault, Shape, read_log, replay};
@@ -50,8 +51,7 @@ fn edits_in(alloc: Global, bytes: &[u8]) -> Result<(Vec<Edit>, u64), RecoverFaul
 }
 
 impl Journal {
-    /// Reads the manifest that the directory names, and what its edits come to. The limit is in
-    /// bytes.
+    /// Reads the manifest that the directory names, and what its edits come to.
     ///
     /// The shelf's refusals, `Missing` where there is no manifest; then those of the log, of the
     /// first record that is no edit, and of the edits together. Bytes at the end that hold no whole
@@ -60,7 +60,7 @@ impl Journal {
         rt: &R,
         alloc: Global,
         shelf: &mut NamedShelf<N, S>,
-        limit: u64,
+        limit: ManifestLimit,
     ) -> Result<Recovered, RecoverFault>
         ensures found { IfOk result (λ r. Becomes
             (finding r.journal.number r.journal.bytes shelf.old) shelf.new) }

@@ -74,7 +74,7 @@ impl Journal {
         }
     }
 
-    /// Begins a new manifest that spells a version.
+    /// Begins a new manifest that spells a version. By its size the limit grows, if it does.
     #[tactic(auto, using(lsm_shelf::proofs::CallerLemmas::want_or))]
     pub(crate) fn start<N: Naming, S: Shelf, R: Wait>(
         &mut self,
@@ -99,6 +99,7 @@ impl Journal {
         let edit = self.version_edit(alloc, registry, version, number + 1)?;
         let bytes = manifest_of(alloc, &edit)?;
         shelf.start_manifest(rt, alloc, number, &bytes)?;
+        self.limit = self.limit.grown(bytes.len());
         self.number = number;
         self.bytes = bytes;
         Ok(())

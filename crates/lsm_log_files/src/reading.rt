@@ -16,7 +16,7 @@ use crate::log_files::{log_file, logs_read};
 use crate::source_fault::SourceFault;
 use lsm_directory::FolderFile;
 use lsm_folder::{FolderCalls, FolderFault};
-use lsm_journal::Journal;
+use lsm_journal::{Journal, ManifestLimit};
 use lsm_manifest::{Shape, replayed_shapes};
 use lsm_table::{NamedShelf, Naming, Shelf, ShelfFault};
 use lsm_wal::WriteLogs;
@@ -149,7 +149,7 @@ fn read_shape<N: Naming, S: Shelf, R: Wait>(
 {
     replayed_shapes();
     // A journal that nothing is sent through has no use for its limit.
-    match Journal::recover(rt, alloc, source, u64::MAX) {
+    match Journal::recover(rt, alloc, source, ManifestLimit::none()) {
         Ok(found) => Ok((found.shape, found.rest)),
         Err(fault) => Err(SourceFault::Manifest(fault)),
     }

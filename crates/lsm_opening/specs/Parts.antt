@@ -1,5 +1,5 @@
 -- What a state is made with (this project's rule).
-use Rattle.std.specs.Prelude.{◌≡◌, List, length}
+use Rattle.std.specs.Prelude.{◌≡◌, false, true, List, length}
 use Rattle.atomic_table.specs.Seated.{TableId}
 use Rattle.boxcar.specs.Table.{Shelves}
 use Rattle.lsm_history.specs.declared.new_history.NewHistory.{NewHistory}
@@ -8,7 +8,8 @@ use Rattle.lsm_state.specs.Making.{IsNewBoard, IsNewHistory}
 use Rattle.lsm_state.specs.Options.{Fits}
 use Rattle.lsm_state.specs.declared.options.Options.{Options}
 
--- LevelDB's sizes, 64 slots, 4 readers, 64 cached blocks, and manifests of 1 MiB
+-- LevelDB's sizes, 64 slots, 4 readers, 64 cached blocks, and manifests of 64 KiB, or of twice what a
+-- whole one has
 abbrev pub usual : Options
 usual = record {
   block_size = 4096;
@@ -17,8 +18,13 @@ usual = record {
   versions = 64;
   readers = 4;
   cache_blocks = 64;
-  manifest_limit = 1048576;
+  manifest_limit = 65536;
+  manifest_grows = true;
 }
+
+-- the same with manifests of 1 MiB
+abbrev pub plain : Options
+plain = record usual { manifest_limit = 1048576; manifest_grows = false }
 
 -- What contracts see of parts that have no name yet: the options that they fit, and for what a
 -- name of theirs will stand.

@@ -1,20 +1,19 @@
 -- The state with which a command or the server begins (this project's rule).
-use Rattle.std.specs.Prelude.{◌≡◌, ℕ, ◌-◌, ◌*◌, ◌^◌, ◌⊎◌, false, List, [], length, max, min}
+use Rattle.std.specs.Prelude.{◌≡◌, ℕ, ◌-◌, ◌^◌, ◌⊎◌, false, List, []}
 use Rattle.lsm_pins.specs.Known.{Known}
 use Rattle.lsm_shelf.specs.Asked.{Asked}
 use Rattle.lsm_shelf.specs.declared.shelf_fault.ShelfFault.{ShelfFault}
 use Rattle.lsm_shelf.specs.Told.{Told, Becomes, Rose, finding, sending}
 use Rattle.lsm_manifest.specs.Shape.{Form}
-use Rattle.lsm_manifest.specs.WholeEdit.{whole_edit}
 use Rattle.lsm_journal.specs.HeldManifest.{HeldManifest}
 use Rattle.lsm_journal.specs.Recovering.{IsRecovered, IsRecoverRefusal, RecoverCounted}
 use Rattle.lsm_journal.specs.Sending.{CreateCountedUnder, IsCreateAskedUnder, IsCreateRefusalUnder}
-use Rattle.lsm_journal.specs.Writing.{record_of}
 use Rattle.lsm_journal.specs.declared.open_fault.OpenFault.{OpenFault}
 use Rattle.lsm_journal.specs.declared.recover_fault.RecoverFault.{RecoverFault}
 use Rattle.lsm_state.specs.Held.{Held}
 use Rattle.lsm_state.specs.Making.{created_state_under}
 use Rattle.lsm_state.specs.Opening.{IsBegun, IsOpenRefusal, IsReadOnce, opened_state}
+use Rattle.lsm_state.specs.Options.{limit_of}
 use Rattle.lsm_state.specs.declared.options.Options.{Options}
 use Rattle.lsm_directory.specs.Logs.{IsFirstUnread, NoneUnread}
 use Rattle.lsm_directory.specs.declared.faults.directory_fault.DirectoryFault.TheVariants.{NumbersSpent}
@@ -39,33 +38,19 @@ pub record IsRead (Holds : Form → Type 0) (was is : Told) : Type 0 where
   pub told : Becomes (finding held.number held.bytes was) is
   pub holds : Holds shape
 
--- how many bytes a manifest has whose one edit spells this
-abbrev pub whole_size : Form → ℕ
-whole_size shape = length (record_of [] (whole_edit shape))
-
--- From so many bytes on a new manifest is due, where a whole one has this size: twice as many, or
--- the least, where that is more, and at most as many as options may say. So a large version is not
--- written anew at every change.
-abbrev pub limit_for : ℕ → ℕ → ℕ
-limit_for least size = max least (2 * min size 268435456)
-
--- By the manifest's numbers none of these logs is one that LevelDB would read, and from so many
--- bytes on a new manifest is due.
-abbrev pub FindsLimit : Options → List FolderFile → ℕ → Told → Told → Type 0
-FindsLimit o logs limit was is =
-    IsRead (λ shape. NoneUnread shape.log shape.prev_log logs
-    × (limit ≡ limit_for o.manifest_limit (whole_size shape))) was is
+-- by the manifest's numbers none of these logs is one that LevelDB would read
+abbrev pub FindsFlushed : List FolderFile → Told → Told → Type 0
+FindsFlushed logs was is = IsRead (λ shape. NoneUnread shape.log shape.prev_log logs) was is
 
 -- The manifest could not be read; or by its numbers this is the first of the logs that LevelDB
--- would read; or memory ran out behind it.
+-- would read.
 abbrev pub IsUnflushed : (Asked → ShelfFault → Type 0) → List FolderFile → WriterFault → Told
     → Told → Type 0
 IsUnflushed Refused logs e was is =
     ((fault : RecoverFault) × (e ≡ of_manifest fault) × IsRecoverRefusal Refused fault was is
     × RecoverCounted fault was is)
-    ⊎ (((n : ℕ) × (e ≡ UnflushedLog n)
+    ⊎ ((n : ℕ) × (e ≡ UnflushedLog n)
     × IsRead (λ shape. IsFirstUnread shape.log shape.prev_log logs n) was is)
-    ⊎ ((e ≡ OutOfMemory) × IsRead (λ shape. Unit {0}) was is))
 
 -- ---- with these options
 
@@ -83,16 +68,14 @@ pub record IsReopenedWith (Honest : Type 0) (o : Options) (h : Held) (was is : T
   pub publisher : Known
   pub pinners : List Known
   pub state : h ≡ opened_state o publisher pinners h.slots.version h.journal h.next false
-  pub begun : IsBegun Honest o.manifest_limit h.journal h.slots.version h.next was is
+  pub begun : IsBegun Honest (limit_of o) h.journal h.slots.version h.next was is
 
--- The database that was there was opened, beside logs that are flushed, with the limit for what its
--- manifest spelled.
+-- The database that was there was opened, beside logs that are flushed.
 pub record OpensWith (Honest : Type 0) (o : Options) (logs : List FolderFile) (h : Held)
     (was is : Told) : Type 0 where
-  pub limit : ℕ
   pub mid : Told
-  pub found : FindsLimit o logs limit was mid
-  pub opened : IsReopenedWith Honest (record o { manifest_limit = limit }) h mid is
+  pub found : FindsFlushed logs was mid
+  pub opened : IsReopenedWith Honest o h mid is
 
 -- It was opened so, or one was begun beside no log but empty ones: LevelDB would read each.
 abbrev pub IsStartedWith : Type 0 → Options → Start → List FolderFile → Held → Told → Told
@@ -122,15 +105,15 @@ abbrev pub IsNotReopenedWith : (ℕ → List ℕ → Type 0) → (Asked → Shel
     → Options → WriterFault → Told → Told → Type 0
 IsNotReopenedWith Stored Refused Honest o e was is =
     (fault : OpenFault) × (e ≡ of_open fault)
-    × IsOpenRefusal Stored Refused Honest o.manifest_limit fault was is × IsReadOnce fault was is
+    × IsOpenRefusal Stored Refused Honest (limit_of o) fault was is × IsReadOnce fault was is
 
 -- Why it was not, with what the logs beside it may have to do with that.
 abbrev pub IsNotOpenedWith : (ℕ → List ℕ → Type 0) → (Asked → ShelfFault → Type 0) → Type 0
     → Options → List FolderFile → WriterFault → Told → Told → Type 0
 IsNotOpenedWith Stored Refused Honest o logs e was is =
     IsUnflushed Refused logs e was is
-    ⊎ ((limit : ℕ) × (mid : Told) × FindsLimit o logs limit was mid
-    × IsNotReopenedWith Stored Refused Honest (record o { manifest_limit = limit }) e mid is)
+    ⊎ ((mid : Told) × FindsFlushed logs was mid
+    × IsNotReopenedWith Stored Refused Honest o e mid is)
 
 -- memory ran out before the shelf was asked for anything
 abbrev pub IsOutOfMemory : WriterFault → Told → Told → Type 0

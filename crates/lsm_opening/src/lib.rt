@@ -40,5 +40,5 @@ pub use obsolete::is_obsolete;
 pub use parts::NewParts;
 pub use prepared::{Prepared, Start};
 pub use preparing::{plainly, prepare};
-pub use starting::{begin, open, start, start_with};
+pub use starting::{begin, begin_with, open, start, start_with};
 pub use sweeping::sweep;

@@ -72,11 +72,11 @@ impl<S: Shelf> NewParts<S> {
         })
     }
 
-    /// For the usual options. `AllocError` where a growth was refused.
+    /// For the options of a program that keeps a database for long. `AllocError` where a growth was refused.
     pub fn make(alloc: Global) -> Result<NewParts<S>, AllocError>
         ensures options { IfOk result (λ p. p.options ≡ usual) }
     {
-        NewParts::with(alloc, Options::usual())
+        NewParts::with(alloc, Options::with_growing_manifests())
     }
 
     /// The same under the name that stands for them. `AllocError` where a growth was refused.
@@ -122,42 +122,6 @@ impl<N: Boarded, S: Shelf> Model for Parts<N, S> {
 
     ghost invariant = { λ p.
         AreNamed N.board N.history p.options p.publisher p.pinners.items p.history };
-}
-
-impl<N: Boarded, S: Shelf> Parts<N, S> {
-    /// From how many bytes on a new manifest is due, as the options say.
-    pub(crate) fn manifest_limit(&self) -> u64
-        ensures limit { result ≡ self.now.manifest_limit }
-        ensures least { 64 ≤ result }
-        ensures most { result ≤ 536870912 }
-    {
-        self.options.manifest_limit
-    }
-
-    /// The same with another limit.
-    pub(crate) fn limited(self, manifest_limit: u64) -> Parts<N, S>
-        requires least { 64 ≤ manifest_limit }
-        requires most { manifest_limit ≤ 536870912 }
-        ensures { result ≡ record self { manifest_limit = manifest_limit } }
-    {
-        let Parts {
-            options,
-            registry,
-            publisher,
-            pinners,
-            history,
-        } = self;
-        Parts {
-            options: Options {
-                manifest_limit,
-                ..options
-            },
-            registry,
-            publisher,
-            pinners,
-            history,
-        }
-    }
 }
 
 /// The usual parts, under the name that stands for them.

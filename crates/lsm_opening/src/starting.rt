@@ -2,16 +2,13 @@
 
 ghost use Rattle.std.specs.Prelude.{◌≡◌, ◌≤◌, ◌⊎◌, IfErr, IfOk, OnOk};
 ghost use Rattle.lsm_directory.specs.Logs.{NoneUnread};
-ghost use Rattle.lsm_journal.specs.Recovering.{IsRecovered};
-ghost use Rattle.lsm_manifest.specs.EditFit.{IsFit};
-ghost use Rattle.lsm_manifest.specs.WholeEdit.{whole_edit};
 ghost use Rattle.lsm_opening.specs.Parts.{AreOf, usual};
-ghost use Rattle.lsm_opening.specs.Starting.{FindsLimit, IsBeginRefusal, IsNew, IsNewWith};
+ghost use Rattle.lsm_opening.specs.Starting.{FindsFlushed, IsBeginRefusal, IsNew, IsNewWith};
 ghost use Rattle.lsm_opening.specs.Starting.{IsNotOpenedWith, IsNotReopenedWith, IsOpeningRefusal};
 ghost use Rattle.lsm_opening.specs.Starting.{IsOutOfMemory, IsReopenedWith, IsStartRefusal};
 ghost use Rattle.lsm_opening.specs.Starting.{IsStartRefusalWith};
 ghost use Rattle.lsm_opening.specs.Starting.{IsStarted, IsStartedWith, IsUnbegun, IsUncreated};
-ghost use Rattle.lsm_opening.specs.Starting.{IsUnflushed, Opens, OpensWith, limit_for, whole_size};
+ghost use Rattle.lsm_opening.specs.Starting.{IsUnflushed, Opens, OpensWith};
 ghost use Rattle.lsm_shelf.specs.Stored.{Stored};
 ghost use Rattle.lsm_store.specs.Readers.{SeatsPinners};
 
@@ -19,68 +16,31 @@ use crate::faults::writer_fault::WriterFault;
 use crate::parts::{NewParts, Parts, usual_parts};
 use crate::prepared::{Prepared, Start};
 use lsm_directory::{DirectoryFault, FolderFile, first_unread};
-use lsm_journal::{Journal, Recovered};
-use lsm_manifest::{Edit, LogWriter, Shape, replayed_shapes, whole_edit_replays};
+use lsm_journal::{Journal, ManifestLimit};
 use lsm_slots::Boarded;
 use lsm_state::State;
 use lsm_store::laws::made_states_seat_their_pinners;
 use lsm_table::{NamedShelf, Shelf};
-use std::alloc::{AllocError, Global};
+use std::alloc::Global;
 use std::sync::Wait;
 
-/// From how many bytes on a new manifest is due, where a whole one has this size.
-fn limit_for(least: u64, size: usize) -> u64
-    ensures { result ≡ limit_for least size }
-{
-    least.max(2 * (size.min(268_435_456) as u64))
-}
-
-/// How many bytes a manifest has whose one edit spells a shape.
-fn whole_size(alloc: Global, shape: &Shape) -> Result<usize, AllocError>
-    requires { IsFit (whole_edit shape.now) }
-    ensures { IfOk result (λ n. n ≡ whole_size shape.now) }
-{
-    let edit = Edit::whole(alloc, shape)?;
-    let mut text = Vec::new(alloc);
-    edit.encode(&mut text)?;
-    let mut bytes = Vec::new(alloc);
-    let mut writer = LogWriter::at(0);
-    writer.append(&mut bytes, &text)?;
-    Ok(bytes.len())
-}
-
-/// The same of what was read of a manifest.
-fn found_size(alloc: Global, found: &Recovered) -> Result<usize, AllocError>
-    requires { IsRecovered found.now.journal found.now.shape found.now.rest }
-    ensures { IfOk result (λ n. n ≡ whole_size found.now.shape) }
-{
-    whole_edit_replays();
-    replayed_shapes();
-    whole_size(alloc, &found.shape)
-}
-
-/// Reads the manifest, and refuses the first log among these that LevelDB would read. From how many
-/// bytes on a new manifest is due, for what was read, and at least the least.
+/// Reads the manifest, and refuses the first log among these that LevelDB would read.
 fn judge_found<N: Boarded, S: Shelf, R: Wait>(
     rt: &R,
     alloc: Global,
     shelf: &mut NamedShelf<N, S>,
     logs: &[FolderFile],
-    parts: &Parts<N, S>,
-) -> Result<u64, WriterFault>
-    ensures found { IfOk result (λ n. FindsLimit parts.now logs.now n shelf.old shelf.new) }
-    ensures least { IfOk result (λ n. 64 ≤ n) }
-    ensures most { IfOk result (λ n. n ≤ 536870912) }
+) -> Result<(), WriterFault>
+    ensures found { OnOk result (FindsFlushed logs.now shelf.old shelf.new) }
     ensures refused { IfErr result (λ e.
         IsUnflushed (S.refuses N.place) logs.now e shelf.old shelf.new) }
 {
     // A journal that nothing is sent through has no use for its limit.
-    let found = Journal::recover(rt, alloc, shelf, u64::MAX)?;
+    let found = Journal::recover(rt, alloc, shelf, ManifestLimit::none())?;
     if let Some(number) = first_unread(logs, found.shape.log, found.shape.prev_log) {
         return Err(WriterFault::UnflushedLog(number));
     }
-    let size = found_size(alloc, &found)?;
-    Ok(limit_for(parts.manifest_limit(), size))
+    Ok(())
 }
 
 /// The state of a new database on the shelf, whose manifest has this number.
@@ -173,7 +133,7 @@ fn reopen<N: Boarded, S: Shelf, R: Wait>(
 }
 
 /// The state of the database that is on the shelf, if none of these logs is one that is not
-/// flushed, with the limit of a manifest for what it spells.
+/// flushed.
 fn open_beside<N: Boarded, S: Shelf, R: Wait>(
     rt: &R,
     alloc: Global,
@@ -188,8 +148,8 @@ fn open_beside<N: Boarded, S: Shelf, R: Wait>(
         (Stored S.Receipt (S.is_of N.place) S.Receipt.number S.Receipt.image)
         (S.refuses N.place) S.honest parts logs.now e shelf.old shelf.new) }
 {
-    let limit = judge_found(rt, alloc, shelf, logs, &parts)?;
-    match reopen(rt, alloc, shelf, parts.limited(limit)) {
+    judge_found(rt, alloc, shelf, logs)?;
+    match reopen(rt, alloc, shelf, parts) {
         Ok(state) => Ok(state),
         Err(fault) => Err(fault),
     }
@@ -218,9 +178,7 @@ fn start_named<N: Boarded, S: Shelf, R: Wait>(
 }
 
 /// The state of a new database on the shelf, or of the one that is there, with the usual options.
-/// Neither is done beside a log that LevelDB would then read, if logs were looked at. Where one is
-/// there, its manifest is read first: a new manifest is due from twice the bytes on that a whole
-/// one has, and from 1 MiB on at least.
+/// Neither is done beside a log that LevelDB would then read, if logs were looked at.
 pub fn start<N: Boarded, S: Shelf, R: Wait>(
     rt: &R,
     alloc: Global,
@@ -309,6 +267,30 @@ pub fn begin<N: Boarded, S: Shelf, R: Wait>(
         IsBeginRefusal number (S.refuses N.place) e shelf.old shelf.new) }
 {
     let parts = usual_parts(alloc, parts)?;
+    match create(rt, alloc, shelf, number, parts) {
+        Ok(state) => Ok(state),
+        Err(fault) => Err(fault),
+    }
+}
+
+/// The same with the options of these parts.
+pub fn begin_with<N: Boarded, S: Shelf, R: Wait>(
+    rt: &R,
+    alloc: Global,
+    shelf: &mut NamedShelf<N, S>,
+    number: u64,
+    parts: NewParts<S>,
+) -> Result<State<N, S>, WriterFault>
+    requires parts { AreOf parts.options N.registry N.board N.history parts }
+    ensures begun { IfOk result (λ s. IsNewWith parts.options number s shelf.old shelf.new) }
+    ensures seats { IfOk result (λ s. SeatsPinners s) }
+    ensures refused { IfErr result (λ e.
+        IsBeginRefusal number (S.refuses N.place) e shelf.old shelf.new) }
+{
+    let parts = match parts.named(alloc) {
+        Ok(parts) => parts,
+        Err(_) => return Err(WriterFault::OutOfMemory),
+    };
     match create(rt, alloc, shelf, number, parts) {
         Ok(state) => Ok(state),
         Err(fault) => Err(fault),

@@ -27,25 +27,26 @@ use Rattle.lsm_state.specs.declared.state_fault.StateFault.{StateFault}
 use Rattle.lsm_state.specs.declared.state_fault.StateFault.TheVariants as state
 use Rattle.lsm_state.proofs.AskedLaws.{outside_free}
 use Rattle.lsm_state.proofs.Removing.{removals-push, stopped_next}
+use Rattle.lsm_journal.specs.declared.manifest_limit.ManifestLimit.{ManifestLimit}
 
 -- ---- a database that is opened
 
 -- its new manifest was started, and nothing else was made
-pub begun_made : (honest : Type 0) (limit : ℕ) (h : HeldManifest) (v : Levels) (next : ℕ) (was is : Told) → IsBegun honest limit h v next was is → is.made ≡ StartManifest h.number h.bytes ∷ was.made
+pub begun_made : (honest : Type 0) (limit : ManifestLimit) (h : HeldManifest) (v : Levels) (next : ℕ) (was is : Told) → IsBegun honest limit h v next was is → is.made ≡ StartManifest h.number h.bytes ∷ was.made
 begun_made honest limit h v next was is b =
     let bytes : List ℕ = record_of [] (version_edit b.before v (b.number + 1)) in
     b.rolls.sent.made
     ∙ (ap (λ (m : List Asked). StartManifest b.number bytes ∷ m) b.found.told.made
     ∙ ap (λ (x : HeldManifest). StartManifest x.number x.bytes ∷ was.made) (sym b.rolls.held))
 
-start_refused_made : (Refused : Asked → ShelfFault → Type 0) (honest : Type 0) (limit : ℕ) (e : OpenFault) (was is : Told) → IsStartRefusal Refused honest limit e was is → is.made ≡ was.made
+start_refused_made : (Refused : Asked → ShelfFault → Type 0) (honest : Type 0) (limit : ManifestLimit) (e : OpenFault) (was is : Told) → IsStartRefusal Refused honest limit e was is → is.made ≡ was.made
 start_refused_made Refused honest limit (opening.Shelf e) was is r = r.told.made ∙ r.found.told.made
 start_refused_made Refused honest limit opening.NumbersSpent was is r = r.found.told.made
 start_refused_made Refused honest limit (opening.Recover e) was is r = absurd r
 start_refused_made Refused honest limit (opening.Check e) was is r = absurd r
 start_refused_made Refused honest limit opening.OutOfMemory was is r = absurd r
 
-pub open_refused_made : (Stored : ℕ → List ℕ → Type 0) (Refused : Asked → ShelfFault → Type 0) (honest : Type 0) (limit : ℕ) (e : OpenFault) (was is : Told)
+pub open_refused_made : (Stored : ℕ → List ℕ → Type 0) (Refused : Asked → ShelfFault → Type 0) (honest : Type 0) (limit : ManifestLimit) (e : OpenFault) (was is : Told)
     → IsOpenRefusal Stored Refused honest limit e was is → is.made ≡ was.made
 open_refused_made Stored Refused honest limit e was is (inl r) = find_refused_made Stored Refused honest e was is r
 open_refused_made Stored Refused honest limit e was is (inr r) = start_refused_made Refused honest limit e was is r

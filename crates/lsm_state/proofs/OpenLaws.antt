@@ -32,6 +32,8 @@ use Rattle.lsm_state.specs.Opening.{IsBegun, IsFound, IsOpenRefusal, IsReadOnce,
 use Rattle.lsm_state.specs.Options.{Fits}
 use Rattle.lsm_state.specs.declared.options.Options.{Options}
 use Rattle.lsm_state.proofs.Numbers.{has_map}
+use Rattle.lsm_journal.specs.declared.manifest_limit.ManifestLimit.{ManifestLimit}
+use Rattle.lsm_state.specs.Options.{limit_of}
 
 -- ---- numbers that stand once
 
@@ -143,21 +145,21 @@ pub board_opened : (board : TableId) (o : Options) (publisher : Known) (pinners 
     → IsNewBoard board o publisher pinners → IsNewBoard board s.options s.slots.board s.pinners
 board_opened board o publisher pinners s e new = subst (λ (x : Held). IsNewBoard board x.options x.slots.board x.pinners) (sym e) new
 
-limit_opened : (o : Options) (publisher : Known) (pinners : List Known) (s : Held) → s ≡ opened_state o publisher pinners s.slots.version s.journal s.next true → s.options.manifest_limit ≡ o.manifest_limit
-limit_opened o publisher pinners s e = ap (λ (x : Held). x.options.manifest_limit) e
+limit_opened : (o : Options) (publisher : Known) (pinners : List Known) (s : Held) → s ≡ opened_state o publisher pinners s.slots.version s.journal s.next true → (limit_of s.options) ≡ (limit_of o)
+limit_opened o publisher pinners s e = ap (λ (x : Held). (limit_of x.options)) e
 
 pub found_opened : (honest : Type 0) (o : Options) (publisher : Known) (pinners : List Known) (s : Held) (rest : ℕ) (was is : Told)
-    → s ≡ opened_state o publisher pinners s.slots.version s.journal s.next true → IsFound honest o.manifest_limit s.journal s.slots.version rest s.next was is
-    → IsFound honest s.options.manifest_limit s.journal s.slots.version rest s.next was is
+    → s ≡ opened_state o publisher pinners s.slots.version s.journal s.next true → IsFound honest (limit_of o) s.journal s.slots.version rest s.next was is
+    → IsFound honest (limit_of s.options) s.journal s.slots.version rest s.next was is
 found_opened honest o publisher pinners s rest was is e f =
-    subst (λ (limit : ℕ). IsFound honest limit s.journal s.slots.version rest s.next was is) (sym (limit_opened o publisher pinners s e)) f
+    subst (λ (limit : ManifestLimit). IsFound honest limit s.journal s.slots.version rest s.next was is) (sym (limit_opened o publisher pinners s e)) f
 
 pub begun_opened : {E : Type 0} (r : Result Held E) (honest : Type 0) (o : Options) (publisher : Known) (pinners : List Known) (s : Held) (was is : Told)
     → s ≡ opened_state o publisher pinners s.slots.version s.journal s.next true
-    → IfOk r (λ t. IsBegun honest s.options.manifest_limit t.journal t.slots.version t.next was is)
-    → IfOk r (λ t. IsBegun honest o.manifest_limit t.journal t.slots.version t.next was is)
+    → IfOk r (λ t. IsBegun honest (limit_of s.options) t.journal t.slots.version t.next was is)
+    → IfOk r (λ t. IsBegun honest (limit_of o) t.journal t.slots.version t.next was is)
 begun_opened (Ok t) honest o publisher pinners s was is e b =
-    subst (λ (limit : ℕ). IsBegun honest limit t.journal t.slots.version t.next was is) (limit_opened o publisher pinners s e) b
+    subst (λ (limit : ManifestLimit). IsBegun honest limit t.journal t.slots.version t.next was is) (limit_opened o publisher pinners s e) b
 begun_opened (Err x) honest o publisher pinners s was is e b = tt
 
 pub state_opened : {E : Type 0} (r : Result Held E) (o : Options) (publisher : Known) (pinners : List Known) (s : Held) → s ≡ opened_state o publisher pinners s.slots.version s.journal s.next true
@@ -171,13 +173,13 @@ state_opened (Err x) o publisher pinners s e b = tt
 
 pub refused_opened : {T : Type 0} (r : Result T OpenFault) (Stored : ℕ → List ℕ → Type 0) (Refused : Asked → ShelfFault → Type 0) (honest : Type 0) (o : Options) (publisher : Known)
     (pinners : List Known) (s : Held) (was is : Told) → s ≡ opened_state o publisher pinners s.slots.version s.journal s.next true
-    → IfErr r (λ e. IsStartRefusal Refused honest s.options.manifest_limit e was is) → IfErr r (λ e. IsOpenRefusal Stored Refused honest o.manifest_limit e was is)
+    → IfErr r (λ e. IsStartRefusal Refused honest (limit_of s.options) e was is) → IfErr r (λ e. IsOpenRefusal Stored Refused honest (limit_of o) e was is)
 refused_opened (Ok x) Stored Refused honest o publisher pinners s was is e b = tt
 refused_opened (Err x) Stored Refused honest o publisher pinners s was is e b =
-    inr (subst (λ (limit : ℕ). IsStartRefusal Refused honest limit x was is) (limit_opened o publisher pinners s e) b)
+    inr (subst (λ (limit : ManifestLimit). IsStartRefusal Refused honest limit x was is) (limit_opened o publisher pinners s e) b)
 
 -- what refuses a new manifest is no refusal to read the one that is there
-pub read_opened : {T : Type 0} (r : Result T OpenFault) (Refused : Asked → ShelfFault → Type 0) (honest : Type 0) (limit : ℕ) (was is a b : Told)
+pub read_opened : {T : Type 0} (r : Result T OpenFault) (Refused : Asked → ShelfFault → Type 0) (honest : Type 0) (limit : ManifestLimit) (was is a b : Told)
     → IfErr r (λ e. IsStartRefusal Refused honest limit e was is) → IfErr r (λ e. IsReadOnce e a b)
 read_opened (Ok x) Refused honest limit was is a b s = tt
 read_opened (Err (opening.Recover e)) Refused honest limit was is a b s = absurd s

@@ -29,6 +29,7 @@ use Rattle.lsm_state.specs.Reading.{IsSequence}
 use Rattle.lsm_state.specs.declared.options.Options.{Options}
 use Rattle.lsm_state.specs.Held.{HasInputs, Held, IsLawfulState, plain}
 use Rattle.lsm_state.proofs.Numbers.{looked_numbers, pinned_numbers}
+use Rattle.lsm_state.specs.Options.{limit_of}
 
 -- an event keeps the machine's law
 pub stepped : (honest : Type 0) (s : Plain) (e : Event) (t : Plain) → Law honest s → Step honest s e t → Law honest t
@@ -174,7 +175,7 @@ law_under number honest law = record {
 }
 
 pub lawful_created : (number : ℕ) (honest : Type 0) (board : TableId) (o : Options) (publisher : Known) (pinners : List Known) → Fits o → IsNewBoard board o publisher pinners → Law honest created
-    → IsRecorded 0 (created_under number o.manifest_limit) no_levels (number + 1) → IsLawfulState honest board (created_state_under number o publisher pinners)
+    → IsRecorded 0 (created_under number (limit_of o)) no_levels (number + 1) → IsLawfulState honest board (created_state_under number o publisher pinners)
 lawful_created number honest board o publisher pinners fits new law recorded = record {
   law = law_under number honest law;
   journaled = (0, recorded, λ e. refl);
@@ -191,7 +192,7 @@ lawful_created number honest board o publisher pinners fits new law recorded = r
 
 -- the same of its parts, as they were made
 pub lawful_made : (number : ℕ) (honest : Type 0) (board : TableId) (o : Options) (publisher : Known) (pinners : List Known) (s : Slotted) (taken : Taken) (live : List Booked) (j : HeldManifest) (es : List Entry)
-    → s ≡ first_slots publisher o.versions no_levels → taken ≡ record { taken = []; next = 1 } → live ≡ [] → j ≡ created_under number o.manifest_limit → es ≡ [] → IsLawfulState honest board (created_state_under number o publisher pinners)
+    → s ≡ first_slots publisher o.versions no_levels → taken ≡ record { taken = []; next = 1 } → live ≡ [] → j ≡ created_under number (limit_of o) → es ≡ [] → IsLawfulState honest board (created_state_under number o publisher pinners)
     → IsLawfulState honest board (record { options = o; slots = s; snapshots = taken; next = number + 1; next_ticket = 1; live = live; journal = j; halted = false; pinners = pinners; history = es })
 lawful_made number honest board o publisher pinners s taken live j es a b c d e l =
     let h : Held = created_state_under number o publisher pinners in

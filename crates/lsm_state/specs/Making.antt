@@ -12,6 +12,7 @@ use Rattle.lsm_slots.specs.Slots.{first_slots}
 use Rattle.lsm_journal.specs.Writing.{created_under}
 use Rattle.lsm_state.specs.Held.{Held}
 use Rattle.lsm_state.specs.declared.options.Options.{Options}
+use Rattle.lsm_state.specs.Options.{limit_of}
 
 -- The ends of a board that was just made, with the slots and the readers of the options.
 pub record IsNewBoard (board : TableId) (o : Options) (publisher : Known) (pinners : List Known)
@@ -35,7 +36,7 @@ created_state_under number o publisher pinners = record {
   next = number + 1;
   next_ticket = 1;
   live = [];
-  journal = created_under number o.manifest_limit;
+  journal = created_under number (limit_of o);
   halted = false;
   pinners = pinners;
   history = [];

@@ -16,6 +16,7 @@ use Rattle.lsm_state.specs.declared.options.Options.{Options}
 use Rattle.lsm_journal.specs.declared.open_fault.OpenFault.{OpenFault}
 use Rattle.lsm_journal.specs.declared.open_fault.OpenFault.TheVariants.{OutOfMemory, Shelf, Recover}
 use Rattle.lsm_journal.specs.declared.open_fault.OpenFault.TheVariants.{Check, NumbersSpent}
+use Rattle.lsm_journal.specs.declared.manifest_limit.ManifestLimit.{ManifestLimit}
 pub use Rattle.lsm_journal.specs.Finding.{IsFound, IsFindRefusal, IsReadOnce}
 
 -- A state of this version and this manifest: the version in the first slot, no snapshot, no job.
@@ -36,7 +37,7 @@ opened_state o publisher pinners version journal next halted = record {
 
 -- The manifest that was found records the version. The manifest held is a new one, whose one edit
 -- spells it, and has the number that was next; both are what the shelf was sent.
-pub record IsBegun (Honest : Type 0) (limit : ℕ) (h : HeldManifest) (v : Levels) (next : ℕ)
+pub record IsBegun (Honest : Type 0) (limit : ManifestLimit) (h : HeldManifest) (v : Levels) (next : ℕ)
     (was is : Told) : Type 0 where
   pub before : HeldManifest
   pub rest : ℕ
@@ -51,7 +52,7 @@ pub record IsBegun (Honest : Type 0) (limit : ℕ) (h : HeldManifest) (v : Level
 
 -- The new manifest was refused by the shelf, or for want of memory.
 pub record IsUnstarted (Refused : Asked → ShelfFault
-    → Type 0) (Honest : Type 0) (limit : ℕ) (e : ShelfFault) (was is : Told) : Type 0 where
+    → Type 0) (Honest : Type 0) (limit : ManifestLimit) (e : ShelfFault) (was is : Told) : Type 0 where
   pub held : HeldManifest
   pub version : Levels
   pub rest : ℕ
@@ -63,15 +64,15 @@ pub record IsUnstarted (Refused : Asked → ShelfFault
   pub told : Becomes read is
 
 -- All was read, and no number is left for a new manifest.
-pub record IsNumberless (Honest : Type 0) (limit : ℕ) (was is : Told) : Type 0 where
+pub record IsNumberless (Honest : Type 0) (limit : ManifestLimit) (was is : Told) : Type 0 where
   pub held : HeldManifest
   pub version : Levels
   pub rest : ℕ
   pub found : IsFound Honest limit held version rest (2 ^ 64 - 1) was is
 
 -- Why no new manifest begins where all was read.
-abbrev pub IsStartRefusal : (Asked → ShelfFault → Type 0) → Type 0 → ℕ → OpenFault → Told → Told
-    → Type 0
+abbrev pub IsStartRefusal : (Asked → ShelfFault → Type 0) → Type 0 → ManifestLimit → OpenFault
+    → Told → Told → Type 0
 IsStartRefusal Refused Honest limit (Shelf e) was is = IsUnstarted Refused Honest limit e was is
 IsStartRefusal Refused Honest limit NumbersSpent was is = IsNumberless Honest limit was is
 IsStartRefusal Refused Honest limit (Recover e) was is = ⊥
@@ -79,7 +80,7 @@ IsStartRefusal Refused Honest limit (Check e) was is = ⊥
 IsStartRefusal Refused Honest limit OutOfMemory was is = ⊥
 
 -- Why no database is opened: it could not be read; or no new manifest could begin.
-abbrev pub IsOpenRefusal : (ℕ → List ℕ → Type 0) → (Asked → ShelfFault → Type 0) → Type 0 → ℕ
-    → OpenFault → Told → Told → Type 0
+abbrev pub IsOpenRefusal : (ℕ → List ℕ → Type 0) → (Asked → ShelfFault → Type 0) → Type 0
+    → ManifestLimit → OpenFault → Told → Told → Type 0
 IsOpenRefusal Stored Refused Honest limit e was is =
     IsFindRefusal Stored Refused Honest e was is ⊎ IsStartRefusal Refused Honest limit e was is

@@ -1,12 +1,17 @@
 -- The ranges of options (this project's rule).
 use Rattle.std.specs.Prelude.{◌+◌, ◌≤◌}
 use Rattle.lsm_table.specs.Options.{AreInRange}
+use Rattle.lsm_journal.specs.declared.manifest_limit.ManifestLimit.{ManifestLimit}
 use Rattle.lsm_table.specs.declared.table_options.TableOptions.{TableOptions}
 use Rattle.lsm_state.specs.declared.options.Options.{Options}
 
 -- the sizes that tables are written with
 abbrev pub sizes_of : Options → TableOptions
 sizes_of o = record { block_size = o.block_size; restart_interval = o.restart_interval }
+
+-- from how many bytes on a new manifest is due
+abbrev pub limit_of : Options → ManifestLimit
+limit_of o = record { bytes = o.manifest_limit; grows = o.manifest_grows }
 
 pub record HasSizes (o : Options) : Type 0 where
   pub target_least : 1024 ≤ o.target_size

@@ -99,7 +99,7 @@ impl<N: Boarded, S: Shelf> State<N, S> {
         let (publisher, pinners) = board;
         let empty = Version::empty(alloc, Arc::try_clone(&registry)?)?;
         let slots = Slots::new(alloc, publisher, options.versions, empty)?;
-        let journal = Journal::create_under(rt, alloc, shelf, options.manifest_limit, number)?;
+        let journal = Journal::create_under(rt, alloc, shelf, options.limit(), number)?;
         created_stores_are_lawful::<State<N, S>>();
         let mut keeper = history.named();
         keeper.publish(&edition_of(slots.id(), slots.version()));

@@ -6,7 +6,7 @@ ghost use Rattle.lsm_shelf.specs.Stored.{Stored};
 ghost use Rattle.lsm_shelf.specs.Told.{Told};
 ghost use Rattle.lsm_state.specs.Making.{IsNewBoard, IsNewHistory};
 ghost use Rattle.lsm_state.specs.Opening.{IsBegun, IsOpenRefusal, IsStartRefusal, opened_state};
-ghost use Rattle.lsm_state.specs.Options.{Fits};
+ghost use Rattle.lsm_state.specs.Options.{Fits, limit_of};
 
 use crate::coming::{edition_of, entries_of_version};
 use crate::options::Options;
@@ -46,12 +46,12 @@ impl<N: Boarded, S: Shelf> State<N, S> {
         requires fits { Fits options }
         requires board { IsNewBoard N.board options board.0 board.1.items }
         requires history { IsNewHistory N.history history }
-        ensures begun { IfOk result (λ s. IsBegun S.honest options.manifest_limit s.journal
+        ensures begun { IfOk result (λ s. IsBegun S.honest (limit_of options) s.journal
             s.slots.version s.next shelf.old shelf.new) }
         ensures opened { IfOk result (λ s.
             s ≡ opened_state options board.0 board.1.items s.slots.version s.journal s.next false) }
         ensures refused { IfErr result (λ e. IsOpenRefusal (Stored S.Receipt (S.is_of N.place)
-            S.Receipt.number S.Receipt.image) (S.refuses N.place) S.honest options.manifest_limit e
+            S.Receipt.number S.Receipt.image) (S.refuses N.place) S.honest (limit_of options) e
             shelf.old shelf.new) }
         ensures counts_err { IfErr result (λ e. IsReadOnce e shelf.old shelf.new) }
     {
@@ -75,12 +75,12 @@ impl<N: Boarded, S: Shelf> State<N, S> {
         requires fits { Fits options }
         requires board { IsNewBoard N.board options board.0 board.1.items }
         requires history { IsNewHistory N.history history }
-        ensures begun { IfOk result (λ s. IsBegun S.honest options.manifest_limit s.journal
+        ensures begun { IfOk result (λ s. IsBegun S.honest (limit_of options) s.journal
             s.slots.version s.next shelf.old shelf.new) }
         ensures opened { IfOk result (λ s.
             s ≡ opened_state options board.0 board.1.items s.slots.version s.journal s.next false) }
         ensures refused { IfErr result (λ e. IsOpenRefusal (Stored S.Receipt (S.is_of N.place)
-            S.Receipt.number S.Receipt.image) (S.refuses N.place) S.honest options.manifest_limit e
+            S.Receipt.number S.Receipt.image) (S.refuses N.place) S.honest (limit_of options) e
             shelf.old shelf.new) }
         ensures counts_err { IfErr result (λ e. IsReadOnce e shelf.old shelf.new) }
     {
@@ -109,7 +109,7 @@ impl<N: Boarded, S: Shelf> State<N, S> {
         requires fits { Fits options }
         requires board { IsNewBoard N.board options board.0 board.1.items }
         requires history { IsNewHistory N.history history }
-        ensures found { IfOk result (λ s. (rest : ℕ) × IsFound S.honest options.manifest_limit
+        ensures found { IfOk result (λ s. (rest : ℕ) × IsFound S.honest (limit_of options)
             s.journal s.slots.version rest s.next shelf.old shelf.new) }
         ensures opened { IfOk result (λ s.
             s ≡ opened_state options board.0 board.1.items s.slots.version s.journal s.next true) }
@@ -118,7 +118,7 @@ impl<N: Boarded, S: Shelf> State<N, S> {
             (S.refuses N.place) S.honest e shelf.old shelf.new) }
         ensures counts_err { IfErr result (λ e. IsReadOnce e shelf.old shelf.new) }
     {
-        let found: Found<N, S> = Found::read(rt, alloc, shelf, &registry, options.manifest_limit)?;
+        let found: Found<N, S> = Found::read(rt, alloc, shelf, &registry, options.limit())?;
         let state = State::of_found(alloc, options, registry, board, history, found)?;
         Ok(state)
     }
@@ -137,7 +137,7 @@ impl<N: Boarded, S: Shelf> State<N, S> {
         requires fits { Fits options }
         requires board { IsNewBoard N.board options board.0 board.1.items }
         requires history { IsNewHistory N.history history }
-        ensures found { IfOk result (λ s. (rest : ℕ) × IsFound S.honest options.manifest_limit
+        ensures found { IfOk result (λ s. (rest : ℕ) × IsFound S.honest (limit_of options)
             s.journal s.slots.version rest s.next shelf.old shelf.new) }
         ensures opened { IfOk result (λ s.
             s ≡ opened_state options board.0 board.1.items s.slots.version s.journal s.next true) }
@@ -151,7 +151,7 @@ impl<N: Boarded, S: Shelf> State<N, S> {
             alloc,
             shelf,
             &registry,
-            options.manifest_limit,
+            options.limit(),
             shelves,
             &NoWatch,
         )?;
@@ -171,7 +171,7 @@ impl<N: Boarded, S: Shelf> State<N, S> {
         requires fits { Fits options }
         requires board { IsNewBoard N.board options board.0 board.1.items }
         requires history { IsNewHistory N.history history }
-        requires found { (was : Told) × ((is : Told) × IsFound S.honest options.manifest_limit
+        requires found { (was : Told) × ((is : Told) × IsFound S.honest (limit_of options)
             found.journal found.version found.rest found.next was is) }
         ensures { IfOk result (λ s. s ≡ opened_state options board.0 board.1.items found.version
             found.journal found.next true) }
@@ -206,18 +206,18 @@ impl<N: Boarded, S: Shelf> State<N, S> {
         requires board { IsNewBoard N.board self.options self.slots.board self.pinners }
         requires opened { self ≡ opened_state self.options self.slots.board self.pinners
             self.slots.version self.journal self.next true }
-        requires found { (was : Told) × ((rest : ℕ) × IsFound S.honest self.options.manifest_limit
+        requires found { (was : Told) × ((rest : ℕ) × IsFound S.honest (limit_of self.options)
             self.journal self.slots.version rest self.next was shelf.old) }
-        ensures begun { (was : Told) (rest : ℕ) → IsFound S.honest self.options.manifest_limit
+        ensures begun { (was : Told) (rest : ℕ) → IsFound S.honest (limit_of self.options)
             self.journal self.slots.version rest self.next was shelf.old
-            → IfOk result (λ s. IsBegun S.honest self.options.manifest_limit s.journal
+            → IfOk result (λ s. IsBegun S.honest (limit_of self.options) s.journal
             s.slots.version s.next was shelf.new) }
         ensures opened { IfOk result (λ s. s ≡ opened_state self.options self.slots.board
             self.pinners self.slots.version s.journal s.next false) }
-        ensures refused { (was : Told) (rest : ℕ) → IsFound S.honest self.options.manifest_limit
+        ensures refused { (was : Told) (rest : ℕ) → IsFound S.honest (limit_of self.options)
             self.journal self.slots.version rest self.next was shelf.old
             → IfErr result (λ e. IsStartRefusal (S.refuses N.place) S.honest
-            self.options.manifest_limit e was shelf.new) }
+            (limit_of self.options) e was shelf.new) }
     {
         let mut state = self;
         let number = state.next;

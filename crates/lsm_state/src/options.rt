@@ -1,8 +1,9 @@
 //! The sizes and counts that a database is run with.
 
 ghost use Rattle.std.specs.Prelude.{◌≡◌, ◌↔◌, IsTrue};
-ghost use Rattle.lsm_state.specs.Options.{Fits, HasSizes, SeatsReaders, sizes_of};
+ghost use Rattle.lsm_state.specs.Options.{Fits, HasSizes, SeatsReaders, limit_of, sizes_of};
 
+use lsm_journal::ManifestLimit;
 use lsm_table::TableOptions;
 
 /// The sizes and counts that a database is run with. The first three are LevelDB's
@@ -24,6 +25,9 @@ pub struct Options {
     pub cache_blocks: usize,
     /// A manifest of so many bytes is followed by a new one at the next change: 64 to 536,870,912.
     pub manifest_limit: u64,
+    /// Whether a new manifest raises that to twice its own bytes, where that is more, for as long as
+    /// the database is open. So what manifests take in all grows as the changes do.
+    pub manifest_grows: bool,
 }
 
 impl Options {
@@ -37,6 +41,7 @@ impl Options {
           readers = 4;
           cache_blocks = 64;
           manifest_limit = 1048576;
+          manifest_grows = false;
         } }
     {
         Options {
@@ -47,6 +52,28 @@ impl Options {
             readers: 4,
             cache_blocks: 64,
             manifest_limit: 1_048_576,
+            manifest_grows: false,
+        }
+    }
+
+    /// The same for a program that keeps a database for long: a manifest is followed by a new one
+    /// at 64 KiB, or at twice what a whole one has, where that is more.
+    pub fn with_growing_manifests() -> Options
+        ensures { result ≡ record {
+          block_size = 4096;
+          restart_interval = 16;
+          target_size = 2097152;
+          versions = 64;
+          readers = 4;
+          cache_blocks = 64;
+          manifest_limit = 65536;
+          manifest_grows = true;
+        } }
+    {
+        Options {
+            manifest_limit: 65_536,
+            manifest_grows: true,
+            ..Options::usual()
         }
     }
 
@@ -57,6 +84,16 @@ impl Options {
         TableOptions {
             block_size: self.block_size,
             restart_interval: self.restart_interval,
+        }
+    }
+
+    /// From how many bytes on a new manifest is due.
+    pub(crate) fn limit(&self) -> ManifestLimit
+        ensures { result ≡ limit_of self.now }
+    {
+        ManifestLimit {
+            bytes: self.manifest_limit,
+            grows: self.manifest_grows,
         }
     }
 

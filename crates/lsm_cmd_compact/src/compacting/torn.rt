@@ -8,7 +8,7 @@ ghost use Rattle.lsm_opening.specs.declared.faults.compact_fault.CompactFault.Th
 ghost use Rattle.lsm_cmd_compact.specs.Compacting.{EndsWith, IsAccepted, IsUnaccepted};
 
 use lsm_directory::DirectoryFault;
-use lsm_journal::Journal;
+use lsm_journal::{Journal, ManifestLimit};
 use lsm_opening::{CompactFault, WriterFault};
 use lsm_table::{NamedShelf, Naming, Shelf};
 use std::alloc::Global;
@@ -27,7 +27,7 @@ fn rest_of<N: Naming, S: Shelf, R: Wait>(
         × RecoverCounted fault shelf.old shelf.new) }
 {
     // A journal that nothing is sent through has no use for its limit.
-    match Journal::recover(rt, alloc, shelf, u64::MAX) {
+    match Journal::recover(rt, alloc, shelf, ManifestLimit::none()) {
         Ok(recovered) => Ok(recovered.rest),
         Err(fault) => Err(CompactFault::Writer(WriterFault::from(fault))),
     }

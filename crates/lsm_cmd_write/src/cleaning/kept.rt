@@ -10,7 +10,7 @@ ghost use Rattle.lsm_shelf.specs.Stored.{Stored};
 
 use lsm_directory::FileKind;
 use lsm_folder::FolderCalls;
-use lsm_journal::{Found, Journal};
+use lsm_journal::{Found, Journal, ManifestLimit};
 use lsm_opening::WriterFault;
 use lsm_storage::FileShelf;
 use lsm_table::{NamedShelf, Naming, Records, Registry, Shelf};
@@ -97,7 +97,7 @@ fn find_kept<N: Naming, S: Shelf, R: Wait>(
 {
     let registry = Registry::shared(alloc, records)?;
     // A journal that nothing is sent through has no use for its limit.
-    let found = Found::<N, S>::read(rt, alloc, shelf, &registry, u64::MAX)?;
+    let found = Found::<N, S>::read(rt, alloc, shelf, &registry, ManifestLimit::none())?;
     let mut numbers = Vec::new(alloc);
     found.version.push_numbers(&mut numbers)?;
     let tables = ascending(numbers)?;

@@ -1,8 +1,8 @@
-use Rattle.std.proofs.Common.{inl, inr, refl}
+use Rattle.std.proofs.Common.{inr, refl}
 use Rattle.lsm_opening.proofs.starting.judge_found.Goals as goal
 
 pub returns-in-Some-clause-refused : goal.returns-in-Some-clause-refused
-returns-in-Some-clause-refused g c = inr (inl (
+returns-in-Some-clause-refused g c = inr (
   c.in-Some.number,
   refl,
   record {
@@ -13,4 +13,4 @@ returns-in-Some-clause-refused g c = inr (inl (
     told = c.in_ok-found.ensures.found;
     holds = c.in-Some.ensures;
   },
-))
+)

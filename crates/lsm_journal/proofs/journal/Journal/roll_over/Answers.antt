@@ -8,4 +8,4 @@ start-requires-clause-keys g c κs within = let r = c.requires.recorded in recor
 
 pub returns-clause-recorded : goal.returns-clause-recorded
 returns-clause-recorded g c =
-    on_ok_weaker _ (λ r. started_recorded c.args.self.now _ c.args.number c.args.version.now (c.args.number + 1) c.requires.recorded.1.own r.held r.spelled) c.start.ensures.rolls
+    on_ok_weaker _ (λ r. started_recorded c.args.self.now _ c.args.number _ c.args.version.now (c.args.number + 1) c.requires.recorded.1.own r.held r.spelled) c.start.ensures.rolls

@@ -11,6 +11,7 @@ use Rattle.lsm_state.specs.Options.{Fits}
 use Rattle.lsm_journal.proofs.CallerLemmas.{found_below, found_recorded}
 use Rattle.lsm_state.proofs.OpenLaws.{lawful_opened}
 use Rattle.lsm_state.proofs.state.State.begin.Goals as goal
+use Rattle.lsm_state.specs.Options.{limit_of}
 
 pub roll_over-requires-clause-recorded : goal.roll_over-requires-clause-recorded
 roll_over-requires-clause-recorded g c κs within =
@@ -57,14 +58,14 @@ returns-then-number-clause-refused g c was rest found =
       held = s.journal;
       version = s.slots.version;
       rest = rest;
-      found = subst (λ (n : ℕ). IsFound g.S.Shelf.honest s.options.manifest_limit s.journal s.slots.version rest n was c.args.shelf.now) next found;
+      found = subst (λ (n : ℕ). IsFound g.S.Shelf.honest (limit_of s.options) s.journal s.slots.version rest n was c.args.shelf.now) next found;
     }
 
 pub returns-in_err-roll_over-clause-refused : goal.returns-in_err-roll_over-clause-refused
 returns-in_err-roll_over-clause-refused g c was rest found =
     let p = err_from_is_err_and c.from_residual.result c.from_residual.ensures.1 in
     let s : Held = c.args.self in
-    let limit = s.options.manifest_limit in
+    let limit = (limit_of s.options) in
     let h : HeldManifest = c.state.inside.journal in
     let n : ℕ = c.state.inside.next in
     let read = c.args.shelf.now in
@@ -84,7 +85,7 @@ returns-in_err-roll_over-clause-refused g c was rest found =
 pub returns-clause-begun : goal.returns-clause-begun
 returns-clause-begun g c was rest found =
     let s : Held = c.args.self in
-    let limit = s.options.manifest_limit in
+    let limit = (limit_of s.options) in
     let h : HeldManifest = c.state.inside.journal in
     let n : ℕ = c.state.inside.next in
     let read = c.args.shelf.now in

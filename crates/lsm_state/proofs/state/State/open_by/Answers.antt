@@ -1,5 +1,6 @@
 use Rattle.lsm_state.proofs.OpenLaws.{begun_opened, board_opened, found_opened, parts_opened, read_opened, refused_opened, state_opened}
 use Rattle.lsm_state.proofs.state.State.open_by.Goals as goal
+use Rattle.lsm_state.specs.Options.{limit_of}
 
 pub begin-requires-clause-board : goal.begin-requires-clause-board
 begin-requires-clause-board g c κs within =
@@ -35,4 +36,4 @@ pub returns-clause-counts_err : goal.returns-clause-counts_err
 returns-clause-counts_err g c =
     let f = c.in_ok-state.ensures.found in
     let found = found_opened g.S.Shelf.honest c.args.options c.args.board.0 c.args.board.1.items c.in_ok-state.state f.0 _ _ c.in_ok-state.ensures.opened f.1 in
-    read_opened c.begin.result (g.S.Shelf.refuses g.N.Naming.place) g.S.Shelf.honest c.in_ok-state.state.options.manifest_limit _ _ _ _ (c.begin.ensures.refused _ f.0 found)
+    read_opened c.begin.result (g.S.Shelf.refuses g.N.Naming.place) g.S.Shelf.honest (limit_of c.in_ok-state.state.options) _ _ _ _ (c.begin.ensures.refused _ f.0 found)
