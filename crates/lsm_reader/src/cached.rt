@@ -8,6 +8,7 @@ use crate::kept_block::KeptBlock;
 use crate::open_table::OpenTable;
 use crate::parts::share;
 use crate::recent::keep;
+use crate::recent_blocks::RecentBlocks;
 use lru::LruCache;
 use lsm_block::Block;
 use lsm_table::{Handle, NamedShelf, Naming, ReadFault, Shelf, TableReceipt};
@@ -22,12 +23,13 @@ pub const MAX_OPEN_TABLES: usize = 1000;
 
 /// Gives index blocks and blocks from those that were used last, and else by a shelf of its own. It
 /// keeps `MAX_OPEN_TABLES` open tables at most, each with its index block, and so many blocks that
-/// were asked for by their places as it was made for: data blocks push out no table. An open table
-/// is found by its number, and its footer is not read again. Contracts see it as its shelf.
+/// were asked for by their places as it was made for, of 4 KiB each: of larger ones fewer. Data
+/// blocks push out no table. An open table is found by its number, and its footer is not read
+/// again. Contracts see it as its shelf.
 pub struct Cached<N: Naming, S: Shelf> {
     shelf: NamedShelf<N, S>,
     tables: LruCache<u64, OpenTable<N, S>>,
-    blocks: LruCache<BlockKey, KeptBlock<N, S>>,
+    blocks: RecentBlocks<N, S>,
 }
 
 impl<N: Naming, S: Shelf> Drop for Cached<N, S> {
@@ -50,8 +52,8 @@ impl<N: Naming, S: Shelf> Model for Cached<N, S> {
 }
 
 impl<N: Naming, S: Shelf> Cached<N, S> {
-    /// An empty cache of so many blocks over this shelf. It asks for the memory of an open table
-    /// when that comes. `AllocError` where a growth was refused.
+    /// An empty cache of so many blocks of 4 KiB over this shelf. It asks for the memory of an open
+    /// table, or of a block, when that comes. `AllocError` where a growth was refused.
     pub fn new(
         alloc: Global,
         shelf: NamedShelf<N, S>,
@@ -64,7 +66,7 @@ impl<N: Naming, S: Shelf> Cached<N, S> {
         };
         Ok(Cached {
             tables: LruCache::sparse(alloc, tables)?,
-            blocks: LruCache::new(alloc, blocks)?,
+            blocks: RecentBlocks::new(alloc, blocks)?,
             shelf,
         })
     }
@@ -117,7 +119,7 @@ impl<N: Naming, S: Shelf> Blocks<N, S> for Cached<N, S> {
             number: receipt.number(),
             offset,
         };
-        if let Some(kept) = blocks.get(&key) {
+        if let Some(kept) = blocks.blocks.get(&key) {
             if kept.handle == handle && shelf.shelf.same(&kept.receipt, receipt) {
                 return share(&kept.block);
             }
@@ -134,7 +136,7 @@ impl<N: Naming, S: Shelf> Blocks<N, S> for Cached<N, S> {
             block: shared,
             of: PhantomData,
         };
-        keep(blocks, key, kept);
+        blocks.keep(key, kept);
         Ok(block)
     }
 

@@ -29,6 +29,7 @@ mod cached;
 mod kept_block;
 mod parts;
 mod recent;
+mod recent_blocks;
 
 pub use block_key::BlockKey;
 pub use blocks::Blocks;
