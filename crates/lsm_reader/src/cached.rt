@@ -29,7 +29,7 @@ pub const MAX_OPEN_TABLES: usize = 1000;
 pub struct Cached<N: Naming, S: Shelf> {
     shelf: NamedShelf<N, S>,
     tables: LruCache<u64, OpenTable<N, S>>,
-    blocks: RecentBlocks<N, S>,
+    blocks: RecentBlocks<KeptBlock<N, S>>,
 }
 
 impl<N: Naming, S: Shelf> Drop for Cached<N, S> {
@@ -119,7 +119,8 @@ impl<N: Naming, S: Shelf> Blocks<N, S> for Cached<N, S> {
             number: receipt.number(),
             offset,
         };
-        if let Some(kept) = blocks.blocks.get(&key) {
+        if let Some(found) = blocks.blocks.get(&key) {
+            let kept = &found.kept;
             if kept.handle == handle && shelf.shelf.same(&kept.receipt, receipt) {
                 return share(&kept.block);
             }
@@ -136,7 +137,7 @@ impl<N: Naming, S: Shelf> Blocks<N, S> for Cached<N, S> {
             block: shared,
             of: PhantomData,
         };
-        blocks.keep(key, kept);
+        blocks.keep(key, kept, size);
         Ok(block)
     }
 

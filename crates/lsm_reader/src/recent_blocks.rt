@@ -1,9 +1,7 @@
 //! The blocks that were used last.
 
 use crate::block_key::BlockKey;
-use crate::kept_block::KeptBlock;
 use lru::LruCache;
-use lsm_table::{Naming, Shelf};
 use std::alloc::{AllocError, Global};
 use std::num::NonZeroUsize;
 
@@ -11,31 +9,26 @@ use std::num::NonZeroUsize;
 /// `include/leveldb/options.h`).
 const USUAL_BLOCK: u64 = 4096;
 
+/// A block that is kept, and how many bytes it takes.
+#[derive(Drop)]
+pub(crate) struct Measured<V: Drop> {
+    pub(crate) kept: V,
+    bytes: u64,
+}
+
 /// The blocks that were used last: so many at most, and together at most as many bytes as that many
 /// usual blocks have. So large blocks take no more memory than small ones.
-pub(crate) struct RecentBlocks<N: Naming, S: Shelf> {
-    pub(crate) blocks: LruCache<BlockKey, KeptBlock<N, S>>,
+#[derive(Drop)]
+pub(crate) struct RecentBlocks<V: Drop> {
+    pub(crate) blocks: LruCache<BlockKey, Measured<V>>,
     bytes: u64,
     most: u64,
 }
 
-impl<N: Naming, S: Shelf> Drop for RecentBlocks<N, S> {
-    fn drop(self) {
-        let Self {
-            blocks: _,
-            bytes: _,
-            most: _,
-        } = self;
-    }
-}
-
-impl<N: Naming, S: Shelf> RecentBlocks<N, S> {
+impl<V: Drop> RecentBlocks<V> {
     /// None yet, and room for so many. It asks for the memory of a block when that comes.
     /// `AllocError` where a growth was refused.
-    pub(crate) fn new(
-        alloc: Global,
-        blocks: NonZeroUsize,
-    ) -> Result<RecentBlocks<N, S>, AllocError> {
+    pub(crate) fn new(alloc: Global, blocks: NonZeroUsize) -> Result<RecentBlocks<V>, AllocError> {
         Ok(RecentBlocks {
             blocks: LruCache::sparse(alloc, blocks)?,
             bytes: 0,
@@ -43,11 +36,11 @@ impl<N: Naming, S: Shelf> RecentBlocks<N, S> {
         })
     }
 
-    /// Keeps the block, unless a growth is refused, in the place of those that were used longest
-    /// ago.
-    pub(crate) fn keep(&mut self, key: BlockKey, kept: KeptBlock<N, S>) {
-        self.bytes = self.bytes.saturating_add(kept.handle.size);
-        match self.blocks.push(key, kept) {
+    /// Keeps a block of so many bytes, unless a growth is refused, in the place of those that were
+    /// used longest ago.
+    pub(crate) fn keep(&mut self, key: BlockKey, kept: V, bytes: u64) {
+        self.bytes = self.bytes.saturating_add(bytes);
+        match self.blocks.push(key, Measured { kept, bytes }) {
             Ok(None) => {}
             Ok(Some((_, gone))) => self.forget(&gone),
             Err(refused) => {
@@ -66,7 +59,7 @@ impl<N: Naming, S: Shelf> RecentBlocks<N, S> {
     }
 
     /// A block is kept no more.
-    fn forget(&mut self, gone: &KeptBlock<N, S>) {
-        self.bytes = self.bytes.saturating_sub(gone.handle.size);
+    fn forget(&mut self, gone: &Measured<V>) {
+        self.bytes = self.bytes.saturating_sub(gone.bytes);
     }
 }
