@@ -1,5 +1,6 @@
 -- Options with a reader for each channel are in range.
-use Rattle.std.proofs.Common.{ℕ, ◌≤◌, arith}
+use Rattle.std.proofs.Common.{ℕ, ◌≤◌, ◌/◌, arith}
+use Rattle.std.proofs.Math.Nat.{div-le_self, le-max_right, max-le}
 use Rattle.lsm_state.specs.Options.{Fits}
 use Rattle.lsm_channels.specs.Starting.{options_for}
 
@@ -14,8 +15,8 @@ options_fit channels some few = record {
   others = record {
     target_least = omega arith;
     target_most = omega arith;
-    cache_least = omega arith;
-    cache_most = omega arith;
+    cache_least = (let a = le-max_right (2048 / channels) 64 in omega arith);
+    cache_most = max-le (let a = div-le_self 2048 channels in omega arith) (omega arith);
     manifest_least = omega arith;
     manifest_most = omega arith;
   };

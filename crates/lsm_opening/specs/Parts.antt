@@ -8,8 +8,8 @@ use Rattle.lsm_state.specs.Making.{IsNewBoard, IsNewHistory}
 use Rattle.lsm_state.specs.Options.{Fits}
 use Rattle.lsm_state.specs.declared.options.Options.{Options}
 
--- LevelDB's sizes, 64 slots, 4 readers, 64 cached blocks, and manifests of 64 KiB, or of twice what a
--- whole one has
+-- LevelDB's sizes, 64 slots, 4 readers with caches of 512 blocks, and manifests of 64 KiB, or of
+-- twice what a whole one has
 abbrev pub usual : Options
 usual = record {
   block_size = 4096;
@@ -17,14 +17,14 @@ usual = record {
   target_size = 2097152;
   versions = 64;
   readers = 4;
-  cache_blocks = 64;
+  cache_blocks = 512;
   manifest_limit = 65536;
   manifest_grows = true;
 }
 
--- the same with manifests of 1 MiB
+-- what scripts are played with: caches of 64 blocks, and manifests of 1 MiB
 abbrev pub plain : Options
-plain = record usual { manifest_limit = 1048576; manifest_grows = false }
+plain = record usual { cache_blocks = 64; manifest_limit = 1048576; manifest_grows = false }
 
 -- What contracts see of parts that have no name yet: the options that they fit, and for what a
 -- name of theirs will stand.

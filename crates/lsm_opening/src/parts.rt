@@ -76,7 +76,7 @@ impl<S: Shelf> NewParts<S> {
     pub fn make(alloc: Global) -> Result<NewParts<S>, AllocError>
         ensures options { IfOk result (λ p. p.options ≡ usual) }
     {
-        NewParts::with(alloc, Options::with_growing_manifests())
+        NewParts::with(alloc, Options::for_programs())
     }
 
     /// The same under the name that stands for them. `AllocError` where a growth was refused.
