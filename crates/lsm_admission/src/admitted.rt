@@ -11,8 +11,9 @@ ghost use Rattle.lsm_admission.specs.Keeping.{KeepsTables};
 use crate::admitting::admit;
 use crate::next_number::next_free;
 use lsm_finding::Finding;
-use lsm_journal::{Journal, ManifestLimit, OpenFault, RecoverFault, Recovered};
-use lsm_journal::recovered_is_recorded;
+use lsm_journal::{
+    Journal, ManifestLimit, OpenFault, RecoverFault, Recovered, recovered_is_recorded,
+};
 use lsm_table::{NamedShelf, Naming, Registry, Shelf};
 use lsm_version::Version;
 use std::alloc::Global;

@@ -16,6 +16,7 @@ use Rattle.lsm_shelf.specs.Told.{Told, Becomes, finding, listing}
 use Rattle.lsm_shelf.proofs.CallerLemmas.{becomes_then}
 use Rattle.lsm_storage.specs.declared.file.file_shelf.FileShelf.{FileShelf}
 use Rattle.lsm_version.specs.Versions.{Levels}
+use Rattle.lsm_journal.specs.declared.manifest_limit.ManifestLimit.{ManifestLimit}
 use Rattle.lsm_journal.specs.Finding.{IsFound, IsWithoutRoom}
 use Rattle.lsm_journal.specs.HeldManifest.{HeldManifest}
 use Rattle.lsm_journal.specs.Recovering.{IsRecovered, IsRecoverRefusal}
@@ -66,7 +67,6 @@ use Rattle.lsm_cmd_read.proofs.ReadingOutcomes.{counted_from, found_held, holds_
 use Rattle.lsm_cmd_read.proofs.ReadingOutcomes.{recover_reads}
 use Rattle.lsm_cmd_read.proofs.LookedLaws.{looks_quiet}
 use Rattle.lsm_table.proofs.CallerLemmas.{read_counted_later}
-use Rattle.lsm_journal.specs.declared.manifest_limit.ManifestLimit.{ManifestLimit}
 
 -- ---- what is admitted
 

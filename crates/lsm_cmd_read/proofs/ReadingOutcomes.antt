@@ -13,6 +13,7 @@ use Rattle.lsm_table.specs.declared.read_fault.ReadFault.{ReadFault}
 use Rattle.lsm_table.specs.declared.read_fault.ReadFault.TheVariants.{Shelf as ShelfOfRead}
 use Rattle.lsm_table.specs.declared.read_fault.ReadFault.TheVariants.{Table as TableOfRead}
 use Rattle.lsm_table.proofs.CallerLemmas.{read_counted_later}
+use Rattle.lsm_journal.specs.declared.manifest_limit.ManifestLimit.{ManifestLimit}
 use Rattle.lsm_journal.specs.Finding.{IsFindRefusal, IsFound}
 use Rattle.lsm_journal.specs.HeldManifest.{HeldManifest}
 use Rattle.lsm_journal.specs.Recovering.{IsRecoverRefusal}
@@ -40,7 +41,6 @@ use Rattle.lsm_directory.specs.declared.folder.beside.Beside.{Beside}
 use Rattle.lsm_directory.specs.declared.folder.named_manifest.NamedManifest.{NamedManifest}
 use Rattle.lsm_directory.specs.declared.faults.directory_fault.DirectoryFault.{DirectoryFault}
 use Rattle.lsm_directory.specs.declared.faults.directory_fault.DirectoryFault.TheVariants.{
-use Rattle.lsm_journal.specs.declared.manifest_limit.ManifestLimit.{ManifestLimit}
   OutOfMemory,
   Write,
   Shelf,

@@ -2,10 +2,10 @@
 use Rattle.std.specs.Prelude.{◌≡◌, ◌⊎◌, ℕ, List, All}
 use Rattle.lsm_shelf.specs.Told.{Told, Becomes, finding, listing}
 use Rattle.lsm_version.specs.Versions.{Levels}
+use Rattle.lsm_journal.specs.declared.manifest_limit.ManifestLimit.{ManifestLimit}
 use Rattle.lsm_journal.specs.Finding.{IsFound}
 use Rattle.lsm_journal.specs.HeldManifest.{HeldManifest}
 use Rattle.lsm_directory.specs.declared.folder.named_manifest.NamedManifest.{NamedManifest}
-use Rattle.lsm_journal.specs.declared.manifest_limit.ManifestLimit.{ManifestLimit}
 
 -- Between these moments the shelf was asked for its manifest at most, then to list its tables at
 -- most, and else for nothing but tables: it put no table, was asked to remove none, and began and

@@ -7,6 +7,7 @@ use Rattle.lsm_shelf.specs.Asked.{Asked}
 use Rattle.lsm_shelf.specs.declared.shelf_fault.ShelfFault.{ShelfFault}
 use Rattle.lsm_shelf.specs.Told.{Told}
 use Rattle.lsm_version.specs.Versions.{Levels}
+use Rattle.lsm_journal.specs.declared.manifest_limit.ManifestLimit.{ManifestLimit}
 use Rattle.lsm_journal.specs.HeldManifest.{HeldManifest}
 use Rattle.lsm_journal.specs.declared.open_fault.OpenFault.{OpenFault}
 use Rattle.lsm_admission.specs.Admitted.{IsAdmitted, IsOpenRefusal}
@@ -26,7 +27,6 @@ use Rattle.lsm_directory.specs.declared.folder.named_manifest.NamedManifest.{Nam
 use Rattle.lsm_cmd_read.specs.Answers.{Asking, IsPerformFault, IsQuiet, Moment, Prints}
 use Rattle.lsm_cmd_read.specs.Answers.{PrintsBefore, ReliesOn}
 use Rattle.lsm_cmd_read.specs.Directory.{AreGiven, Holds}
-use Rattle.lsm_journal.specs.declared.manifest_limit.ManifestLimit.{ManifestLimit}
 
 -- ---- which lines may be quick
 

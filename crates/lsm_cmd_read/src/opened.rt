@@ -51,7 +51,15 @@ pub fn open<N: Naming, S: Shelf, R: Threads + Wait + Sync, W: Watch + Sync>(
     ensures reads { OnlyReads shelf.old shelf.new }
 {
     // A journal that nothing is sent through has no use for its limit.
-    let found = Found::read_by(rt, alloc, shelf, registry, ManifestLimit::none(), shelves, watch)?;
+    let found = Found::read_by(
+        rt,
+        alloc,
+        shelf,
+        registry,
+        ManifestLimit::none(),
+        shelves,
+        watch,
+    )?;
     tables_are_given(&found.version);
     Ok(Opened {
         version: found.version,

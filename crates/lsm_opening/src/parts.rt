@@ -138,3 +138,18 @@ pub(crate) fn usual_parts<N: Boarded, S: Shelf>(
         Err(_) => Err(WriterFault::OutOfMemory),
     }
 }
+
+/// The parts, under the name that stands for them.
+pub(crate) fn named_parts<N: Boarded, S: Shelf>(
+    alloc: Global,
+    parts: NewParts<S>,
+) -> Result<Parts<N, S>, WriterFault>
+    requires named { AreOf parts.options N.registry N.board N.history parts }
+    ensures options { IfOk result (λ p. p ≡ parts.options) }
+    ensures memory { IfErr result (λ e. e ≡ OutOfMemory) }
+{
+    match parts.named(alloc) {
+        Ok(parts) => Ok(parts),
+        Err(_memory) => Err(WriterFault::OutOfMemory),
+    }
+}

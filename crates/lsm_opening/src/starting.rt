@@ -13,7 +13,7 @@ ghost use Rattle.lsm_shelf.specs.Stored.{Stored};
 ghost use Rattle.lsm_store.specs.Readers.{SeatsPinners};
 
 use crate::faults::writer_fault::WriterFault;
-use crate::parts::{NewParts, Parts, usual_parts};
+use crate::parts::{NewParts, Parts, named_parts, usual_parts};
 use crate::prepared::{Prepared, Start};
 use lsm_directory::{DirectoryFault, FolderFile, first_unread};
 use lsm_journal::{Journal, ManifestLimit};
@@ -218,10 +218,7 @@ pub fn start_with<N: Boarded, S: Shelf, R: Wait>(
         (S.refuses N.place) S.honest parts.options prepared.now.start prepared.now.logs.items e
         shelf.old shelf.new) }
 {
-    let parts = match parts.named(alloc) {
-        Ok(parts) => parts,
-        Err(_) => return Err(WriterFault::OutOfMemory),
-    };
+    let parts = named_parts(alloc, parts)?;
     match start_named(rt, alloc, shelf, prepared, parts) {
         Ok(state) => Ok(state),
         Err(fault) => Err(fault),
@@ -287,10 +284,7 @@ pub fn begin_with<N: Boarded, S: Shelf, R: Wait>(
     ensures refused { IfErr result (λ e.
         IsBeginRefusal number (S.refuses N.place) e shelf.old shelf.new) }
 {
-    let parts = match parts.named(alloc) {
-        Ok(parts) => parts,
-        Err(_) => return Err(WriterFault::OutOfMemory),
-    };
+    let parts = named_parts(alloc, parts)?;
     match create(rt, alloc, shelf, number, parts) {
         Ok(state) => Ok(state),
         Err(fault) => Err(fault),
