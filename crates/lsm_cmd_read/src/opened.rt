@@ -51,15 +51,8 @@ pub fn open<N: Naming, S: Shelf, R: Threads + Wait + Sync, W: Watch + Sync>(
     ensures reads { OnlyReads shelf.old shelf.new }
 {
     // A journal that nothing is sent through has no use for its limit.
-    let found = Found::read_by(
-        rt,
-        alloc,
-        shelf,
-        registry,
-        ManifestLimit::none(),
-        shelves,
-        watch,
-    )?;
+    let limit = ManifestLimit::none();
+    let found = Found::read_by(rt, alloc, shelf, registry, limit, shelves, watch)?;
     tables_are_given(&found.version);
     Ok(Opened {
         version: found.version,
