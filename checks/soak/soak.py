@@ -53,11 +53,10 @@ MOST = {
 }
 
 # Bytes on the disk for one of LevelDB's, while no program calls anything that removes: at rest behind
-# the writes, once the database was opened twice more, and in the midst of the writes, where 1 MiB more
-# is let be, since little is there at first. So it is at rest behind single puts: each of these sizes
-# leaves as many bytes in the manifest as in its table, until that is followed at 1 MiB. The manifest
-# that was followed is gone at once.
-AT_REST, OPENED, IN_THE_MIDST, MORE = 1.3, 1.3, 2, 1 << 20
+# the writes, once the database was opened twice more, and in the midst of the writes, where 64 KiB more
+# is let be, since little is there at first: so many bytes a manifest comes to before it is followed, and
+# to twice what a whole one has, where that is more. The manifest that was followed is gone at once.
+AT_REST, OPENED, IN_THE_MIDST, MORE = 1.3, 1.3, 2, 64 << 10
 
 
 def mixed(x):
@@ -352,7 +351,7 @@ class Writer:
         print(
             f"{self.name}: {self.count} puts, {sum(took) / self.all * 1e6:.0f} us each, of 100 batches one"
             f" {slow * 1e3:.0f} ms, the worst {took[-1] * 1e3:.0f}; {tables} tables of {total} bytes; disk {disk},"
-            f" {rest:.2f} of LevelDB's, before at most {midst:.2f} of LevelDB's and 0.5 MiB;"
+            f" {rest:.2f} of LevelDB's, before at most {midst:.2f} of LevelDB's and 32 KiB;"
             f" {manifests(self.shell.folder)} manifests; {memory >> 10} KiB of memory; written {each:.1f} a byte,"
             f" {ratio:.2f} of LevelDB's",
             flush=True,
@@ -363,7 +362,7 @@ class Writer:
         for our, their in looks:
             if our >= IN_THE_MIDST * their + MORE:
                 bad.append(f"in the midst it had {our} bytes on the disk, LevelDB {their}")
-        if disk >= AT_REST * theirs + (MORE if self.batch == 1 else 0):
+        if disk >= AT_REST * theirs:
             bad.append(f"at rest it has {disk} bytes on the disk, LevelDB {theirs}")
         if manifests(self.shell.folder) != 1:
             bad.append("it has other manifests than its own")
@@ -486,7 +485,7 @@ def main():
     full, each, ratio, midst, rest, slow, memory = worst_of
     print(
         f"{rounds} rounds of {len(writers)} writers: tables at most {full:.2f} of their bound; written at most {each:.1f} a byte"
-        f" and {ratio:.1f} times LevelDB's; disk at most {midst:.2f} times LevelDB's and 0.5 MiB in the midst, {rest:.2f} times"
+        f" and {ratio:.1f} times LevelDB's; disk at most {midst:.2f} times LevelDB's and 32 KiB in the midst, {rest:.2f} times"
         f" LevelDB's at rest; of 100 batches one at most {slow * 1e3:.0f} ms; {memory >> 20} MiB of memory"
     )
     return 1 if bad else 0
