@@ -1,6 +1,6 @@
 //! The sizes and counts that a database is run with.
 
-ghost use Rattle.std.specs.Prelude.{◌≡◌, ◌↔◌, IsTrue};
+ghost use Rattle.std.specs.Prelude.{◌≡◌, ◌↔◌, IsTrue, false, true};
 ghost use Rattle.lsm_state.specs.Options.{Fits, HasSizes, SeatsReaders, limit_of, sizes_of};
 
 use lsm_journal::ManifestLimit;

@@ -7,7 +7,7 @@ use Rattle.lsm_state.proofs.state.State.open_to_read_by.Goals as goal
 use Rattle.lsm_state.specs.Options.{limit_of}
 
 pub of_found-requires-clause-found : goal.of_found-requires-clause-found
-of_found-requires-clause-found g c κs within = (c.args.shelf.now, (c.read_by.new.shelf, c.in_ok-found.ensures.found))
+of_found-requires-clause-found g c κs within = (c.args.shelf.now, (c.read_by.new.shelf, rw c.limit.ensures at c.in_ok-found.ensures.found))
 
 pub returns-in_err-state-clause-refused : goal.returns-in_err-state-clause-refused
 returns-in_err-state-clause-refused g c =
@@ -18,4 +18,4 @@ returns-in_err-state-clause-refused g c =
 pub returns-clause-found : goal.returns-clause-found
 returns-clause-found g c =
     let f = c.in_ok-found.found in
-    (f.rest, subst (λ (x : Held). IsFound g.S.Shelf.honest (limit_of c.args.options) x.journal x.slots.version f.rest x.next c.args.shelf.now c.read_by.new.shelf) (sym c.in_ok-state.ensures) c.in_ok-found.ensures.found)
+    (f.rest, subst (λ (x : Held). IsFound g.S.Shelf.honest (limit_of c.args.options) x.journal x.slots.version f.rest x.next c.args.shelf.now c.read_by.new.shelf) (sym c.in_ok-state.ensures) (rw c.limit.ensures at c.in_ok-found.ensures.found))
