@@ -72,7 +72,8 @@ impl<S: Shelf> NewParts<S> {
         })
     }
 
-    /// For the options of a program that keeps a database for long. `AllocError` where a growth was refused.
+    /// For the options of a program that keeps a database for long. `AllocError` where a growth was
+    /// refused.
     pub fn make(alloc: Global) -> Result<NewParts<S>, AllocError>
         ensures options { IfOk result (λ p. p.options ≡ usual) }
     {
