@@ -19,6 +19,12 @@ pub is_refused : {T : Type 0} (r : Result T WriterFault) (status : ℕ) (Stored 
 is_refused (Ok x) status Stored Refused Honest start logs ws was is old new ok err says left other = absurd (other ok)
 is_refused (Err e) status Stored Refused Honest start logs ws was is old new ok err says left other = (err, (e, record { says = says; left = left }))
 
+-- what was done, where the status is 0
+pub done_by : {T F : Type 0} (r : Result T F) (status : ℕ) (Done : Type 0)
+    → OnOk r (status ≡ 0) → OnErr r (status ≡ 1) → OnOk r Done → status ≡ 0 → Done
+done_by (Ok x) status Done ok err done zero = done
+done_by (Err e) status Done ok err done zero = absurd cc
+
 pub keeps_itself : (x : Option (List ℕ)) → Keeps x x
 keeps_itself None = tt
 keeps_itself (Some xs) = refl

@@ -10,6 +10,6 @@ returns-clause-kept g c =
     record {
       version = c.in_ok-found.found.version;
       next = _;
-      found = c.in_ok-found.ensures.found;
+      found = rw c.none.ensures at c.in_ok-found.ensures.found;
       all = subst (λ (ns : List ℕ). (n : ℕ) → Has c.in_ok-tables.tables.items n ↔ Has ns n) numbers c.in_ok-tables.ensures.all;
     }
