@@ -12,20 +12,20 @@ _lsm() {
     dump) options='--help' places='FILE' ;;
     manifest) options='--help' places='FILE' ;;
     script) options='--help' places='FILE' ;;
-    check) options='--workers --strict --compare --progress --help' places='DIR' ;;
-    list) options='--text --quick --strict --compare --help' places='DIR' ;;
+    check) options='--workers --strict --compare --progress --wait --help' places='DIR' ;;
+    list) options='--text --quick --strict --compare --wait --help' places='DIR' ;;
     levels) options='--text --files --svg --strict --help' places='DIR' ;;
-    get) options='--text --raw --exists --quick --strict --compare --help' places='DIR KEY' ;;
-    scan) options='--from --to --prefix --limit --text --keys --json --count --quick --strict --compare --progress --help' places='DIR' ;;
-    ingest) options='--text --begin --beside-log --recover --compare --help' places='DIR FILE' ;;
-    put) options='--text --begin --beside-log --recover --compare --help' places='DIR KEY VALUE' ;;
-    delete) options='--text --begin --beside-log --recover --compare --help' places='DIR KEY' ;;
-    load) options='--text --begin --beside-log --recover --workers --from-line --last-line --compare --progress --help' places='DIR FILE' ;;
+    get) options='--text --raw --exists --quick --strict --compare --wait --help' places='DIR KEY' ;;
+    scan) options='--from --to --prefix --limit --text --keys --json --count --quick --strict --compare --progress --wait --help' places='DIR' ;;
+    ingest) options='--text --begin --beside-log --recover --compare --wait --help' places='DIR FILE' ;;
+    put) options='--text --begin --beside-log --recover --compare --wait --help' places='DIR KEY VALUE' ;;
+    delete) options='--text --begin --beside-log --recover --compare --wait --help' places='DIR KEY' ;;
+    load) options='--text --begin --beside-log --recover --workers --from-line --last-line --compare --progress --wait --help' places='DIR FILE' ;;
     import) options='--compare --help' places='SRC DST' ;;
-    recover) options='--compare --help' places='DIR' ;;
-    compact) options='--all --from --to --text --workers --accept-rest --compare --progress --help' places='DIR' ;;
-    clean) options='--accept-rest --help' places='DIR' ;;
-    shell) options='--text --begin --beside-log --recover --workers --bail --compare --help' places='DIR' ;;
+    recover) options='--compare --wait --help' places='DIR' ;;
+    compact) options='--all --from --to --text --workers --accept-rest --compare --progress --wait --help' places='DIR' ;;
+    clean) options='--accept-rest --wait --help' places='DIR' ;;
+    shell) options='--text --begin --beside-log --recover --workers --bail --compare --wait --help' places='DIR' ;;
     bench) options='--benchmarks --num --value-size --workers --help' places='DIR' ;;
     help) options='--help' places='COMMAND' ;;
     *) return ;;
@@ -33,7 +33,7 @@ _lsm() {
   for ((index = 2; index < COMP_CWORD; index++)); do
     word=${COMP_WORDS[index]}
     case $word in
-      --benchmarks|--from|--from-line|--limit|--num|--prefix|--to|--value-size|--workers)
+      --benchmarks|--from|--from-line|--limit|--num|--prefix|--to|--value-size|--wait|--workers)
         # Bash takes `=` for a word of its own.
         ((index++))
         [[ ${COMP_WORDS[index]-} != = ]] || ((index++))

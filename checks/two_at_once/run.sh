@@ -4,9 +4,11 @@
 # refused is `52 Locked` and left nothing, and a scan that was not refused printed just what is
 # there. Then a reader that holds the folder beside a reader and beside a compaction, and a live
 # LevelDB that has it open, beside each command: all but `52 Locked` is a difference, and once it is
-# closed all are done; but `levels`, which asks for no lock, is done each time. Then the folder of a
-# shell is moved away and another gets its path: what the shell answers is in the first, and the
-# other is as it was. Needs g++ and libleveldb-dev. LSM=/path/to/lsm names a built program.
+# closed all are done; but `levels`, which asks for no lock, is done each time. Then commands with
+# `--wait 10` beside a shell that ends after a second, which are done, and with `--wait 1` beside one
+# that ends later, which are refused 52 once the second is over. Then the folder of a shell is moved
+# away and another gets its path: what the shell answers is in the first, and the other is as it
+# was. Needs g++ and libleveldb-dev. LSM=/path/to/lsm names a built program.
 set -euo pipefail
 here=$(cd "$(dirname "$0")" && pwd)
 work=$(mktemp -d)
@@ -124,6 +126,33 @@ exec 3<&-
 wait
 holds big.list
 echo "beside a reader: reading commands are done, writing ones refused 52"
+
+pair="a lock that is waited for"
+put_back
+cp old.list wanted
+held_for() { # SECONDS: a shell holds the folder for so long
+  rm -f told
+  { echo "get a11"; sleep "$1"; } | "$program" shell db --text > told 2> err &
+  until [[ -s told ]]; do kill -0 $! 2> /dev/null || stop "no shell holds the folder: $(cat err)"; sleep 0.05; done
+}
+for command in "check db" "get db a11 --text" "put db x1 1 --text" "compact db"; do
+  held_for 1
+  lsm one $command --wait 10
+  is_done one || stop "$command is refused"
+  wait
+done
+echo "x1=1" >> wanted
+for command in "scan db" "put db x2 2 --text"; do
+  held_for 4
+  begun=$(date +%s%N)
+  lsm one $command --wait 1
+  took=$((($(date +%s%N) - begun) / 1000000))
+  if is_done one; then stop "$command is done beside the shell"; fi
+  [[ $took -ge 1000 && $took -lt 3000 ]] || stop "$command is refused after $took ms"
+  wait
+done
+holds wanted
+echo "a lock that is waited for: commands with --wait are done once it is free, else refused 52 in time"
 
 pair="a folder that is moved"
 put_back

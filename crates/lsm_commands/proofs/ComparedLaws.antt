@@ -1,6 +1,5 @@
 -- What a command shows whose reads were compared.
 use Rattle.std.proofs.Common.{◌≡◌, ℕ, List, Option, Bool, false, true, inl, inr}
-use Rattle.std.proofs.Common.{ap, sym, subst, ◌∙◌}
 use Rattle.clap.specs.Words.{Text}
 use Rattle.lsm_folder.specs.Calls.{AreHonest}
 use Rattle.lsm_folder.specs.declared.folder_calls.FolderCalls.{Ghosts}
@@ -23,7 +22,7 @@ use Rattle.lsm_grammar.specs.declared.request.Request.TheVariants.{Convert, Look
 use Rattle.lsm_grammar.specs.declared.request.Request.TheVariants.{Write as WriteFolder, Load}
 use Rattle.lsm_grammar.specs.declared.request.Request.TheVariants.{Import, Recover, Compact}
 use Rattle.lsm_grammar.specs.declared.request.Request.TheVariants.{Script, Shell, Bench}
-use Rattle.lsm_grammar.specs.Requests.{Asks, manner_of}
+use Rattle.lsm_grammar.specs.Requests.{Asks, IsMannerOf}
 use Rattle.lsm_grammar.specs.declared.manner.Manner.{Manner}
 use Rattle.lsm_commands.specs.Compared.{AreCompared, ShowsTheTruth, Tells}
 use Rattle.lsm_commands.specs.Run.{AreFollowed, AreUnfollowed, IsDone, IsFollowed, IsUnfollowed}
@@ -77,19 +76,18 @@ module _ {C M : Type 0} (folders : Ghosts C M) (marks : mark.Ghosts M)
 module _ {C M : Type 0} (folders : Ghosts C M) (marks : mark.Ghosts M)
     (holds : Place → (name image : List ℕ) → Type 0) (compares : Bool)
     (text : Input → Option (List ℕ)) (words : List Text) (request : Request) (manner : Manner)
-    (line : Asks request words × (manner ≡ manner_of words)) (so : manner.compares ≡ compares) where
+    (line : Asks request words × IsMannerOf words manner) (so : manner.compares ≡ compares) where
   -- what was done in a manner was done in that of the words
   pub followed : (old new said_old said_new : Option (List ℕ))
       → IsFollowed folders marks holds text request manner old new said_old said_new
       → AreFollowed folders marks holds compares text words old new said_old said_new
   followed old new said_old said_new done = record {
     request = request;
+    manner = manner;
     asked = line.0;
-    compared = ap (λ m. m.compares) (sym line.1) ∙ so;
-    followed = subst
-        (λ m. IsFollowed folders marks holds text request m old new said_old said_new)
-        line.1
-        done;
+    how = line.1;
+    compared = so;
+    followed = done;
   }
 
   -- and what was not
@@ -98,15 +96,17 @@ module _ {C M : Type 0} (folders : Ghosts C M) (marks : mark.Ghosts M)
       → AreUnfollowed folders marks holds compares text words old new
   unfollowed old new undone = record {
     request = request;
+    manner = manner;
     asked = line.0;
-    compared = ap (λ m. m.compares) (sym line.1) ∙ so;
-    undone = subst (λ m. IsUnfollowed folders marks holds text request m old new) line.1 undone;
+    how = line.1;
+    compared = so;
+    undone = undone;
   }
 
 module _ {C M : Type 0} (folders : Ghosts C M) (marks : mark.Ghosts M)
     (holds : Place → (name image : List ℕ) → Type 0) (honest : AreHonest folders.calls)
     (text : Input → Option (List ℕ)) (words : List Text) (request : Request) (manner : Manner)
-    (line : Asks request words × (manner ≡ manner_of words)) (so : manner.compares ≡ true) where
+    (line : Asks request words × IsMannerOf words manner) (so : manner.compares ≡ true) where
   -- what was done and compared is so
   pub compared : (old new said_old said_new : Option (List ℕ))
       → IsFollowed folders marks holds text request manner old new said_old said_new

@@ -1,3 +1,4 @@
 -- What public clauses cite, and so what a caller reads
+pub mod Waiting
 pub mod Run
 pub mod Compared

@@ -10,7 +10,7 @@ use Rattle.lsm_folder.specs.declared.folder_calls.FolderCalls.{Ghosts}
 use Rattle.lsm_folder.specs.declared.mark.Mark as mark
 use Rattle.lsm_shelf.specs.Place.{Place}
 use Rattle.lsm_text.specs.Printing.{Begins}
-use Rattle.lsm_grammar.specs.Requests.{AskHelp, AskNothing, Asks, HaveUsageFault, manner_of}
+use Rattle.lsm_grammar.specs.Requests.{AskHelp, AskNothing, Asks, HaveUsageFault, IsMannerOf}
 use Rattle.lsm_requests.specs.declared.input.Input.{Input}
 use Rattle.lsm_requests.specs.declared.input.Input.TheVariants.{Standard}
 use Rattle.lsm_grammar.specs.declared.manner.Manner.{Manner}
@@ -131,9 +131,11 @@ module _ {C M : Type 0} (folders : Ghosts C M) (marks : mark.Ghosts M)
   pub record AreFollowed (compares : Bool) (text : Input → Option (List ℕ)) (words : List Text)
       (old new said_old said_new : Option (List ℕ)) : Type 0 where
     pub request : Request
+    pub manner : Manner
     pub asked : Asks request words
-    pub compared : (manner_of words).compares ≡ compares
-    pub followed : IsFollowed text request (manner_of words) old new said_old said_new
+    pub how : IsMannerOf words manner
+    pub compared : manner.compares ≡ compares
+    pub followed : IsFollowed text request manner old new said_old said_new
 
 -- They ask for help, which was written, and nothing was on standard error.
 abbrev pub AreHelped : List Text → (old new said_old said_new : Option (List ℕ)) → Type 0
@@ -191,9 +193,11 @@ module _ {C M : Type 0} (folders : Ghosts C M) (marks : mark.Ghosts M)
   pub record AreUnfollowed (compares : Bool) (text : Input → Option (List ℕ)) (words : List Text)
       (old new : Option (List ℕ)) : Type 0 where
     pub request : Request
+    pub manner : Manner
     pub asked : Asks request words
-    pub compared : (manner_of words).compares ≡ compares
-    pub undone : IsUnfollowed text request (manner_of words) old new
+    pub how : IsMannerOf words manner
+    pub compared : manner.compares ≡ compares
+    pub undone : IsUnfollowed text request manner old new
 
 -- They ask for help, of which a beginning was written; or memory ran out before they were read.
 abbrev pub AreUnhelped : List Text → (old new : Option (List ℕ)) → Type 0

@@ -11,5 +11,8 @@
 // What words ask is done.
 mod running;
 
+// Before that, where they ask to, a lock is waited for.
+mod waiting;
+
 pub use lsm_cmd_convert::{Watched, convert, read_script, script};
 pub use running::{refuse_words, run};

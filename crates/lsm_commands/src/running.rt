@@ -12,6 +12,7 @@ ghost use Rattle.lsm_commands.specs.Run.{IsUnfollowed, IsUnwritten, IsWritten, S
 ghost use Rattle.lsm_commands.specs.Run.{opened_by};
 ghost use Rattle.lsm_requests.specs.Inputs.{text_in};
 
+use crate::waiting::awaited;
 use lsm_cmd_bench::run_bench;
 use lsm_cmd_compact::run_compact;
 use lsm_cmd_convert::{run_convert, run_script};
@@ -205,7 +206,8 @@ where
 }
 
 /// Does what a request asks, behind the logs of its folder where they are to come in first, and
-/// answers the exit status.
+/// answers the exit status. Before that the lock of its folder is waited for, where that is asked
+/// for, and let go: in between another program may take it.
 fn follow<C, P, R, I, O, E>(
     rt: &R,
     paths: &P,
@@ -230,6 +232,9 @@ where
         (text_in (I.remaining input) (P.text paths.now)) request.now manner (O.contents out.old)
         (O.contents out.new) }
 {
+    if let Some(seconds) = manner.waits {
+        drop(awaited(rt, paths, request, seconds));
+    }
     let first = bring_logs(rt, paths, request, manner.recovers, err);
     if first != 0 {
         return first;

@@ -41,6 +41,10 @@ verifiers = record (valued (codes "workers")) { parser = Some (parser.Unsigned 1
 abbrev pub compactors : Rule
 compactors = record (valued (codes "workers")) { parser = Some (parser.Unsigned 1 16) }
 
+-- `--wait SECONDS`, 1 to 3600
+abbrev pub wait : Rule
+wait = record (valued (codes "wait")) { parser = Some (parser.Unsigned 1 3600) }
+
 -- `--from-line I`, a number below 2^64 and above 0, which is 1 where it is left out
 abbrev pub from_line : Rule
 from_line = record (valued (codes "from-line")) {
@@ -149,10 +153,10 @@ unfoldable pub script : App
 script = command (codes "script") (file ∷ [])
 
 unfoldable pub check : App
-check = command (codes "check") (folder ∷ verifiers ∷ strict ∷ compare ∷ progress ∷ [])
+check = command (codes "check") (folder ∷ verifiers ∷ strict ∷ compare ∷ progress ∷ wait ∷ [])
 
 unfoldable pub list : App
-list = command (codes "list") (folder ∷ text ∷ quick ∷ strict ∷ compare ∷ [])
+list = command (codes "list") (folder ∷ text ∷ quick ∷ strict ∷ compare ∷ wait ∷ [])
 
 unfoldable pub levels : App
 levels = command (codes "levels")
@@ -161,48 +165,49 @@ levels = command (codes "levels")
 unfoldable pub get : App
 get = command (codes "get")
     (folder ∷ key ∷ text ∷ flag (codes "raw") ∷ flag (codes "exists") ∷ quick ∷ strict ∷ compare
-    ∷ [])
+    ∷ wait ∷ [])
 
 unfoldable pub scan : App
 scan =
     command (codes "scan")
     (folder ∷ valued (codes "from") ∷ valued (codes "to") ∷ valued (codes "prefix") ∷ limit ∷ text
     ∷ flag (codes "keys") ∷ flag (codes "json")
-    ∷ flag (codes "count") ∷ quick ∷ strict ∷ compare ∷ progress ∷ [])
+    ∷ flag (codes "count") ∷ quick ∷ strict ∷ compare ∷ progress ∷ wait ∷ [])
 
 unfoldable pub ingest : App
 ingest = command (codes "ingest")
-    (folder ∷ word (codes "FILE") ∷ text ∷ begin ∷ beside_log ∷ recovers ∷ compare ∷ [])
+    (folder ∷ word (codes "FILE") ∷ text ∷ begin ∷ beside_log ∷ recovers ∷ compare ∷ wait ∷ [])
 
 unfoldable pub put : App
 put = command (codes "put")
-    (folder ∷ key ∷ word (codes "VALUE") ∷ text ∷ begin ∷ beside_log ∷ recovers ∷ compare ∷ [])
+    (folder ∷ key ∷ word (codes "VALUE") ∷ text ∷ begin ∷ beside_log ∷ recovers ∷ compare ∷ wait
+    ∷ [])
 
 unfoldable pub delete : App
 delete = command (codes "delete")
-    (folder ∷ key ∷ text ∷ begin ∷ beside_log ∷ recovers ∷ compare ∷ [])
+    (folder ∷ key ∷ text ∷ begin ∷ beside_log ∷ recovers ∷ compare ∷ wait ∷ [])
 
 unfoldable pub load : App
 load = command (codes "load") (folder ∷ file ∷ text ∷ begin ∷ beside_log ∷ recovers ∷ workers
-    ∷ from_line ∷ last_line ∷ compare ∷ progress ∷ [])
+    ∷ from_line ∷ last_line ∷ compare ∷ progress ∷ wait ∷ [])
 
 unfoldable pub import_folder : App
 import_folder = command (codes "import") (word (codes "SRC") ∷ word (codes "DST") ∷ compare ∷ [])
 
 unfoldable pub recover : App
-recover = command (codes "recover") (folder ∷ compare ∷ [])
+recover = command (codes "recover") (folder ∷ compare ∷ wait ∷ [])
 
 unfoldable pub compact : App
 compact = command (codes "compact") (folder ∷ flag (codes "all") ∷ valued (codes "from")
-    ∷ valued (codes "to") ∷ text ∷ workers ∷ accept_rest ∷ compare ∷ progress ∷ [])
+    ∷ valued (codes "to") ∷ text ∷ workers ∷ accept_rest ∷ compare ∷ progress ∷ wait ∷ [])
 
 unfoldable pub clean : App
-clean = command (codes "clean") (folder ∷ accept_rest ∷ [])
+clean = command (codes "clean") (folder ∷ accept_rest ∷ wait ∷ [])
 
 unfoldable pub shell : App
 shell = command (codes "shell")
     (folder ∷ text ∷ begin ∷ beside_log ∷ recovers ∷ compactors ∷ flag (codes "bail") ∷ compare
-    ∷ [])
+    ∷ wait ∷ [])
 
 unfoldable pub bench : App
 bench = command (codes "bench") (folder ∷ benchmarks ∷ num ∷ value_size ∷ some_workers ∷ [])

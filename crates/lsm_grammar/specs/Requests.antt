@@ -375,17 +375,24 @@ Asks request words = (faults_in words ≡ []) × IsAsked (found_in words) reques
 abbrev pub AskNothing : List Text → Type 0
 AskNothing words = (request : Request) → Asks request words → ⊥
 
--- how the command that was found is done: by `--recover` and `--compare` among its words
-abbrev pub manner_in : Option (Text × List Row) → Manner
-manner_in None = record { recovers = false; compares = false }
-manner_in (Some (name, rows)) = record {
-  recovers = is_set (codes "recover") rows;
-  compares = is_set (codes "compare") rows;
-}
+-- the word of an option writes a number from 1 to 3600; there is none where there is no option, or
+-- where its word writes none of these
+abbrev pub AreSeconds : Option Text → Option ℕ → Type 0
+AreSeconds word None = (n : ℕ) → IsNumberIn 1 3600 word n → ⊥
+AreSeconds word (Some n) = IsNumberIn 1 3600 word n
+
+-- how the command that was found is done: by `--recover`, `--compare` and `--wait` among its words
+abbrev pub IsMannerIn : Option (Text × List Row) → Manner → Type 0
+IsMannerIn None manner =
+    manner ≡ record { recovers = false; compares = false; waits = None }
+IsMannerIn (Some (name, rows)) manner =
+    (manner.recovers ≡ is_set (codes "recover") rows)
+    × (manner.compares ≡ is_set (codes "compare") rows)
+    × AreSeconds (word_in (codes "wait") rows) manner.waits
 
 -- how the command that words ask for is done
-abbrev pub manner_of : List Text → Manner
-manner_of words = manner_in (found_in words)
+abbrev pub IsMannerOf : List Text → Manner → Type 0
+IsMannerOf words manner = IsMannerIn (found_in words) manner
 
 -- Of which command `help` is asked by the word behind it: of none where there is no word. None
 -- where it names no command.
@@ -418,7 +425,7 @@ HaveUsageFault words =
 
 -- what words come to
 abbrev pub IsLine : List Text → CommandLine → Type 0
-IsLine words (Run request manner) = Asks request words × (manner ≡ manner_of words)
+IsLine words (Run request manner) = Asks request words × IsMannerOf words manner
 IsLine words (Help text) = AskNothing words × AskHelp words
 IsLine words (Bad text) = AskNothing words × HaveUsageFault words
 
@@ -443,7 +450,7 @@ IsUnasked found (Bad text) = is_some (topic_in found) ≡ false
 
 -- what is said where something was found
 abbrev pub IsOf : Option (Text × List Row) → CommandLine → Type 0
-IsOf found (Run request manner) = IsAsked found request × (manner ≡ manner_in found)
+IsOf found (Run request manner) = IsAsked found request × IsMannerIn found manner
 IsOf found (Help text) = ((request : Request) → IsAsked found request → ⊥)
     × (is_some (topic_in found) ≡ true)
 IsOf found (Bad text) = ((request : Request) → IsAsked found request → ⊥)

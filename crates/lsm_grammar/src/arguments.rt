@@ -211,6 +211,15 @@ pub(crate) const COMPACTORS: Argument = Argument::Valued(Valued {
     help: "How many threads compact beside, 1 to 16",
 });
 
+/// How long a lock is waited for.
+pub(crate) const WAIT: Argument = Argument::Valued(Valued {
+    name: "wait",
+    value: "SECONDS",
+    default: None,
+    range: Some((1, 3600)),
+    help: "Wait for the lock, 1 to 3600 seconds",
+});
+
 /// The first line that is loaded.
 pub(crate) const FROM_LINE: Argument = Argument::Valued(Valued {
     name: "from-line",

@@ -7,10 +7,10 @@ ghost use Rattle.lsm_grammar.specs.Requests.{AreBenchOptions, AreBounds, AreInge
 ghost use Rattle.lsm_grammar.specs.Requests.{AreLoadOptions, AreNamed};
 ghost use Rattle.lsm_grammar.specs.Requests.{AreScanOptions, AreThreads, AreWorkers};
 ghost use Rattle.lsm_grammar.specs.Requests.{IsAsked, IsBound, IsInput};
-ghost use Rattle.lsm_grammar.specs.Requests.{IsKeyWrite, IsLimit, IsLineNumber, IsLook, IsNumberIn};
-ghost use Rattle.lsm_grammar.specs.Requests.{IsRange, IsSpelled, IsWithin, IsWorkersWord, IsWrite};
-ghost use Rattle.lsm_grammar.specs.Requests.{Reads, form_in};
-ghost use Rattle.lsm_grammar.specs.Requests.{get_output_in, is_set, levels_output_in, manner_in};
+ghost use Rattle.lsm_grammar.specs.Requests.{IsKeyWrite, IsLimit, IsLineNumber, IsLook, IsMannerIn};
+ghost use Rattle.lsm_grammar.specs.Requests.{IsNumberIn, IsRange, IsSpelled, IsWithin, IsWorkersWord};
+ghost use Rattle.lsm_grammar.specs.Requests.{IsWrite, Reads, form_in};
+ghost use Rattle.lsm_grammar.specs.Requests.{get_output_in, is_set, levels_output_in};
 ghost use Rattle.lsm_grammar.specs.Requests.{name_of_conversion, name_of_look, name_of_value};
 ghost use Rattle.lsm_grammar.specs.Requests.{name_of_write, rows_in};
 ghost use Rattle.lsm_grammar.specs.Requests.{scan_output_in, topic_in, topic_of, word_in};
@@ -620,16 +620,18 @@ pub(crate) fn asked_in<'a>(
 
 /// How the command that was found is done.
 pub(crate) fn manner_in(matches: &ArgMatches<'_>) -> Manner
-    ensures { result ≡ manner_in (subcommand_rows_of matches.now) }
+    ensures { IsMannerIn (subcommand_rows_of matches.now) result }
 {
     match matches.subcommand() {
         Some((_, found)) => Manner {
             recovers: is_set(found, "recover"),
             compares: is_set(found, "compare"),
+            waits: between_in(word_in(found, "wait"), 1, 3600),
         },
         None => Manner {
             recovers: false,
             compares: false,
+            waits: None,
         },
     }
 }

@@ -7,4 +7,6 @@ pub struct Manner {
     pub recovers: bool,
     /// What is read of tables is compared with what was read before.
     pub compares: bool,
+    /// So many seconds at most are waited for a lock that another program holds.
+    pub waits: Option<u64>,
 }

@@ -4,7 +4,7 @@ use crate::arguments::{
     ACCEPT_REST, ALL, Argument, BAIL, BATCH, BEGIN, BENCHMARKS, BESIDE_LOG, COMPACTORS, COMPARE,
     COUNT, EXISTS, FILES, FIRST, FOLDER, FROM, FROM_LINE, JSON, KEY, KEYS, LAST, LAST_LINE, LIMIT,
     NUM, PREFIX, PROGRESS, QUICK, RAW, RECOVERS, SOME_WORKERS, SOURCE, STRICT, SVG, TARGET, TEXT,
-    TO, VALUE, VALUE_SIZE, VERIFIERS, WORKERS,
+    TO, VALUE, VALUE_SIZE, VERIFIERS, WAIT, WORKERS,
 };
 use crate::command_name::{CommandName, named};
 
@@ -46,7 +46,8 @@ lock file, DIR/LOCK, alone, and make it where it is not there; the other command
 share it where it is there. Where another program holds it, also a LevelDB, it is
 `refused 52 Locked`, and nothing is read or written. A LevelDB is noticed where
 the system has the file /proc/locks; it does not notice `lsm`: do not open DIR
-while `lsm` writes there.
+while `lsm` writes there. With --wait a command first waits until the lock is
+free, SECONDS at most; it asks for it 20 times a second.
 
 No command but `import` and `recover` reads a write-ahead log (`N.log`). Of each
 one that LevelDB has not flushed, `list`, `get` and `scan` say on standard error
@@ -182,7 +183,7 @@ read or a write, 2 bad command line.",
 
 const CHECK: Page = Page {
     name: "check",
-    arguments: &[FOLDER, VERIFIERS, STRICT, COMPARE, PROGRESS],
+    arguments: &[FOLDER, VERIFIERS, STRICT, COMPARE, PROGRESS, WAIT],
     about: "Verifies a folder, and counts what is in it",
     text: "Verifies all that a read of the LevelDB folder DIR can reach: every block of
 every table that its manifest names, and how the tables lie in their levels.
@@ -209,7 +210,7 @@ Exit status: 0 where all is well, 1 at a fault, 2 bad command line.",
 
 const LIST: Page = Page {
     name: "list",
-    arguments: &[FOLDER, TEXT, QUICK, STRICT, COMPARE],
+    arguments: &[FOLDER, TEXT, QUICK, STRICT, COMPARE, WAIT],
     about: "Prints the tables of a folder, level by level",
     text: "Prints the tables of the LevelDB folder DIR, levels 0 to 6 and in a level by
 smallest key, `LEVEL NUMBER SIZE SMALLEST LARGEST` for each, and then `end`.
@@ -271,7 +272,7 @@ Exit status: 0 done, 1 refused, 2 bad command line.",
 
 const GET: Page = Page {
     name: "get",
-    arguments: &[FOLDER, KEY, TEXT, RAW, EXISTS, QUICK, STRICT, COMPARE],
+    arguments: &[FOLDER, KEY, TEXT, RAW, EXISTS, QUICK, STRICT, COMPARE, WAIT],
     about: "Prints the value of a key in a folder",
     text: "Prints what the LevelDB folder DIR answers for KEY: `value V`, or `absent`. KEY
 and V are hex, or text with --text, `.` for no bytes.
@@ -305,6 +306,7 @@ const SCAN: Page = Page {
     name: "scan",
     arguments: &[
         FOLDER, FROM, TO, PREFIX, LIMIT, TEXT, KEYS, JSON, COUNT, QUICK, STRICT, COMPARE, PROGRESS,
+        WAIT,
     ],
     about: "Prints the live keys of a folder and their values",
     text: "Prints the live keys of the LevelDB folder DIR with their values, a line
@@ -350,7 +352,9 @@ before it stand, 2 bad command line.",
 
 const INGEST: Page = Page {
     name: "ingest",
-    arguments: &[FOLDER, BATCH, TEXT, BEGIN, BESIDE_LOG, RECOVERS, COMPARE],
+    arguments: &[
+        FOLDER, BATCH, TEXT, BEGIN, BESIDE_LOG, RECOVERS, COMPARE, WAIT,
+    ],
     about: "Brings keys into a folder, or begins a database there",
     text: "Brings the keys of FILE into the LevelDB folder DIR, as one table at level 0,
 and prints `file N first F last L`: the table's number, and the first and the
@@ -397,7 +401,7 @@ fault` the batch is in; after `refused 9 Device` it may be.",
 const PUT: Page = Page {
     name: "put",
     arguments: &[
-        FOLDER, KEY, VALUE, TEXT, BEGIN, BESIDE_LOG, RECOVERS, COMPARE,
+        FOLDER, KEY, VALUE, TEXT, BEGIN, BESIDE_LOG, RECOVERS, COMPARE, WAIT,
     ],
     about: "Gives a key of a folder a value",
     text: "Gives KEY the value VALUE in the LevelDB folder DIR, as one table at level 0, and
@@ -424,7 +428,9 @@ Exit status: 0 the key has the value, 1 refused, 2 bad command line. After a
 
 const DELETE: Page = Page {
     name: "delete",
-    arguments: &[FOLDER, KEY, TEXT, BEGIN, BESIDE_LOG, RECOVERS, COMPARE],
+    arguments: &[
+        FOLDER, KEY, TEXT, BEGIN, BESIDE_LOG, RECOVERS, COMPARE, WAIT,
+    ],
     about: "Deletes a key of a folder",
     text: "Deletes KEY in the LevelDB folder DIR, whether it has a value or not, by one
 table at level 0, and prints `file N first L last L`: the table's number and its
@@ -460,6 +466,7 @@ const LOAD: Page = Page {
         LAST_LINE,
         COMPARE,
         PROGRESS,
+        WAIT,
     ],
     about: "Brings lines of keys into a folder, any number in any order",
     text: "Brings the lines of FILE, or of standard input where FILE is left out or `-`,
@@ -524,7 +531,7 @@ copy is there; after `refused 9 Device` it may be.",
 
 const RECOVER: Page = Page {
     name: "recover",
-    arguments: &[FOLDER, COMPARE],
+    arguments: &[FOLDER, COMPARE, WAIT],
     about: "Brings the logs that are not flushed into the tables",
     text: "Brings the write-ahead logs of the LevelDB folder DIR that are not flushed into
 its tables, as LevelDB does when it opens the folder, and prints
@@ -560,6 +567,7 @@ const COMPACT: Page = Page {
         ACCEPT_REST,
         COMPARE,
         PROGRESS,
+        WAIT,
     ],
     about: "Compacts a folder until no level is too large",
     text: "Compacts the LevelDB folder DIR until no level is too large: tables of such a
@@ -595,7 +603,7 @@ failed.",
 
 const CLEAN: Page = Page {
     name: "clean",
-    arguments: &[FOLDER, ACCEPT_REST],
+    arguments: &[FOLDER, ACCEPT_REST, WAIT],
     about: "Removes old files that a folder does not need",
     text: "Removes the files of the LevelDB folder DIR that no reader of it needs: the
 manifests (`MANIFEST-N`) that CURRENT does not name, what a stopped program left
@@ -622,7 +630,7 @@ command line.",
 const SHELL: Page = Page {
     name: "shell",
     arguments: &[
-        FOLDER, TEXT, BEGIN, BESIDE_LOG, RECOVERS, COMPACTORS, BAIL, COMPARE,
+        FOLDER, TEXT, BEGIN, BESIDE_LOG, RECOVERS, COMPACTORS, BAIL, COMPARE, WAIT,
     ],
     about: "Runs commands from standard input on a folder",
     text: "Opens the LevelDB folder DIR once, or begins a database there, as `ingest` does,
@@ -737,32 +745,39 @@ fn usage(name: CommandName) -> &'static str {
         CommandName::Dump => "lsm dump [FILE]",
         CommandName::Manifest => "lsm manifest [FILE]",
         CommandName::Script => "lsm script [FILE]",
-        CommandName::Check => "lsm check <DIR> [--workers <N>] [--strict] [--compare] [--progress]",
-        CommandName::List => "lsm list <DIR> [--text] [--quick] [--strict] [--compare]",
+        CommandName::Check =>
+            "lsm check <DIR> [--workers <N>] [--strict] [--compare] [--progress] [--wait <SECONDS>]",
+        CommandName::List =>
+            "lsm list <DIR> [--text] [--quick] [--strict] [--compare] [--wait <SECONDS>]",
         CommandName::Levels => "lsm levels <DIR> [--text] [--files] [--svg] [--strict]",
         CommandName::Get =>
-            "lsm get <DIR> <KEY> [--text] [--raw] [--exists] [--quick] [--strict] [--compare]",
+            "lsm get <DIR> <KEY> [--text] [--raw] [--exists] [--quick] [--strict] [--compare] \
+             [--wait <SECONDS>]",
         CommandName::Scan =>
             "lsm scan <DIR> [--from <KEY>] [--to <KEY>] [--prefix <KEY>] [--limit <N>] [--text] \
-             [--keys] [--json] [--count] [--quick] [--strict] [--compare] [--progress]",
+             [--keys] [--json] [--count] [--quick] [--strict] [--compare] [--progress] \
+             [--wait <SECONDS>]",
         CommandName::Ingest =>
-            "lsm ingest <DIR> <FILE> [--text] [--begin] [--beside-log] [--recover] [--compare]",
+            "lsm ingest <DIR> <FILE> [--text] [--begin] [--beside-log] [--recover] [--compare] \
+             [--wait <SECONDS>]",
         CommandName::Put =>
-            "lsm put <DIR> <KEY> <VALUE> [--text] [--begin] [--beside-log] [--recover] [--compare]",
+            "lsm put <DIR> <KEY> <VALUE> [--text] [--begin] [--beside-log] [--recover] [--compare] \
+             [--wait <SECONDS>]",
         CommandName::Delete =>
-            "lsm delete <DIR> <KEY> [--text] [--begin] [--beside-log] [--recover] [--compare]",
+            "lsm delete <DIR> <KEY> [--text] [--begin] [--beside-log] [--recover] [--compare] \
+             [--wait <SECONDS>]",
         CommandName::Load =>
             "lsm load <DIR> [FILE] [--text] [--begin] [--beside-log] [--recover] [--workers <N>] \
-             [--from-line <I>] [--last-line] [--compare] [--progress]",
+             [--from-line <I>] [--last-line] [--compare] [--progress] [--wait <SECONDS>]",
         CommandName::Import => "lsm import <SRC> <DST> [--compare]",
-        CommandName::Recover => "lsm recover <DIR> [--compare]",
+        CommandName::Recover => "lsm recover <DIR> [--compare] [--wait <SECONDS>]",
         CommandName::Compact =>
             "lsm compact <DIR> [--all] [--from <KEY>] [--to <KEY>] [--text] [--workers <N>] \
-             [--accept-rest] [--compare] [--progress]",
-        CommandName::Clean => "lsm clean <DIR> [--accept-rest]",
+             [--accept-rest] [--compare] [--progress] [--wait <SECONDS>]",
+        CommandName::Clean => "lsm clean <DIR> [--accept-rest] [--wait <SECONDS>]",
         CommandName::Shell =>
             "lsm shell <DIR> [--text] [--begin] [--beside-log] [--recover] [--workers <N>] \
-             [--bail] [--compare]",
+             [--bail] [--compare] [--wait <SECONDS>]",
         CommandName::Bench =>
             "lsm bench <DIR> [--benchmarks <LIST>] [--num <N>] [--value-size <N>] [--workers <N>]",
         CommandName::Help => "lsm help [COMMAND]",

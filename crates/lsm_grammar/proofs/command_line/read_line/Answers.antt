@@ -4,7 +4,7 @@ use Rattle.clap.specs.Words.{IsAmong, Kinds, Row, Text, kind_of, subcommand_rows
 use Rattle.clap.specs.declared.error.ErrorKind.{ErrorKind}
 use Rattle.clap.specs.declared.error.ErrorKind.TheVariants.{OutOfMemory}
 use Rattle.lsm_grammar.specs.Requests.{AskNothing, IsAsked, IsLine, IsOf, IsOfKind, faults_in}
-use Rattle.lsm_grammar.specs.Requests.{found_in, manner_in, topic_in}
+use Rattle.lsm_grammar.specs.Requests.{IsMannerIn, found_in, topic_in}
 use Rattle.lsm_grammar.specs.declared.command_line.CommandLine.{CommandLine}
 use Rattle.lsm_grammar.specs.declared.command_line.CommandLine.TheVariants.{Run, Help, Bad}
 use Rattle.lsm_grammar.specs.declared.request.Request.{Request}
@@ -18,8 +18,7 @@ line_is : {E : Type 0} (words : List Text) (found : Option (Text × List Row)) (
     → IfOk r (IsOf found) → IfOk r (IsLine words)
 line_is words found (Ok (Run request manner)) good same of = (
   (good, subst (λ (f : Option (Text × List Row)). IsAsked f request) same of.0),
-  of.1 ∙ ap
-      manner_in same,
+  subst (λ (f : Option (Text × List Row)). IsMannerIn f manner) same of.1,
 )
 line_is words found (Ok (Help text)) good same of =
     (unasked words found same of.0, inr (good, ap (λ (f : Option (Text × List Row)). is_some (topic_in f)) (sym same) ∙ of.1))
