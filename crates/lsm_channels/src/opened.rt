@@ -19,7 +19,8 @@ use std::alloc::{AllocError, Global};
 use std::num::NonZeroUsize;
 use std::sync::Wait;
 
-/// An empty cache, as large as a reader's, over the shelf.
+/// An empty cache over the shelf, for reads of a version of which a reader has made all its pins:
+/// 256 KiB, which a reader's own has at least.
 fn blocks_over<N: Boarded, S: Shelf>(
     alloc: Global,
     shelf: NamedShelf<N, S>,

@@ -30,9 +30,8 @@ use Rattle.lsm_script.specs.ReplyText.{replies_text}
 abbrev pub nothing : History
 nothing = record { entries = []; last = 0; snapshots = [] }
 
--- The commands are answered so by a database that was just created with the usual options on a
--- shelf to which this had been told: each by a step of its state; and as the history from nothing
--- on says.
+-- The commands are answered so by a database that was just created with plain options on a shelf to
+-- which this had been told: each by a step of its state; and as the history from nothing on says.
 pub record ArePlayed (honest : Type 0) (commands : List Command) (replies : List Reply) (was : Told)
     : Type 0 where
   pub before : Held

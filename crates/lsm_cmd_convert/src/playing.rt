@@ -68,7 +68,8 @@ fn play_as<N: Boarded, S: Shelf, R: Wait>(
     play_named(rt, alloc, &mut shelf, parts, commands)
 }
 
-/// The replies to commands on a new database in memory, with the usual options.
+/// The replies to commands on a new database in memory, with plain options: what a script is
+/// answered does not hang on those of programs.
 pub(crate) fn play<R: Wait>(
     rt: &R,
     alloc: Global,
