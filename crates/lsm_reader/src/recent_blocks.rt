@@ -17,7 +17,7 @@ pub(crate) struct Measured<V: Drop> {
 }
 
 /// The blocks that were used last: so many at most, and together at most as many bytes as that many
-/// usual blocks have. So large blocks take no more memory than small ones.
+/// usual blocks have, but one at least. So large blocks take no more memory than small ones.
 #[derive(Drop)]
 pub(crate) struct RecentBlocks<V: Drop> {
     pub(crate) blocks: LruCache<BlockKey, Measured<V>>,
@@ -37,7 +37,7 @@ impl<V: Drop> RecentBlocks<V> {
     }
 
     /// Keeps a block of so many bytes, unless a growth is refused, in the place of those that were
-    /// used longest ago.
+    /// used longest ago. Itself it stays until the next one, however large it is.
     pub(crate) fn keep(&mut self, key: BlockKey, kept: V, bytes: u64) {
         self.bytes = self.bytes.saturating_add(bytes);
         match self.blocks.push(key, Measured { kept, bytes }) {
@@ -48,7 +48,7 @@ impl<V: Drop> RecentBlocks<V> {
                 self.forget(&lost);
             }
         }
-        for _ in 0..self.blocks.len() {
+        for _ in 1..self.blocks.len() {
             if self.bytes <= self.most {
                 break;
             }
