@@ -5,9 +5,12 @@ use lru::LruCache;
 use std::alloc::{AllocError, Global};
 use std::num::NonZeroUsize;
 
-/// How many bytes a block has that is closed at LevelDB's usual size (`block_size` of its
-/// `include/leveldb/options.h`).
-const USUAL_BLOCK: u64 = 4096;
+/// How many bytes the blocks may have together, however few they may be: LevelDB's `block_cache`
+/// (`include/leveldb/options.h`).
+const LEAST_BYTES: u64 = 8 << 20;
+
+/// How many bytes there are for each of the blocks that may be kept, where that is more.
+const BYTES_A_BLOCK: u64 = 8192;
 
 /// A block that is kept, and how many bytes it takes.
 #[derive(Drop)]
@@ -16,8 +19,9 @@ pub(crate) struct Measured<V: Drop> {
     bytes: u64,
 }
 
-/// The blocks that were used last: so many at most, and together at most as many bytes as that many
-/// usual blocks have, but one at least. So large blocks take no more memory than small ones.
+/// The blocks that were used last: so many at most, and together so many bytes at most, but one
+/// block at least. So it is the blocks' number that bounds usual ones, of 4 KiB, and their bytes
+/// that bound large ones.
 #[derive(Drop)]
 pub(crate) struct RecentBlocks<V: Drop> {
     pub(crate) blocks: LruCache<BlockKey, Measured<V>>,
@@ -32,7 +36,7 @@ impl<V: Drop> RecentBlocks<V> {
         Ok(RecentBlocks {
             blocks: LruCache::sparse(alloc, blocks)?,
             bytes: 0,
-            most: (blocks.get() as u64).saturating_mul(USUAL_BLOCK),
+            most: LEAST_BYTES.max((blocks.get() as u64).saturating_mul(BYTES_A_BLOCK)),
         })
     }
 

@@ -21,7 +21,7 @@ pub struct Options {
     pub versions: usize,
     /// How many readers the board has: 1 to 62.
     pub readers: usize,
-    /// How many blocks of 4 KiB a reader's cache holds, of larger ones fewer: 1 to 4,096.
+    /// How many blocks a reader's cache holds, of large ones fewer: 1 to 4,096.
     pub cache_blocks: usize,
     /// A manifest of so many bytes is followed by a new one at the next change: 64 to 536,870,912.
     pub manifest_limit: u64,
@@ -57,8 +57,8 @@ impl Options {
     }
 
     /// The same for a program that keeps a database for long: a manifest is followed by a new one
-    /// at 64 KiB, or at twice what a whole one has, where that is more; and the caches of the
-    /// readers are of 8 MiB together.
+    /// at 64 KiB, or at twice what a whole one has, where that is more; and a cache holds 512
+    /// blocks.
     pub fn for_programs() -> Options
         ensures { result ≡ record {
           block_size = 4096;
