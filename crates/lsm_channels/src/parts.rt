@@ -6,8 +6,8 @@ ghost use Rattle.lsm_state.specs.Options.{Fits};
 
 use lsm_state::Options;
 
-/// The usual options, with a reader for each channel. Their caches are of 8 MiB together, but each
-/// is of 256 KiB at least.
+/// The usual options, with a reader for each channel. Their caches hold 2,048 blocks together, but
+/// each of them 64 at least.
 #[tactic(auto, using(crate::proofs::OptionLaws::options_fit))]
 pub(crate) fn options_for(channels: usize) -> Options
     requires some { 1 ≤ channels }

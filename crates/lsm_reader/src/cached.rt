@@ -24,8 +24,8 @@ pub const MAX_OPEN_TABLES: usize = 1000;
 /// Gives index blocks and blocks from those that were used last, and else by a shelf of its own. It
 /// keeps `MAX_OPEN_TABLES` open tables at most, each with its index block, and so many blocks that
 /// were asked for by their places as it was made for: of large ones fewer, so that they have 8 MiB
-/// together at most, or 8 KiB each, where that is more. Data blocks push out no table. An open table
-/// is found by its number, and its footer is not read again. Contracts see it as its shelf.
+/// together at most, or 8 KiB each, where that is more. Data blocks push out no table. An open
+/// table is found by its number, and its footer is not read again. Contracts see it as its shelf.
 pub struct Cached<N: Naming, S: Shelf> {
     shelf: NamedShelf<N, S>,
     tables: LruCache<u64, OpenTable<N, S>>,
