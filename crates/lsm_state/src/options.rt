@@ -25,8 +25,8 @@ pub struct Options {
     pub cache_blocks: usize,
     /// A manifest of so many bytes is followed by a new one at the next change: 64 to 536,870,912.
     pub manifest_limit: u64,
-    /// Whether a new manifest raises that to twice its own bytes, where that is more, and to 2^29 at
-    /// most, as long as the database is open. So what manifests take in all grows as changes do.
+    /// Whether a new manifest raises that to twice its own bytes, where that is more, and to 2^29
+    /// at most, as long as the database is open. So what manifests take grows as changes do.
     pub manifest_grows: bool,
 }
 
