@@ -1,6 +1,7 @@
 -- What is sent to the shelf, and what the journal holds then (LevelDB's `VersionSet::LogAndApply`;
 -- that a new manifest is due by its size is this project's rule).
-use Rattle.std.specs.Prelude.{◌≡◌, ℕ, ◌+◌, List, [], ◌++◌, take, length, ◌⊎◌, MatchBool, if◌then◌else◌}
+use Rattle.std.specs.Prelude.{◌≡◌, ℕ, ◌+◌, List, [], ◌++◌, take, length, ◌⊎◌, MatchBool}
+use Rattle.std.specs.Prelude.{if◌then◌else◌}
 use Rattle.lsm_shelf.specs.declared.shelf_fault.ShelfFault.{ShelfFault}
 use Rattle.lsm_shelf.specs.declared.shelf_fault.ShelfFault.TheVariants.{OutOfMemory, Device}
 use Rattle.lsm_shelf.specs.declared.shelf_fault.ShelfFault.TheVariants.{Missing, Taken}

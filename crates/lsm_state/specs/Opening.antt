@@ -37,8 +37,8 @@ opened_state o publisher pinners version journal next halted = record {
 
 -- The manifest that was found records the version. The manifest held is a new one, whose one edit
 -- spells it, and has the number that was next; both are what the shelf was sent.
-pub record IsBegun (Honest : Type 0) (limit : ManifestLimit) (h : HeldManifest) (v : Levels) (next : ℕ)
-    (was is : Told) : Type 0 where
+pub record IsBegun (Honest : Type 0) (limit : ManifestLimit) (h : HeldManifest) (v : Levels)
+    (next : ℕ) (was is : Told) : Type 0 where
   pub before : HeldManifest
   pub rest : ℕ
   pub number : ℕ
@@ -51,8 +51,8 @@ pub record IsBegun (Honest : Type 0) (limit : ManifestLimit) (h : HeldManifest) 
 -- ---- refusals
 
 -- The new manifest was refused by the shelf, or for want of memory.
-pub record IsUnstarted (Refused : Asked → ShelfFault
-    → Type 0) (Honest : Type 0) (limit : ManifestLimit) (e : ShelfFault) (was is : Told) : Type 0 where
+pub record IsUnstarted (Refused : Asked → ShelfFault → Type 0) (Honest : Type 0)
+    (limit : ManifestLimit) (e : ShelfFault) (was is : Told) : Type 0 where
   pub held : HeldManifest
   pub version : Levels
   pub rest : ℕ
