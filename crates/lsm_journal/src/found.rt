@@ -56,8 +56,8 @@ fn next_free(from: u64, taken: &[u64]) -> Result<u64, OpenFault>
 
 impl<N: Naming, S: Shelf> Found<N, S> {
     /// Finds the database that is on a shelf: reads the manifest, judges the tables that it names,
-    /// and lists those that are there. Nothing is written. The limit, in bytes, is that from which
-    /// a new manifest is due.
+    /// and lists those that are there. Nothing is written. The limit is that from which a new
+    /// manifest is due.
     ///
     /// The refusals of `Journal::recover`; those of `lsm_verify::check`; those of listing the
     /// tables; then `NumbersSpent` where a table that is listed, or one of the version, or the

@@ -16,7 +16,8 @@ use std::sync::Wait;
 impl Journal {
     /// Begins a new manifest, of one edit that spells the version held: comparator, log numbers,
     /// next file number, last sequence, pointers by level, files by level. Its number is the next
-    /// file number, so the next one is one more.
+    /// file number, so the next one is one more. A limit that grows is twice its bytes then, or
+    /// what it was, where that is more.
     ///
     /// Its bytes are made before anything is sent: after `OutOfMemory` nothing was. `Taken` where
     /// the directory's manifest has this number, `Device` where the shelf failed; the directory

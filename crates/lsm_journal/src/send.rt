@@ -107,7 +107,8 @@ impl Journal {
 
     /// Sends a change, and gives the next file number afterwards. Below the limit the record of its
     /// edit is appended. From the limit on a new manifest begins, which spells the version after
-    /// the change; its number is the next file number, so the next one is one more.
+    /// the change; its number is the next file number, so the next one is one more, and by its size
+    /// the limit grows, if it does.
     ///
     /// The bytes are made before anything is sent: after `OutOfMemory` nothing was. Of an append
     /// `Missing` and `Device`: after `Device` the shelf's manifest is the old bytes and a prefix of
