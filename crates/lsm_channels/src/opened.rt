@@ -20,7 +20,7 @@ use std::num::NonZeroUsize;
 use std::sync::Wait;
 
 /// An empty cache over the shelf, for reads of a version of which a reader has made all its pins:
-/// 256 KiB, which a reader's own has at least.
+/// 64 blocks, as many as a reader's own has at least.
 fn blocks_over<N: Boarded, S: Shelf>(
     alloc: Global,
     shelf: NamedShelf<N, S>,
