@@ -1,5 +1,6 @@
 -- What is left behind the lines, and why all is not done.
-use Rattle.std.proofs.Common.{◌≡◌, ℕ, ◌+◌, ◌<◌, ◌≤◌, List, [], ◌∷◌, ◌++◌, length, get_or, take, drop, Some, None, All, refl, sym, ap, ◌∙◌, subst, append_assoc, inl, inr}
+use Rattle.std.proofs.Common.{◌≡◌, ◌≢◌, ◌==◌, not, true, Bool, ℕ, ◌+◌, ◌<◌, ◌≤◌, List, [], ◌∷◌, ◌++◌, length, get_or, take, drop, Some, None, All, refl, sym, ap, ◌∙◌, subst, append_assoc, inl, inr}
+use Rattle.std.proofs.lemmas.Bool.{eq-eqb, false≢true}
 use Rattle.std.proofs.lemmas.List.{drop_more, take-append-drop, take_all}
 use Rattle.std.proofs.lemmas.List.Elements.{All-more}
 use Rattle.std.specs.Prelude.{Result, Ok, Err, IfErr, OnErr, OnOk}
@@ -7,7 +8,8 @@ use Rattle.lsm_codec.specs.Entries.{Entry}
 use Rattle.lsm_shelf.specs.Asked.{Asked}
 use Rattle.lsm_shelf.specs.declared.shelf_fault.ShelfFault.{ShelfFault}
 use Rattle.lsm_history.specs.History.{IsLater}
-use Rattle.lsm_live.specs.Booked.{Booked}
+use Rattle.lsm_codec.proofs.CallerLemmas.{filter_has, has_cases}
+use Rattle.lsm_live.specs.Booked.{Booked, HasTicket, without}
 use Rattle.lsm_lines.specs.Gathering.{Pending}
 use Rattle.lsm_lines.specs.declared.write_line_fault.WriteLineFault.{WriteLineFault}
 use Rattle.lsm_lines.specs.declared.write_line_fault.WriteLineFault.TheVariants as lines
@@ -15,7 +17,7 @@ use Rattle.lsm_state.specs.Held.{Held}
 use Rattle.lsm_store.specs.Workers.{IsWorkersEnd}
 use Rattle.lsm_store.specs.declared.worker_end.WorkerEnd.{WorkerEnd}
 use Rattle.lsm_store.specs.declared.worker_fault.WorkerFault.{WorkerFault}
-use Rattle.lsm_bulk_load.specs.Ending.{IsFaultless, IsFirstFault, IsLate, IsLooked}
+use Rattle.lsm_bulk_load.specs.Ending.{IsFaultless, IsFirstFault, IsLate, IsLooked, ReservesNone}
 use Rattle.lsm_bulk_load.specs.Loading.{IsLoaded, IsStopped, IsUnloaded, SomeAreIn, SomeAreInToo, StopsBehind}
 use Rattle.lsm_bulk_load.specs.Marks.{Marked, marked_in}
 use Rattle.lsm_bulk_load.specs.declared.load_fault.LoadFault.{LoadFault}
@@ -53,6 +55,26 @@ given_up was is live e = e ∙ ap (λ (l : List Booked). record was { live = l }
 
 pub not_given_up : (was is : Held) → is ≡ was → is ≡ record was { live = is.live }
 not_given_up was is e = given_up was is was.live e
+
+-- what is live without a ticket was live before, under another one
+pub gone_with : (ticket : ℕ) (live : List Booked) (other : ℕ) → HasTicket (without ticket live) other → HasTicket live other × (other ≢ ticket)
+gone_with ticket live other has =
+    let f = filter_has (λ (b : Booked). not (b.work.ticket == ticket)) live has.0 has.1 in
+    ((has.0, f.0, has.2), λ e. false≢true (subst (λ (c : Bool). not c ≡ true) (eq-eqb has.0.work.ticket ticket (has.2 ∙ e)) f.1))
+
+pub reserves_same : (was is : Held) → is ≡ was → ReservesNone was is
+reserves_same was is e ticket has = subst (λ (h : Held). HasTicket h.live ticket) e has
+
+-- a job was reserved, which left `mid`, and given up again
+pub reserves_back : (was mid is : Held) (job : Booked) (given : ℕ) → mid.live ≡ was.live ++ job ∷ [] → given ≡ job.work.ticket
+    → ((other : ℕ) → HasTicket is.live other → HasTicket mid.live other × (other ≢ given)) → ReservesNone was is
+reserves_back was mid is job given e its gone ticket has =
+    let g = gone ticket has in
+    let old : HasTicket (was.live ++ job ∷ []) ticket = subst (λ (l : List Booked). HasTicket l ticket) e g.0 in
+    elim (has_cases was.live (job ∷ []) old.0 old.1) [
+      | inl before ↦ (old.0, before, old.2)
+      | inr new ↦ elim new [ inl same ↦ absurd (g.1 (sym old.2 ∙ sym (ap (λ (b : Booked). b.work.ticket) same) ∙ sym its)) | inr none ↦ absurd none ]
+    ]
 
 pub looked_none : (was is : Held) → is ≡ was → IsLooked was is
 looked_none was is e = subst (λ (h : Held). IsLooked was h) (sym e) refl

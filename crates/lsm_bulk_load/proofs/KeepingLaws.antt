@@ -1,5 +1,5 @@
 -- What the lock keeps while lines come in.
-use Rattle.std.proofs.Common.{◌≡◌, ℕ, suc, List, [], ◌∷◌, ◌++◌, Option, ap, subst, sym, inl, inr}
+use Rattle.std.proofs.Common.{◌≡◌, ℕ, suc, List, [], ◌∷◌, ◌++◌, Option, refl, ap, subst, sym, inl, inr}
 use Rattle.std.specs.Prelude.{zero}
 use Rattle.std.proofs.lemmas.List.Elements.{All-nil, All-push}
 use Rattle.lsm_model.specs.Plain.{Plain}
@@ -19,7 +19,7 @@ use Rattle.lsm_store.specs.Background.{BringsIn, IsIngestStep}
 use Rattle.lsm_store.specs.Compacting.{IsKeptByCompaction}
 use Rattle.lsm_bulk_load.specs.Coming.{ComesNext}
 use Rattle.lsm_bulk_load.specs.Keeping.{AreStepsOf, HasComeTo, HasGrown, IsKeptByAll, IsKeptByLearning, IsKeptByNext, IsOfLines, IsStepOf, IsTaken}
-use Rattle.lsm_bulk_load.specs.Loading.{Loads}
+use Rattle.lsm_bulk_load.specs.Loading.{AreToldOf, IsToldOf, IsToldOfBatches, IsToldOfNext, Loads}
 use Rattle.lsm_bulk_load.specs.Marks.{Marked, marked_in}
 use Rattle.lsm_bulk_load.specs.declared.progress.Progress.{Progress}
 use Rattle.lsm_bulk_load.proofs.LoadLaws.{SameForm, came_more, came_none, gathers_then}
@@ -41,7 +41,7 @@ gathers_of old new ws End e = (e.0, [], e.1)
 gathers_of old new ws (Stopped fault) e = gathers_by old ws fault e
 
 -- the batch that is gathered behind the lines that are in
-next_of_lines : (old mid new : Pending) (found now : Marked) (p : Progress) (r : Gathered) → SameForm mid old → Loads old mid.left mid.held found now p → IsGathered mid new r → IsOfLines old r.batch
+pub next_of_lines : (old mid new : Pending) (found now : Marked) (p : Progress) (r : Gathered) → SameForm mid old → Loads old mid.left mid.held found now p → IsGathered mid new r → IsOfLines old r.batch
 next_of_lines old mid new found now p r form l g =
     let by = gathers_of mid new g.ws r.end g.ends in
     record {
@@ -56,6 +56,18 @@ next_of_lines old mid new found now p r form l g =
 pub kept_next : (Refused : Asked → ShelfFault → Type 0) (keeps : Held → Type 0) (old mid : Pending) (found now : Marked) (p : Progress) → IsKeptByAll Refused (IsOfLines old) keeps → SameForm mid old
     → Loads old mid.left mid.held found now p → IsKeptByNext Refused mid keeps
 kept_next Refused keeps old mid found now p asked form l new r g = asked r.batch (next_of_lines old mid new found now p r form l g)
+
+-- ---- what the shelf of batches was told
+
+pub told_none : (Refused : Asked → ShelfFault → Type 0) (keeps : Held → Type 0) (may : List Write → Type 0) (t : Told) → IsToldOfBatches Refused keeps may t t
+told_none Refused keeps may t = (zero, refl)
+
+-- what is told of the next batch stands behind what was told before
+pub told_next : (Refused : Asked → ShelfFault → Type 0) (keeps : Held → Type 0) (old mid : Pending) (found now : Marked) (p : Progress) (t u v : Told) → SameForm mid old
+    → Loads old mid.left mid.held found now p → IsToldOfBatches Refused keeps (IsOfLines old) t u → IsToldOfNext Refused keeps mid u v → IsToldOfBatches Refused keeps (IsOfLines old) t v
+told_next Refused keeps old mid found now p t u v form l told (inl same) = subst (λ (w : Told). IsToldOfBatches Refused keeps (IsOfLines old) t w) (sym same) told
+told_next Refused keeps old mid found now p t u v form l told (inr next) =
+    (suc told.0, (u, told.1, (next.1.batch, next_of_lines old mid next.0 found now p next.1 form l next.2, next.3)))
 
 -- ---- the fact of a load
 

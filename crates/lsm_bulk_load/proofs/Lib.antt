@@ -1,3 +1,4 @@
+pub mod ForkLaws
 pub mod MarkLaws
 pub mod LoadLaws
 pub mod KeepingLaws

@@ -136,6 +136,10 @@ even_ingest Refused found ws was is (inr k) even = even_stays found was is k.3.h
 pub kept_ingest : (Refused : Asked → ShelfFault → Type 0) (keeps : Held → Type 0) (found : Marked) (ws : List Write) → IsKeptByIngest Refused ws keeps → IsKeptByIngest Refused ws (IsKeptSince keeps found)
 kept_ingest Refused keeps found ws kept was is step k = (kept was is step k.0, even_ingest Refused found ws was is step k.1)
 
+-- a batch that came in at one taking of the lock, where more held of the state than is told
+pub brought_in : (keeps : Held → Type 0) (found : Marked) (ws : List Write) (r : Ingested × List Entry) (t u : Told) → IsBroughtIn (IsKeptSince keeps found) ws r t u → IsBroughtIn keeps ws r t u
+brought_in keeps found ws r t u b = (b.0, b.1, fact_out keeps found b.0 b.2, b.3, b.4)
+
 -- a batch that was refused at one taking of the lock
 pub kept_out : (Refused : Asked → ShelfFault → Type 0) (keeps : Held → Type 0) (found : Marked) (ws : List Write) (e : StateFault) (t u : Told) → IsKeptOut Refused (IsKeptSince keeps found) ws e t u
     → IsKeptOut Refused keeps ws e t u

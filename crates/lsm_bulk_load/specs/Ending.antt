@@ -1,6 +1,7 @@
 -- What is left behind lines that were loaded beside workers (this project's rule).
-use Rattle.std.specs.Prelude.{◌≡◌, ◌⊎◌, ⊤, List, ◌∷◌, ◌++◌, All, None, Some, Result, Ok, Err}
+use Rattle.std.specs.Prelude.{◌≡◌, ◌⊎◌, ⊤, ℕ, List, ◌∷◌, ◌++◌, All, None, Some, Result, Ok, Err}
 use Rattle.lsm_history.specs.History.{IsLater}
+use Rattle.lsm_live.specs.Booked.{HasTicket}
 use Rattle.lsm_state.specs.Gathering.{HasNoneToGather}
 use Rattle.lsm_state.specs.Held.{Held}
 use Rattle.lsm_state.specs.Reserving.{HasNoNext}
@@ -19,6 +20,10 @@ IsIdle h = HasNoneToGather h × HasNoNext h
 -- live jobs and the next ticket.
 abbrev pub IsLooked : Held → Held → Type 0
 IsLooked was is = is ≡ record was { live = is.live; next_ticket = is.next_ticket }
+
+-- No job is live that was not before: nothing is left reserved.
+abbrev pub ReservesNone : Held → Held → Type 0
+ReservesNone was is = (ticket : ℕ) → HasTicket is.live ticket → HasTicket was.live ticket
 
 abbrev pub IsFaultless : WorkerEnd → Type 0
 IsFaultless e = e.fault ≡ None

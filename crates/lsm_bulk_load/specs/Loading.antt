@@ -1,9 +1,10 @@
 -- What lines that are loaded leave of a store, and why they stop (this project's rule).
-use Rattle.std.specs.Prelude.{◌≡◌, ◌⊎◌, ℕ, ◌+◌, ◌<◌, ◌^◌, List, [], length, All, Option}
+use Rattle.std.specs.Prelude.{◌≡◌, ◌⊎◌, ℕ, zero, suc, ◌+◌, ◌<◌, ◌^◌, List, [], length, All, Option}
 use Rattle.std.specs.Io.KnownBytes.{IsAtEnd}
 use Rattle.lsm_shelf.specs.Asked.{Asked}
-use Rattle.lsm_shelf.specs.Told.{Told}
+use Rattle.lsm_shelf.specs.Told.{Becomes, NotNamed, Told, forking}
 use Rattle.lsm_shelf.specs.declared.shelf_fault.ShelfFault.{ShelfFault}
+use Rattle.lsm_codec.specs.Entries.{Entry}
 use Rattle.lsm_history.specs.History.{IsLater}
 use Rattle.lsm_batch.specs.declared.write.Write.{Write}
 use Rattle.lsm_lines.specs.Cuts.{IsCut}
@@ -14,8 +15,9 @@ use Rattle.lsm_lines.specs.declared.gathered.Gathered.{Gathered}
 use Rattle.lsm_lines.specs.declared.write_line_fault.WriteLineFault.{WriteLineFault}
 use Rattle.lsm_lines.specs.declared.write_line_fault.WriteLineFault.TheVariants as lines
 use Rattle.lsm_state.specs.Held.{Held}
+use Rattle.lsm_state.specs.declared.ingest.Ingested.{Ingested}
 use Rattle.lsm_state.specs.declared.state_fault.StateFault.{StateFault}
-use Rattle.lsm_store.specs.Background.{IsKeptOut}
+use Rattle.lsm_store.specs.Background.{IsBroughtIn, IsKeptOut}
 use Rattle.lsm_store.specs.Workers.{IsWorkersEnd}
 use Rattle.lsm_store.specs.declared.worker_end.WorkerEnd.{WorkerEnd}
 use Rattle.lsm_store.specs.declared.worker_fault.WorkerFault.{WorkerFault}
@@ -67,6 +69,38 @@ pub record TakesBatch (old new : Pending) (was now : Marked) (p q : Progress) (e
   pub few : length ws < 2 ^ 64
   pub ends : EndsBy old new ws end
   pub came : NoneCame ws was now p q ⊎ BatchCame ws was now p q
+
+-- ---- what shelves were told
+
+-- It gave just so many forks, and nothing else was told but counts.
+abbrev pub ForkedTimes : ℕ → Told → Told → Type 0
+ForkedTimes n old new = Becomes (forking n old) new
+
+-- Just what one ingest of this batch told it, at one taking of the lock, where the fact held: the
+-- batch came in, or was refused.
+abbrev pub IsToldOf : (Asked → ShelfFault → Type 0) → (Held → Type 0) → List Write → Told → Told
+    → Type 0
+IsToldOf Refused keeps batch t u = ((r : Ingested × List Entry) × IsBroughtIn keeps batch r t u)
+    ⊎ ((e : StateFault) × IsKeptOut Refused keeps batch e t u)
+
+-- Nothing; or just that of the batch that is gathered next of these lines.
+abbrev pub IsToldOfNext : (Asked → ShelfFault → Type 0) → (Held → Type 0) → Pending → Told → Told
+    → Type 0
+IsToldOfNext Refused keeps old t u = (u ≡ t)
+    ⊎ ((new : Pending) × (r : Gathered) × IsGathered old new r
+    × IsToldOf Refused keeps r.batch t u)
+
+-- Just that of so many batches that may come in, one after another.
+abbrev pub AreToldOf : (Asked → ShelfFault → Type 0) → (Held → Type 0) → (List Write → Type 0) → ℕ
+    → Told → Told → Type 0
+AreToldOf Refused keeps may zero t u = u ≡ t
+AreToldOf Refused keeps may (suc n) t u = (mid : Told) × AreToldOf Refused keeps may n t mid
+    × ((b : List Write) × may b × IsToldOf Refused keeps b mid u)
+
+-- ... and nothing else.
+abbrev pub IsToldOfBatches : (Asked → ShelfFault → Type 0) → (Held → Type 0) → (List Write → Type 0)
+    → Told → Told → Type 0
+IsToldOfBatches Refused keeps may t u = (n : ℕ) × AreToldOf Refused keeps may n t u
 
 -- ---- refusals
 
@@ -135,7 +169,7 @@ EndedBy Honest fault = (ends : List WorkerEnd) × All (IsWorkersEnd Honest) ends
 abbrev pub IsUnloaded : (Asked → ShelfFault → Type 0) → Type 0 → (Held → Type 0)
     → Pending → (found now : Marked) → Progress → LoadFault → Type 0
 IsUnloaded Refused Honest keeps old found now p (Shelf fault) =
-    (now ≡ found) × (p ≡ record { lines = 0; batches = 0 })
+    NotNamed fault × (now ≡ found) × (p ≡ record { lines = 0; batches = 0 })
 IsUnloaded Refused Honest keeps old found now p (Worker fault) =
     IsLoaded old found now p × EndedBy Honest fault
 IsUnloaded Refused Honest keeps old found now p Due = IsLoaded old found now p

@@ -1,13 +1,13 @@
 //! Lines come into a state while workers compact beside.
 
-ghost use Rattle.std.specs.Prelude.{◌≡◌, [], All, IfErr, IfSome, OnOk};
+ghost use Rattle.std.specs.Prelude.{◌≡◌, ◌+◌, [], All, IfErr, IfSome, OnOk};
 ghost use Rattle.lsm_shelf.specs.Told.{Forked};
 ghost use Rattle.lsm_state.specs.Held.{Held};
 ghost use Rattle.lsm_store.specs.Compacting.{IsKeptByCompaction};
 ghost use Rattle.lsm_store.specs.Workers.{IsWorkersEnd};
-ghost use Rattle.lsm_bulk_load.specs.Ending.{IsIdle, IsLooked};
+ghost use Rattle.lsm_bulk_load.specs.Ending.{IsIdle, IsLooked, ReservesNone};
 ghost use Rattle.lsm_bulk_load.specs.Keeping.{IsKeptByAll, IsOfLines, IsTaken};
-ghost use Rattle.lsm_bulk_load.specs.Loading.{IsLoaded, IsStopped, IsUnloaded};
+ghost use Rattle.lsm_bulk_load.specs.Loading.{ForkedTimes, IsLoaded, IsStopped, IsUnloaded};
 ghost use Rattle.lsm_bulk_load.specs.Marks.{IsEven, marked_in};
 
 use crate::crew::Crew;
@@ -107,13 +107,14 @@ fn load_all<N: Boarded, S: Shelf, O: Origin, R: Threads + Wait + Sync, I: Read +
 }
 
 /// Loads the lines of an input, of which none was gathered yet, into a state, while so many workers
-/// compact beside, until all lines are in and nothing is due. The shelf is asked for forks alone.
+/// compact beside, until all lines are in and nothing is due. The shelf is asked for forks alone:
+/// one for each worker, one for the batches and one for the store.
 ///
 /// The state comes back. It is just as far as the lines made it that are counted; only behind
 /// `Other` it goes on from there. All of them are lines before the first one that is no write of a
 /// batch, where one is not. In any case the fact held of it that the caller picked, before a job
 /// was looked for: one that holds of the state that was found, and is kept by workers, and by the
-/// ingest of each batch that lines of the input spell.
+/// ingest of each batch that lines of the input spell. No job is live that was not live then.
 #[tactic(auto, using(crate::proofs::EndingLaws::finished, crate::proofs::EndingLaws::unfinished, crate::proofs::EndingLaws::unbegun, crate::proofs::MarkLaws::even_first))]
 pub fn load_beside<N, S, O, R, I, T>(
     rt: &R,
@@ -136,13 +137,15 @@ where
     requires first { (h : Held) → IsTaken state h → O.keeps h }
     requires asked { IsKeptByAll (S.refuses N.place) (IsOfLines lines) O.keeps }
     requires workers { IsKeptByCompaction S.honest O.keeps }
-    ensures kept { (h : Held) × ∥ O.keeps h ∥₁ × IsLooked h result.state }
+    ensures kept { (h : Held) × ∥ O.keeps h ∥₁ × IsLooked h result.state
+        × ReservesNone h result.state }
     ensures loaded { OnOk result.done
         (IsLoaded lines (marked_in state) (marked_in result.state) result.progress) }
     ensures idle { OnOk result.done (S.honest → IsIdle result.state) }
     ensures refused { IfErr result.done (λ e. IsUnloaded (S.refuses N.place) S.honest O.keeps
         lines (marked_in state) (marked_in result.state) result.progress e) }
     ensures told { Forked shelf.old shelf.new }
+    ensures just { OnOk result.done (ForkedTimes (workers + 2) shelf.old shelf.new) }
 {
     let mut state = state;
     let before: Mark<N, O> = Mark::of(&mut state);

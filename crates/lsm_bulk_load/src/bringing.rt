@@ -5,7 +5,8 @@ ghost use Rattle.lsm_history.specs.History.{IsLater};
 ghost use Rattle.lsm_store.specs.Background.{IsKeptByIngest};
 ghost use Rattle.lsm_bulk_load.specs.Coming.{ComesNext};
 ghost use Rattle.lsm_bulk_load.specs.Keeping.{IsKeptByNext};
-ghost use Rattle.lsm_bulk_load.specs.Loading.{IsNotTaken, StaysOut, TakesBatch};
+ghost use Rattle.lsm_bulk_load.specs.Loading.{IsNotTaken, IsToldOf, IsToldOfNext, StaysOut};
+ghost use Rattle.lsm_bulk_load.specs.Loading.{TakesBatch};
 ghost use Rattle.lsm_bulk_load.specs.Marks.{IsBehind};
 
 use crate::load_fault::LoadFault;
@@ -38,7 +39,8 @@ fn mark_behind<N: Boarded, S: Shelf, O: Origin, R: Wait>(
 }
 
 /// Brings a batch into a store that is as far as a mark says, and marks how far it is then. The
-/// fact of the lock is one that the ingest of this batch keeps.
+/// fact of the lock is one that the ingest of this batch keeps. The shelf is asked for just what
+/// this ingest asks.
 ///
 /// A refusal has a mark too: `Ingest` this one, where the batch is not in; `Other` a later one,
 /// where it is in, and another batch is too.
@@ -55,6 +57,7 @@ pub fn bring_in<N: Boarded, S: Shelf, O: Origin, R: Wait>(
     ensures came { IfOk result (λ m. ComesNext batch.now mark m) }
     ensures refused { IfErr result (λ e.
         StaysOut (S.refuses N.place) O.keeps batch.now mark e.1 e.0) }
+    ensures told { IsToldOf (S.refuses N.place) O.keeps batch.now shelf.old shelf.new }
 {
     let (came, memory) = match background.ingest(rt, alloc, store, shelf, batch) {
         Ok(came) => came,
@@ -85,6 +88,7 @@ pub(crate) fn take_batch<N: Boarded, S: Shelf, O: Origin, R: Wait, I: Read + Dro
         TakesBatch lines.old lines.new mark r.0 progress r.1 r.2) }
     ensures refused { IfErr result (λ e.
         IsNotTaken (S.refuses N.place) O.keeps lines.old mark e.1 e.0) }
+    ensures told { IsToldOfNext (S.refuses N.place) O.keeps lines.old shelf.old shelf.new }
 {
     let Ok(gathered) = lines.next(alloc) else {
         return Err((LoadFault::OutOfMemory, mark));

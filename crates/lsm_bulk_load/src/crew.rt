@@ -1,9 +1,10 @@
 //! A store that is loaded, and the shelves beside it.
 
-ghost use Rattle.std.specs.Prelude.{◌≡◌, [], IfErr, IfOk, vec_len};
+ghost use Rattle.std.specs.Prelude.{◌≡◌, ◌+◌, [], IfErr, IfOk, OnOk, vec_len};
 ghost use Rattle.lsm_shelf.specs.Told.{Forked, NotNamed};
 ghost use Rattle.lsm_state.specs.Held.{Held};
 ghost use Rattle.lsm_bulk_load.specs.Keeping.{IsTaken};
+ghost use Rattle.lsm_bulk_load.specs.Loading.{ForkedTimes};
 ghost use Rattle.lsm_bulk_load.specs.Marks.{marked_in};
 
 use crate::origin::{Grown, Origin};
@@ -14,7 +15,7 @@ use lsm_table::{NamedShelf, Shelf, ShelfFault};
 use std::alloc::Global;
 
 /// So many forks of a shelf, of which nothing else is asked.
-#[tactic(auto, using(lsm_shelf::proofs::CallerLemmas::forked_then, lsm_shelf::proofs::CallerLemmas::forked_none, lsm_shelf::proofs::CallerLemmas::forked_once, lsm_shelf::proofs::CallerLemmas::forked_same))]
+#[tactic(auto, using(crate::proofs::ForkLaws::forked_just, crate::proofs::ForkLaws::forked_and, crate::proofs::ForkLaws::forking_none))]
 pub fn forks<N: Boarded, S: Shelf>(
     alloc: Global,
     shelf: &mut NamedShelf<N, S>,
@@ -22,6 +23,7 @@ pub fn forks<N: Boarded, S: Shelf>(
 ) -> Result<Vec<NamedShelf<N, S>>, ShelfFault>
     ensures count { IfOk result (λ v. vec_len v ≡ count) }
     ensures told { Forked shelf.old shelf.new }
+    ensures just { OnOk result (ForkedTimes count shelf.old shelf.new) }
     ensures cause { IfErr result NotNamed }
 {
     let mut forks = Vec::new(alloc);
@@ -49,6 +51,7 @@ fn forks_for<N: Boarded, S: Shelf>(
 ) -> Result<Shelves<N, S>, ShelfFault>
     ensures count { IfOk result (λ f. vec_len f.shelves ≡ workers) }
     ensures told { Forked shelf.old shelf.new }
+    ensures just { OnOk result (ForkedTimes (workers + 2) shelf.old shelf.new) }
     ensures cause { IfErr result NotNamed }
 {
     let shelves = forks::<N, S>(alloc, shelf, workers)?;
@@ -87,6 +90,7 @@ impl<N: Boarded, S: Shelf, O: Origin> Crew<N, S, O> {
         ensures back { IfErr result (λ e. e.0 ≡ record state { pinners = [] }) }
         ensures cause { IfErr result (λ e. NotNamed e.1) }
         ensures told { Forked shelf.old shelf.new }
+        ensures just { OnOk result (ForkedTimes (workers + 2) shelf.old shelf.new) }
     {
         let mut state = state;
         let _ends = state.take_pinners(alloc);

@@ -1,7 +1,9 @@
 //! What is left behind the lines: whether workers ended early, and whether nothing is due.
 
-ghost use Rattle.std.specs.Prelude.{◌≡◌, All, IfErr, OnErr, OnOk};
+ghost use Rattle.std.specs.Prelude.{◌≡◌, ◌≢◌, ℕ, All, IfErr, OnErr, OnOk};
+ghost use Rattle.lsm_live.specs.Booked.{HasTicket};
 ghost use Rattle.lsm_bulk_load.specs.Ending.{IsFaultless, IsFirstFault, IsIdle, IsLate, IsLooked};
+ghost use Rattle.lsm_bulk_load.specs.Ending.{ReservesNone};
 ghost use Rattle.lsm_bulk_load.specs.Marks.{IsEven, marked_in};
 ghost use Rattle.lsm_bulk_load.specs.declared.load_fault.LoadFault.TheVariants.{Due};
 
@@ -36,7 +38,9 @@ fn judge(ends: &[WorkerEnd]) -> Result<(), WorkerFault>
 
 /// Gives a job up again.
 fn give_up<N: Boarded, S: Shelf>(state: &mut State<N, S>, ticket: u64)
-    ensures { state.new ≡ record state.old { live = state.new.live } }
+    ensures rest { state.new ≡ record state.old { live = state.new.live } }
+    ensures gone { (other : ℕ) → HasTicket state.new.live other
+        → HasTicket state.old.live other × (other ≢ ticket) }
 {
     match state.cancel(ticket) {
         Ok(()) => {}
@@ -47,7 +51,7 @@ fn give_up<N: Boarded, S: Shelf>(state: &mut State<N, S>, ticket: u64)
 
 /// Whether a worker would find nothing to gather, and nothing to compact. What is reserved is given
 /// up again.
-#[tactic(auto, using(crate::proofs::EndingLaws::looked_none, crate::proofs::EndingLaws::looked_mark))]
+#[tactic(auto, using(crate::proofs::EndingLaws::looked_none, crate::proofs::EndingLaws::looked_mark, crate::proofs::EndingLaws::reserves_same))]
 fn nothing_is_due<N: Boarded, S: Shelf>(
     alloc: Global,
     state: &mut State<N, S>,
@@ -55,6 +59,7 @@ fn nothing_is_due<N: Boarded, S: Shelf>(
     ensures idle { OnOk result (S.honest → IsIdle state.new) }
     ensures due { IfErr result (λ e. e ≡ Due) }
     ensures looked { IsLooked state.old state.new }
+    ensures none { ReservesNone state.old state.new }
     ensures same { marked_in state.new ≡ marked_in state.old }
 {
     let Ok(true) = state.has_none_to_gather(alloc) else {
@@ -72,7 +77,7 @@ fn nothing_is_due<N: Boarded, S: Shelf>(
 
 /// Whether all is done, where lines came in up to a mark, and workers ended so: the state is just
 /// as far as the mark, all lines are in, no worker ended early, and nothing is due.
-#[tactic(auto, using(crate::proofs::EndingLaws::late_other, crate::proofs::EndingLaws::late_lines, crate::proofs::EndingLaws::late_worker, crate::proofs::EndingLaws::late_due, crate::proofs::EndingLaws::none_refused, crate::proofs::EndingLaws::looked_none))]
+#[tactic(auto, using(crate::proofs::EndingLaws::late_other, crate::proofs::EndingLaws::late_lines, crate::proofs::EndingLaws::late_worker, crate::proofs::EndingLaws::late_due, crate::proofs::EndingLaws::none_refused, crate::proofs::EndingLaws::looked_none, crate::proofs::EndingLaws::reserves_same))]
 pub(crate) fn finish<N: Boarded, S: Shelf, O: Origin>(
     alloc: Global,
     mark: Mark<N, O>,
@@ -86,6 +91,7 @@ pub(crate) fn finish<N: Boarded, S: Shelf, O: Origin>(
     ensures idle { OnOk result (S.honest → IsIdle state.new) }
     ensures faultless { OnOk result (All IsFaultless ends.now) }
     ensures looked { IsLooked state.old state.new }
+    ensures none { ReservesNone state.old state.new }
     ensures late { IfErr result (λ e. IsLate mark (marked_in state.new) loaded ends.now e) }
 {
     if !mark.is_of(state) {

@@ -2,7 +2,7 @@
 
 ghost use Rattle.std.specs.Prelude.{◌≡◌, [], IfErr, OnOk};
 ghost use Rattle.lsm_bulk_load.specs.Keeping.{IsKeptByAll, IsOfLines};
-ghost use Rattle.lsm_bulk_load.specs.Loading.{IsLoaded, IsStopped};
+ghost use Rattle.lsm_bulk_load.specs.Loading.{IsLoaded, IsStopped, IsToldOfBatches};
 
 use crate::bringing::take_batch;
 use crate::load_fault::LoadFault;
@@ -25,7 +25,8 @@ use std::sync::Wait;
 ///
 /// A refusal leaves whole batches: the mark is behind them, and the progress says how many lines
 /// they are, which are all lines before the first one that is no write of a batch, where one is
-/// not. Behind `Other` the mark is later than they are.
+/// not. Behind `Other` the mark is later than they are. The shelf is asked for nothing but what the
+/// ingests of these batches ask.
 pub fn load<N: Boarded, S: Shelf, O: Origin, R: Wait, I: Read + Drop, T: Teller>(
     rt: &R,
     alloc: Global,
@@ -41,6 +42,8 @@ pub fn load<N: Boarded, S: Shelf, O: Origin, R: Wait, I: Read + Drop, T: Teller>
     ensures loaded { OnOk result.0 (IsLoaded lines.old mark result.1 result.2) }
     ensures refused { IfErr result.0 (λ e.
         IsStopped (S.refuses N.place) O.keeps lines.old mark result.1 result.2 e) }
+    ensures told { IsToldOfBatches (S.refuses N.place) O.keeps (IsOfLines lines.old)
+        shelf.old shelf.new }
 {
     let mut mark = mark;
     let mut progress = Progress::none();

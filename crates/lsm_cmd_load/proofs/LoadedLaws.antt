@@ -1,9 +1,9 @@
 -- What a load leaves, by what each of its steps says.
-use Rattle.std.proofs.Common.{◌≡◌, ◌∙◌, ℕ, List, [], Option, ap, subst, sym}
+use Rattle.std.proofs.Common.{◌≡◌, ◌∙◌, ◌+◌, ℕ, List, [], Option, ap, subst, sym}
 use Rattle.std.specs.Prelude.{◌-◌}
 use Rattle.atomic_table.specs.Seated.{TableId}
 use Rattle.lsm_shelf.specs.Asked.{Asked}
-use Rattle.lsm_shelf.specs.Told.{Forked, Told}
+use Rattle.lsm_shelf.specs.Told.{Told}
 use Rattle.lsm_shelf.specs.declared.shelf_fault.ShelfFault.{ShelfFault}
 use Rattle.lsm_slots.specs.Slots.{Looked, Slotted}
 use Rattle.lsm_state.specs.Held.{Held}
@@ -13,7 +13,7 @@ use Rattle.lsm_directory.specs.declared.folder.folder_file.FolderFile.{FolderFil
 use Rattle.lsm_lines.specs.Gathering.{Pending}
 use Rattle.lsm_lines.specs.Passing.{PassesLines}
 use Rattle.lsm_bulk_load.specs.Ending.{IsIdle, IsLooked}
-use Rattle.lsm_bulk_load.specs.Loading.{IsLoaded}
+use Rattle.lsm_bulk_load.specs.Loading.{ForkedTimes, IsLoaded}
 use Rattle.lsm_bulk_load.specs.Marks.{Marked, marked_in}
 use Rattle.lsm_bulk_load.specs.declared.progress.Progress.{Progress}
 use Rattle.lsm_opening.specs.Compactions.{IsSwept, Refuses}
@@ -47,10 +47,10 @@ pub record Behind (Refused : Asked → ShelfFault → Type 0) (Honest : Type 0) 
   pub idle : Honest → IsIdle left
   pub same : marked_in left ≡ marked_in loaded
 
-pub loads_all : (Refused : Asked → ShelfFault → Type 0) (Honest : Type 0) (start : Start) (logs : List FolderFile) (pending : Pending) (p : Progress) (found loaded left : Held) (was opened is : Told)
-    → IsStarted Honest start logs found was opened → IsLoaded pending (marked_in found) (marked_in loaded) p → Behind Refused Honest pending found loaded left → Forked opened is
-    → LoadsAll Refused Honest start logs pending p left was is
-loads_all Refused Honest start logs pending p found loaded left was opened is started all behind forked = record {
+pub loads_all : (Refused : Asked → ShelfFault → Type 0) (Honest : Type 0) (start : Start) (logs : List FolderFile) (workers : ℕ) (pending : Pending) (p : Progress) (found loaded left : Held) (was opened is : Told)
+    → IsStarted Honest start logs found was opened → IsLoaded pending (marked_in found) (marked_in loaded) p → Behind Refused Honest pending found loaded left → ForkedTimes (workers + 2) opened is
+    → LoadsAll Refused Honest start logs workers pending p left was is
+loads_all Refused Honest start logs workers pending p found loaded left was opened is started all behind forked = record {
   found = found;
   mid = opened;
   started = started;
@@ -63,25 +63,25 @@ loads_all Refused Honest start logs pending p found loaded left was opened is st
   forked = forked;
 }
 
-pub loads_whole : (Refused : Asked → ShelfFault → Type 0) (Honest : Type 0) (start : Start) (logs : List FolderFile) (pending : Pending) (p : Progress) (board : TableId) (found loaded left : Held) (was opened mid is : Told)
-    → IsStarted Honest start logs found was opened → IsLoaded pending (marked_in found) (marked_in loaded) p → Behind Refused Honest pending found loaded left → Forked opened mid
-    → IsSwept Honest board left mid is → LoadsWhole Refused Honest start logs pending p was is
-loads_whole Refused Honest start logs pending p board found loaded left was opened mid is started all behind forked swept = record {
+pub loads_whole : (Refused : Asked → ShelfFault → Type 0) (Honest : Type 0) (start : Start) (logs : List FolderFile) (workers : ℕ) (pending : Pending) (p : Progress) (board : TableId) (found loaded left : Held) (was opened mid is : Told)
+    → IsStarted Honest start logs found was opened → IsLoaded pending (marked_in found) (marked_in loaded) p → Behind Refused Honest pending found loaded left → ForkedTimes (workers + 2) opened mid
+    → IsSwept Honest board left mid is → LoadsWhole Refused Honest start logs workers pending p was is
+loads_whole Refused Honest start logs workers pending p board found loaded left was opened mid is started all behind forked swept = record {
   left = left;
   mid = mid;
-  loads = loads_all Refused Honest start logs pending p found loaded left was opened mid started all behind forked;
+  loads = loads_all Refused Honest start logs workers pending p found loaded left was opened mid started all behind forked;
   board = board;
   swept = swept;
 }
 
-pub unswept : (Refused : Asked → ShelfFault → Type 0) (Honest : Type 0) (start : Start) (logs : List FolderFile) (pending : Pending) (p : Progress) (fault : StateFault) (board : TableId)
+pub unswept : (Refused : Asked → ShelfFault → Type 0) (Honest : Type 0) (start : Start) (logs : List FolderFile) (workers : ℕ) (pending : Pending) (p : Progress) (fault : StateFault) (board : TableId)
     (found loaded left : Held) (was opened mid is : Told) → IsStarted Honest start logs found was opened → IsLoaded pending (marked_in found) (marked_in loaded) p
-    → Behind Refused Honest pending found loaded left → Forked opened mid → Refuses Refused Honest board left fault mid is → IsUnswept Refused Honest start logs pending fault was is
-unswept Refused Honest start logs pending p fault board found loaded left was opened mid is started all behind forked refuses = record {
+    → Behind Refused Honest pending found loaded left → ForkedTimes (workers + 2) opened mid → Refuses Refused Honest board left fault mid is → IsUnswept Refused Honest start logs workers pending fault was is
+unswept Refused Honest start logs workers pending p fault board found loaded left was opened mid is started all behind forked refuses = record {
   p = p;
   left = left;
   mid = mid;
-  loads = loads_all Refused Honest start logs pending p found loaded left was opened mid started all behind forked;
+  loads = loads_all Refused Honest start logs workers pending p found loaded left was opened mid started all behind forked;
   board = board;
   refuses = refuses;
 }

@@ -20,7 +20,7 @@ use Rattle.lsm_opening.specs.declared.faults.writer_fault.WriterFault.TheVariant
 use Rattle.lsm_opening.specs.declared.prepared.Start.{Start}
 use Rattle.lsm_bulk_load.specs.Ending.{IsIdle, IsLooked}
 use Rattle.lsm_bulk_load.specs.Keeping.{HasComeTo, IsOfLines}
-use Rattle.lsm_bulk_load.specs.Loading.{IsLoaded, IsUnloaded}
+use Rattle.lsm_bulk_load.specs.Loading.{ForkedTimes, IsLoaded, IsUnloaded}
 use Rattle.lsm_bulk_load.specs.Marks.{marked_in}
 use Rattle.lsm_bulk_load.specs.declared.load_fault.LoadFault.{LoadFault}
 use Rattle.lsm_bulk_load.specs.declared.progress.Progress.{Progress}
@@ -39,12 +39,13 @@ abbrev pub HasComeBy : (Asked → ShelfFault → Type 0) → Type 0 → Pending 
 HasComeBy Refused Honest pending found h = HasComeTo Refused Honest (IsOfLines pending) found h
 
 -- The directory was begun or opened, and all lines that were to come came into it, so many; over an
--- honest shelf nothing was due behind them; after the opening the shelf was asked for forks alone.
+-- honest shelf nothing was due behind them; after the opening the shelf was asked for forks alone,
+-- one for each of so many workers, and two.
 -- Of the state behind them no more changed then than slots that were looked at, live jobs, and the
 -- next ticket.
 pub record LoadsAll (Refused : Asked → ShelfFault
-    → Type 0) (Honest : Type 0) (start : Start) (logs : List FolderFile) (pending : Pending) (p
-    : Progress) (left : Held) (was is : Told) : Type 0 where
+    → Type 0) (Honest : Type 0) (start : Start) (logs : List FolderFile) (workers : ℕ) (pending
+    : Pending) (p : Progress) (left : Held) (was is : Told) : Type 0 where
   pub found : Held
   pub mid : Told
   pub started : IsStarted Honest start logs found was mid
@@ -55,23 +56,23 @@ pub record LoadsAll (Refused : Asked → ShelfFault
       { slots = left.slots; live = left.live; next_ticket = left.next_ticket }
   pub loaded : IsLoaded pending (marked_in found) (marked_in left) p
   pub idle : Honest → IsIdle left
-  pub forked : Forked mid is
+  pub forked : ForkedTimes (workers + 2) mid is
 
 -- ... and what the state behind them does not keep was removed.
 pub record LoadsWhole (Refused : Asked → ShelfFault
-    → Type 0) (Honest : Type 0) (start : Start) (logs : List FolderFile) (pending : Pending) (p
-    : Progress) (was is : Told) : Type 0 where
+    → Type 0) (Honest : Type 0) (start : Start) (logs : List FolderFile) (workers : ℕ) (pending
+    : Pending) (p : Progress) (was is : Told) : Type 0 where
   pub left : Held
   pub mid : Told
-  pub loads : LoadsAll Refused Honest start logs pending p left was mid
+  pub loads : LoadsAll Refused Honest start logs workers pending p left was mid
   pub board : TableId
   pub swept : IsSwept Honest board left mid is
 
 -- That was done, and how much it was is written.
-abbrev pub IsLoadDone : (Asked → ShelfFault → Type 0) → Type 0 → Start → List FolderFile → Pending
-    → Told → Told → Option (List ℕ) → Option (List ℕ) → Type 0
-IsLoadDone Refused Honest start logs pending was is old new =
-    (p : Progress) × LoadsWhole Refused Honest start logs pending p was is
+abbrev pub IsLoadDone : (Asked → ShelfFault → Type 0) → Type 0 → Start → List FolderFile
+    → (workers : ℕ) → Pending → Told → Told → Option (List ℕ) → Option (List ℕ) → Type 0
+IsLoadDone Refused Honest start logs workers pending was is old new =
+    (p : Progress) × LoadsWhole Refused Honest start logs workers pending p was is
     × Appends old new (loaded_text p)
 
 -- ---- refusals
@@ -97,12 +98,12 @@ pub record StopsLoading (Refused : Asked → ShelfFault
 
 -- All lines came in, and the collect behind them was refused.
 pub record IsUnswept (Refused : Asked → ShelfFault
-    → Type 0) (Honest : Type 0) (start : Start) (logs : List FolderFile) (pending : Pending) (fault
-    : StateFault) (was is : Told) : Type 0 where
+    → Type 0) (Honest : Type 0) (start : Start) (logs : List FolderFile) (workers : ℕ) (pending
+    : Pending) (fault : StateFault) (was is : Told) : Type 0 where
   pub p : Progress
   pub left : Held
   pub mid : Told
-  pub loads : LoadsAll Refused Honest start logs pending p left was mid
+  pub loads : LoadsAll Refused Honest start logs workers pending p left was mid
   pub board : TableId
   pub refuses : Refuses Refused Honest board left fault mid is
 
@@ -112,16 +113,16 @@ IsFirstOut from p line = from + p.lines < 2 ^ 128 → line ≡ from + p.lines
 
 -- What a fault says, where the first line that was to come had this number.
 abbrev pub IsLoadFault : (ℕ → List ℕ → Type 0) → (Asked → ShelfFault → Type 0) → Type 0 → Start
-    → List FolderFile → ℕ → Pending → Stopped → Told → Told → Type 0
-IsLoadFault Stored Refused Honest start logs from pending (Before e) was is =
+    → List FolderFile → (from workers : ℕ) → Pending → Stopped → Told → Told → Type 0
+IsLoadFault Stored Refused Honest start logs from workers pending (Before e) was is =
     IsStartRefusal Stored Refused Honest start logs e was is
-IsLoadFault Stored Refused Honest start logs from pending (Lines fault line) was is =
+IsLoadFault Stored Refused Honest start logs from workers pending (Lines fault line) was is =
     (p : Progress) × IsFirstOut from p line
     × StopsLoading Refused Honest start logs pending p fault was is
-IsLoadFault Stored Refused Honest start logs from pending (Sweep fault) was is =
-    IsUnswept Refused Honest start logs pending fault was is
-IsLoadFault Stored Refused Honest start logs from pending Write was is =
-    (p : Progress) × LoadsWhole Refused Honest start logs pending p was is
+IsLoadFault Stored Refused Honest start logs from workers pending (Sweep fault) was is =
+    IsUnswept Refused Honest start logs workers pending fault was is
+IsLoadFault Stored Refused Honest start logs from workers pending Write was is =
+    (p : Progress) × LoadsWhole Refused Honest start logs workers pending p was is
 
 -- ---- of an input
 
@@ -142,7 +143,7 @@ abbrev pub IsInputLoaded : (Asked → ShelfFault → Type 0) → Type 0 → Star
     → LoadOptions → Option (List ℕ) → Told → Told → Option (List ℕ) → Option (List ℕ) → Type 0
 IsInputLoaded Refused Honest start logs options input was is old new =
     (pending : Pending) × IsToCome options input pending
-    × IsLoadDone Refused Honest start logs pending was is old new
+    × IsLoadDone Refused Honest start logs options.workers pending was is old new
 
 -- Memory ran out, or the input could not be read, before the shelf was asked for anything; or a
 -- fault was met behind these lines.
@@ -151,7 +152,8 @@ abbrev pub IsInputFault : (ℕ → List ℕ → Type 0) → (Asked → ShelfFaul
 IsInputFault Stored Refused Honest start logs options input e was is =
     (((e ≡ Before OutOfMemory) ⊎ (e ≡ Before Read)) × (is ≡ was))
     ⊎ ((pending : Pending) × IsToCome options input pending
-    × IsLoadFault Stored Refused Honest start logs options.from_line pending e was is)
+    × IsLoadFault Stored Refused Honest start logs options.from_line options.workers pending e
+    was is)
 
 -- what a refusal is: what the fault says; and, unless a write failed, nothing was written on
 -- standard output

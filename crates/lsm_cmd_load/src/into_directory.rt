@@ -67,11 +67,11 @@ where
     requires parts { AreOf usual N.registry N.board N.history parts }
     requires held { lines.held ≡ [] }
     ensures done { OnOk result (IsLoadDone (S.refuses N.place) S.honest prepared.now.start
-        prepared.now.logs.items lines shelf.old shelf.new
+        prepared.now.logs.items options.workers lines shelf.old shelf.new
         (O.contents out.old) (O.contents out.new)) }
     ensures fault { IfErr result (λ e. IsLoadFault (Stored S.Receipt (S.is_of N.place)
         S.Receipt.number S.Receipt.image) (S.refuses N.place) S.honest prepared.now.start
-        prepared.now.logs.items options.from_line lines e shelf.old shelf.new) }
+        prepared.now.logs.items options.from_line options.workers lines e shelf.old shelf.new) }
     ensures left { IfErr result (λ e. e ≢ WriteStopped
         → Keeps (O.contents out.old) (O.contents out.new)) }
 {
@@ -130,11 +130,12 @@ where
     requires shelf { (S.told shelf).place ≡ N.place }
     requires held { lines.held ≡ [] }
     ensures done { OnOk result.0 (IsLoadDone (S.refuses N.place) S.honest prepared.now.start
-        prepared.now.logs.items lines (S.told shelf) (S.told result.1)
+        prepared.now.logs.items options.workers lines (S.told shelf) (S.told result.1)
         (O.contents out.old) (O.contents out.new)) }
     ensures fault { IfErr result.0 (λ e. IsLoadFault (Stored S.Receipt (S.is_of N.place)
         S.Receipt.number S.Receipt.image) (S.refuses N.place) S.honest prepared.now.start
-        prepared.now.logs.items options.from_line lines e (S.told shelf) (S.told result.1)) }
+        prepared.now.logs.items options.from_line options.workers lines e (S.told shelf)
+        (S.told result.1)) }
     ensures left { IfErr result.0 (λ e. e ≢ WriteStopped
         → Keeps (O.contents out.old) (O.contents out.new)) }
 {

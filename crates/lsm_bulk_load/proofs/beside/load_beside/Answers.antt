@@ -28,10 +28,10 @@ returns-in-None-clause-refused g c =
     c.finish-done-in-None.result same c.requires.held c.none-in-None.ensures c.finish-done-in-None.ensures.late
 
 pub returns-in-Some-clause-kept : goal.returns-in-Some-clause-kept
-returns-in-Some-clause-kept g c = (c.load_all-answer.result.1, c.load_all-answer.ensures.kept, c.finish-done.ensures.looked)
+returns-in-Some-clause-kept g c = (c.load_all-answer.result.1, c.load_all-answer.ensures.kept, c.finish-done.ensures.looked, c.finish-done.ensures.none)
 
 pub returns-in-None-clause-kept : goal.returns-in-None-clause-kept
-returns-in-None-clause-kept g c = (c.load_all-answer.result.1, c.load_all-answer.ensures.kept, c.finish-done-in-None.ensures.looked)
+returns-in-None-clause-kept g c = (c.load_all-answer.result.1, c.load_all-answer.ensures.kept, c.finish-done-in-None.ensures.looked, c.finish-done-in-None.ensures.none)
 
 pub new-requires-clause-first : goal.new-requires-clause-first
 new-requires-clause-first g c κs within = λ h taken. c.requires.first h (subst (λ (s : Held). IsTaken s h) (c.of-mark.ensures.same ∙ c.of-before.ensures.same) taken)
@@ -41,4 +41,4 @@ returns-in-Err-clause-kept g c =
     let back : c.in-Err.state ≡ record c.args.state { pinners = [] } =
     c.in-Err.ensures.back ∙ ap (λ (s : Held). record s { pinners = [] }) (c.of-mark.ensures.same ∙ c.of-before.ensures.same)
     in
-    (c.in-Err.state, ∣ c.requires.first c.in-Err.state (inr (inl back)) ∣₁, refl)
+    (c.in-Err.state, ∣ c.requires.first c.in-Err.state (inr (inl back)) ∣₁, refl, λ ticket has. has)

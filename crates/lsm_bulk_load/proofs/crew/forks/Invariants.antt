@@ -1,9 +1,9 @@
 use Rattle.std.proofs.Common.{◌≡◌, vec_len}
-use Rattle.lsm_shelf.specs.Told.{Forked}
+use Rattle.lsm_bulk_load.specs.Loading.{ForkedTimes}
 use Rattle.lsm_bulk_load.proofs.crew.forks.Given as goal
 
 abbrev pub invariant-loop : goal.invariant-loop
 invariant-loop g l = record {
-  told : Forked l.fn.shelf l.shelf;
+  told : ForkedTimes l.counter l.fn.shelf l.shelf;
   count : vec_len l.forks ≡ l.counter;
 }

@@ -1,7 +1,7 @@
-use Rattle.std.proofs.Common.{subst, sym}
+use Rattle.std.proofs.Common.{ap, subst, sym}
 use Rattle.lsm_state.specs.Held.{Held}
 use Rattle.lsm_bulk_load.specs.Ending.{IsIdle}
-use Rattle.lsm_bulk_load.proofs.EndingLaws.{looked_back, looked_mark}
+use Rattle.lsm_bulk_load.proofs.EndingLaws.{looked_back, looked_mark, reserves_back}
 use Rattle.lsm_bulk_load.proofs.ending.nothing_is_due.Goals as goal
 
 -- nothing was reserved, so the state is as it was when there was nothing to gather
@@ -14,9 +14,13 @@ returns-in-Ok-None-clause-idle g c honest =
 
 pub returns-in-Ok-Some-clause-looked : goal.returns-in-Ok-Some-clause-looked
 returns-in-Ok-Some-clause-looked g c =
-    looked_back c.args.state.now c.reserve_next.new.self c.give_up.new.state _ _ (rw c.in-Ok-Some.field-0-is at c.in-Ok-Some.ensures.ok) c.give_up.ensures
+    looked_back c.args.state.now c.reserve_next.new.self c.give_up.new.state _ _ (rw c.in-Ok-Some.field-0-is at c.in-Ok-Some.ensures.ok) c.give_up.ensures.rest
 
 pub returns-in-Ok-Some-clause-same : goal.returns-in-Ok-Some-clause-same
 returns-in-Ok-Some-clause-same g c =
     looked_mark c.args.state.now c.give_up.new.state
-    (looked_back c.args.state.now c.reserve_next.new.self c.give_up.new.state _ _ (rw c.in-Ok-Some.field-0-is at c.in-Ok-Some.ensures.ok) c.give_up.ensures)
+    (looked_back c.args.state.now c.reserve_next.new.self c.give_up.new.state _ _ (rw c.in-Ok-Some.field-0-is at c.in-Ok-Some.ensures.ok) c.give_up.ensures.rest)
+
+pub returns-in-Ok-Some-clause-none : goal.returns-in-Ok-Some-clause-none
+returns-in-Ok-Some-clause-none g c =
+    reserves_back c.args.state.now c.reserve_next.new.self c.give_up.new.state _ (ap (λ (h : Held). h.live) (rw c.in-Ok-Some.field-0-is at c.in-Ok-Some.ensures.ok)) c.give_up.ensures.gone

@@ -1,6 +1,7 @@
 use Rattle.std.proofs.Common.{refl, ap, arith}
 use Rattle.lsm_bulk_load.specs.declared.progress.Progress.{Progress}
-use Rattle.lsm_bulk_load.proofs.KeepingLaws.{kept_next}
+use Rattle.lsm_bulk_load.specs.Keeping.{IsOfLines}
+use Rattle.lsm_bulk_load.proofs.KeepingLaws.{kept_next, told_next, told_none}
 use Rattle.lsm_bulk_load.proofs.LoadLaws.{counted, end_on, few_lines, full_on, loads_none, room, room_of_batches, stopped_on, stopped_short}
 use Rattle.lsm_bulk_load.proofs.loading.load.Goals as goal
 
@@ -10,6 +11,7 @@ batches-init g c = record {
   form = (refl, refl);
   lines = omega (arith, ap (λ (p : Progress). p.lines) c.none-progress.ensures);
   count = omega (arith, ap (λ (p : Progress). p.batches) c.none-progress.ensures);
+  told = told_none (g.S.Shelf.refuses g.N.Naming.place) g.O.Origin.keeps (IsOfLines c.args.lines.now) c.args.shelf.now;
 }
 
 pub take_batch-requires-clause-lines : goal.take_batch-requires-clause-lines
@@ -48,7 +50,24 @@ batches-preserved g c =
       form = on.1;
       lines = few_lines c.batches._turn c.batches.progress.lines c.in-Ok.more.lines c.batches.invariant.lines more.0;
       count = omega (arith, c.batches.invariant.count, more.1);
+      told = told_next (g.S.Shelf.refuses g.N.Naming.place) g.O.Origin.keeps c.args.lines.now c.batches.lines c.args.mark c.batches.mark c.batches.progress c.args.shelf.now c.batches.shelf
+          c.take_batch.new.shelf c.batches.invariant.form c.batches.invariant.loads c.batches.invariant.told c.take_batch.ensures.told;
     }
 
 pub returns-clause-refused : goal.returns-clause-refused
 returns-clause-refused g c = (c.batches.lines.left, c.batches.lines.held, c.batches.invariant.loads)
+
+pub returns-in-Err-clause-told : goal.returns-in-Err-clause-told
+returns-in-Err-clause-told g c =
+    told_next (g.S.Shelf.refuses g.N.Naming.place) g.O.Origin.keeps c.args.lines.now c.batches.lines c.args.mark c.batches.mark c.batches.progress c.args.shelf.now c.batches.shelf
+    c.take_batch.new.shelf c.batches.invariant.form c.batches.invariant.loads c.batches.invariant.told c.take_batch.ensures.told
+
+pub returns-in-End-clause-told : goal.returns-in-End-clause-told
+returns-in-End-clause-told g c =
+    told_next (g.S.Shelf.refuses g.N.Naming.place) g.O.Origin.keeps c.args.lines.now c.batches.lines c.args.mark c.batches.mark c.batches.progress c.args.shelf.now c.batches.shelf
+    c.take_batch.new.shelf c.batches.invariant.form c.batches.invariant.loads c.batches.invariant.told c.take_batch.ensures.told
+
+pub returns-in-Stopped-clause-told : goal.returns-in-Stopped-clause-told
+returns-in-Stopped-clause-told g c =
+    told_next (g.S.Shelf.refuses g.N.Naming.place) g.O.Origin.keeps c.args.lines.now c.batches.lines c.args.mark c.batches.mark c.batches.progress c.args.shelf.now c.batches.shelf
+    c.take_batch.new.shelf c.batches.invariant.form c.batches.invariant.loads c.batches.invariant.told c.take_batch.ensures.told

@@ -38,7 +38,8 @@ returns-in_err-sweep-in-Ok-clause-fault g c =
     let p = err_from_is_err_and c.from_residual-in_err-sweep-in-Ok.result c.from_residual-in_err-sweep-in-Ok.ensures.1 in
     let loaded = rw c.in-Ok.is at c.load_beside-done.ensures.loaded in
     let idle = rw c.in-Ok.is at c.load_beside-done.ensures.idle in
-    rw (p.1, p.2) (unswept (g.S.Shelf.refuses g.N.Naming.place) g.S.Shelf.honest c.args.prepared.now.start c.args.prepared.now.logs.items c.args.lines c.load_beside-done.result.progress
+    let just = rw c.in-Ok.is at c.load_beside-done.ensures.just in
+    rw (p.1, p.2) (unswept (g.S.Shelf.refuses g.N.Naming.place) g.S.Shelf.honest c.args.prepared.now.start c.args.prepared.now.logs.items c.args.options.workers c.args.lines c.load_beside-done.result.progress
     c.in_err-sweep-in-Ok.field-0.0 g.N.Boarded.board c.in_ok-state.state c.load_beside-done.result.state c.sweep.new.state c.args.shelf.now c.start.new.shelf c.load_beside-done.new.shelf
     c.sweep.new.shelf c.in_ok-state.ensures.started loaded (record {
       behind = c.load_beside-done.ensures.kept.0;
@@ -48,7 +49,7 @@ returns-in_err-sweep-in-Ok-clause-fault g c =
       rest = c.sweep.ensures.rest;
       idle = λ h. c.sweep.ensures.idle (idle h);
       same = c.sweep.ensures.same;
-    }) c.load_beside-done.ensures.told c.in_err-sweep-in-Ok.ensures.refused)
+    }) just c.in_err-sweep-in-Ok.ensures.refused)
 
 pub returns-in_err-sweep-in-Ok-clause-left : goal.returns-in_err-sweep-in-Ok-clause-left
 returns-in_err-sweep-in-Ok-clause-left g c =
@@ -58,9 +59,10 @@ returns-in_err-sweep-in-Ok-clause-left g c =
 pub returns-in-Ok-reply-clause-done : goal.returns-in-Ok-reply-clause-done
 returns-in-Ok-reply-clause-done g c =
     let loaded = rw c.in-Ok.is at c.load_beside-done.ensures.loaded in
-    let idle = rw c.in-Ok.is at c.load_beside-done.ensures.idle in (
+    let idle = rw c.in-Ok.is at c.load_beside-done.ensures.idle in
+    let just = rw c.in-Ok.is at c.load_beside-done.ensures.just in (
       c.load_beside-done.result.progress,
-      loads_whole (g.S.Shelf.refuses g.N.Naming.place) g.S.Shelf.honest c.args.prepared.now.start c.args.prepared.now.logs.items c.args.lines c.load_beside-done.result.progress g.N.Boarded.board c.in_ok-state.state
+      loads_whole (g.S.Shelf.refuses g.N.Naming.place) g.S.Shelf.honest c.args.prepared.now.start c.args.prepared.now.logs.items c.args.options.workers c.args.lines c.load_beside-done.result.progress g.N.Boarded.board c.in_ok-state.state
           c.load_beside-done.result.state c.sweep.new.state c.args.shelf.now c.start.new.shelf c.load_beside-done.new.shelf c.sweep.new.shelf c.in_ok-state.ensures.started
           loaded (record {
             behind = c.load_beside-done.ensures.kept.0;
@@ -70,16 +72,17 @@ returns-in-Ok-reply-clause-done g c =
             rest = c.sweep.ensures.rest;
             idle = λ h. c.sweep.ensures.idle (idle h);
             same = c.sweep.ensures.same;
-          }) c.load_beside-done.ensures.told c.in_ok-sweep-in-Ok.ensures.ok,
+          }) just c.in_ok-sweep-in-Ok.ensures.ok,
       c.in-Ok-reply.ensures.written,
     )
 
 pub returns-in-Ok-clause-fault : goal.returns-in-Ok-clause-fault
 returns-in-Ok-clause-fault g c =
     let loaded = rw c.in-Ok.is at c.load_beside-done.ensures.loaded in
-    let idle = rw c.in-Ok.is at c.load_beside-done.ensures.idle in (
+    let idle = rw c.in-Ok.is at c.load_beside-done.ensures.idle in
+    let just = rw c.in-Ok.is at c.load_beside-done.ensures.just in (
       c.load_beside-done.result.progress,
-      loads_whole (g.S.Shelf.refuses g.N.Naming.place) g.S.Shelf.honest c.args.prepared.now.start c.args.prepared.now.logs.items c.args.lines c.load_beside-done.result.progress g.N.Boarded.board c.in_ok-state.state
+      loads_whole (g.S.Shelf.refuses g.N.Naming.place) g.S.Shelf.honest c.args.prepared.now.start c.args.prepared.now.logs.items c.args.options.workers c.args.lines c.load_beside-done.result.progress g.N.Boarded.board c.in_ok-state.state
           c.load_beside-done.result.state c.sweep.new.state c.args.shelf.now c.start.new.shelf c.load_beside-done.new.shelf c.sweep.new.shelf c.in_ok-state.ensures.started
           loaded (record {
             behind = c.load_beside-done.ensures.kept.0;
@@ -89,5 +92,5 @@ returns-in-Ok-clause-fault g c =
             rest = c.sweep.ensures.rest;
             idle = λ h. c.sweep.ensures.idle (idle h);
             same = c.sweep.ensures.same;
-          }) c.load_beside-done.ensures.told c.in_ok-sweep-in-Ok.ensures.ok,
+          }) just c.in_ok-sweep-in-Ok.ensures.ok,
     )

@@ -1,0 +1,39 @@
+-- So many forks of a shelf.
+use Rattle.std.proofs.Common.{◌≡◌, ◌+◌, ℕ, refl, ◌∙◌, arith}
+use Rattle.lsm_shelf.specs.Told.{Becomes, Forked, Told, forking}
+use Rattle.lsm_shelf.proofs.CallerLemmas.{forked_same, forked_then}
+use Rattle.lsm_bulk_load.specs.Loading.{ForkedTimes}
+
+pub forking_none : (t : Told) → ForkedTimes 0 t t
+forking_none t = record { place = refl; faults = omega arith; misses = omega arith; puts = refl; gone = refl; listed = refl; manifest = refl; sent = refl; found = refl; starts = refl; written = refl; forks = omega arith; made = refl }
+
+-- some, and some more
+pub forking_then : (n m k : ℕ) (a b c : Told) → k ≡ n + m → ForkedTimes n a b → ForkedTimes m b c → ForkedTimes k a c
+forking_then n m k a b c sum p q = record {
+  place = q.place ∙ p.place;
+  faults = (let x = p.faults in let y = q.faults in omega arith);
+  misses = (let x = p.misses in let y = q.misses in omega arith);
+  puts = q.puts ∙ p.puts;
+  gone = q.gone ∙ p.gone;
+  listed = q.listed ∙ p.listed;
+  manifest = q.manifest ∙ p.manifest;
+  sent = q.sent ∙ p.sent;
+  found = q.found ∙ p.found;
+  starts = q.starts ∙ p.starts;
+  written = q.written ∙ p.written;
+  forks = (let x = p.forks in let y = q.forks in omega (arith, sum));
+  made = q.made ∙ p.made;
+}
+
+pub forking_more : (n : ℕ) (a b c : Told) → ForkedTimes n a b → ForkedTimes 1 b c → ForkedTimes (n + 1) a c
+forking_more n a b c p q = forking_then n 1 (n + 1) a b c refl p q
+
+pub forking_two : (n : ℕ) (a b c d : Told) → ForkedTimes n a b → ForkedTimes 1 b c → ForkedTimes 1 c d → ForkedTimes (n + 2) a d
+forking_two n a b c d p q r = forking_then (n + 1) 1 (n + 2) a c d (omega arith) (forking_more n a b c p q) r
+
+pub forked_just : (n : ℕ) (a b : Told) → ForkedTimes n a b → Forked a b
+forked_just n a b p = (n, p)
+
+-- some, and a call that gave none
+pub forked_and : (n : ℕ) (a b c : Told) → ForkedTimes n a b → Becomes b c → Forked a c
+forked_and n a b c p q = forked_then a b c (n, p) (forked_same b c q)
