@@ -25,8 +25,8 @@ returns-in-Err-clause-told g c =
 
 pub returns-in-Ok-mark_behind-clause-told : goal.returns-in-Ok-mark_behind-clause-told
 returns-in-Ok-mark_behind-clause-told g c =
-    inl ((c.in-Ok.came, c.in-Ok.memory), brought_in g.O.Origin.keeps g.O.Origin.found c.args.batch.now (c.in-Ok.came, c.in-Ok.memory) c.args.shelf.now c.ingest.new.shelf c.in-Ok.ensures.ok)
+    inl (c.in-Ok.came, brought_in g.O.Origin.keeps g.O.Origin.found c.args.batch.now c.in-Ok.came c.args.shelf.now c.ingest.new.shelf c.in-Ok.ensures.ok)
 
 pub returns-in-Err-mark_behind-clause-told : goal.returns-in-Err-mark_behind-clause-told
 returns-in-Err-mark_behind-clause-told g c =
-    inl ((c.in-Ok.came, c.in-Ok.memory), brought_in g.O.Origin.keeps g.O.Origin.found c.args.batch.now (c.in-Ok.came, c.in-Ok.memory) c.args.shelf.now c.ingest.new.shelf c.in-Ok.ensures.ok)
+    inl (c.in-Ok.came, brought_in g.O.Origin.keeps g.O.Origin.found c.args.batch.now c.in-Ok.came c.args.shelf.now c.ingest.new.shelf c.in-Ok.ensures.ok)
