@@ -1,5 +1,5 @@
 -- So many forks of a shelf.
-use Rattle.std.proofs.Common.{◌≡◌, ◌+◌, ℕ, refl, ◌∙◌, arith}
+use Rattle.std.proofs.Common.{◌≡◌, ◌+◌, ℕ, zero, suc, List, [], ◌∷◌, ◌++◌, replicate, refl, ap, ◌∙◌, arith}
 use Rattle.lsm_shelf.specs.Told.{Becomes, Forked, Told, forking}
 use Rattle.lsm_shelf.proofs.CallerLemmas.{forked_same, forked_then}
 use Rattle.lsm_bulk_load.specs.Loading.{ForkedTimes}
@@ -37,3 +37,13 @@ forked_just n a b p = (n, p)
 -- some, and a call that gave none
 pub forked_and : (n : ℕ) (a b c : Told) → ForkedTimes n a b → Becomes b c → Forked a c
 forked_and n a b c p q = forked_then a b c (n, p) (forked_same b c q)
+
+replicate_end : (t : Told) (n : ℕ) → replicate n t ++ t ∷ [] ≡ t ∷ replicate n t
+replicate_end t zero = refl
+replicate_end t (suc n) = ap (λ (ts : List Told). t ∷ ts) (replicate_end t n)
+
+-- one fork more, to which nothing was told yet either
+pub one_more : (t : Told) (n : ℕ) (forks more : List Told) (fork : Told) → forks ≡ replicate n t → fork ≡ t → more ≡ forks ++ fork ∷ [] → more ≡ replicate (n + 1) t
+one_more t n forks more fork before new push =
+    push ∙ ap (λ (ts : List Told). ts ++ fork ∷ []) before ∙ ap (λ (x : Told). replicate n t ++ x ∷ []) new ∙ replicate_end t n
+    ∙ ap (λ (m : ℕ). replicate m t) (let e : suc n ≡ n + 1 = omega arith in e)

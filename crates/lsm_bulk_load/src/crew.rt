@@ -1,7 +1,7 @@
 //! A store that is loaded, and the shelves beside it.
 
-ghost use Rattle.std.specs.Prelude.{◌≡◌, ◌+◌, [], IfErr, IfOk, OnOk, vec_len};
-ghost use Rattle.lsm_shelf.specs.Told.{Forked, NotNamed};
+ghost use Rattle.std.specs.Prelude.{◌≡◌, ◌+◌, [], IfErr, IfOk, OnOk, replicate, vec_len};
+ghost use Rattle.lsm_shelf.specs.Told.{Forked, NotNamed, fresh};
 ghost use Rattle.lsm_state.specs.Held.{Held};
 ghost use Rattle.lsm_bulk_load.specs.Keeping.{IsTaken};
 ghost use Rattle.lsm_bulk_load.specs.Loading.{ForkedTimes};
@@ -14,7 +14,7 @@ use lsm_store::{Invariant, Store};
 use lsm_table::{NamedShelf, Shelf, ShelfFault};
 use std::alloc::Global;
 
-/// So many forks of a shelf, of which nothing else is asked.
+/// So many forks of a shelf, and no more; of which nothing else is asked.
 #[tactic(auto, using(crate::proofs::ForkLaws::forked_just, crate::proofs::ForkLaws::forked_and, crate::proofs::ForkLaws::forking_none))]
 pub fn forks<N: Boarded, S: Shelf>(
     alloc: Global,
@@ -22,6 +22,7 @@ pub fn forks<N: Boarded, S: Shelf>(
     count: usize,
 ) -> Result<Vec<NamedShelf<N, S>>, ShelfFault>
     ensures count { IfOk result (λ v. vec_len v ≡ count) }
+    ensures new { IfOk result (λ v. v.items ≡ replicate count (fresh N.place)) }
     ensures told { Forked shelf.old shelf.new }
     ensures just { OnOk result (ForkedTimes count shelf.old shelf.new) }
     ensures cause { IfErr result NotNamed }
@@ -36,20 +37,25 @@ pub fn forks<N: Boarded, S: Shelf>(
 
 /// A shelf for each worker, one for the batches, and one for the store.
 #[derive(Drop)]
-struct Shelves<N: Boarded, S: Shelf> {
-    shelves: Vec<NamedShelf<N, S>>,
-    own: NamedShelf<N, S>,
-    reading: NamedShelf<N, S>,
+pub struct Shelves<N: Boarded, S: Shelf> {
+    /// Those of the workers.
+    pub shelves: Vec<NamedShelf<N, S>>,
+    /// That of the batches.
+    pub own: NamedShelf<N, S>,
+    /// That of the store.
+    pub reading: NamedShelf<N, S>,
 }
 
-/// The forks for so many workers.
+/// The forks for so many workers, and no more.
 #[tactic(auto, using(lsm_shelf::proofs::CallerLemmas::forked_then, lsm_shelf::proofs::CallerLemmas::forked_once, lsm_shelf::proofs::CallerLemmas::forked_same))]
-fn forks_for<N: Boarded, S: Shelf>(
+pub fn forks_for<N: Boarded, S: Shelf>(
     alloc: Global,
     shelf: &mut NamedShelf<N, S>,
     workers: usize,
 ) -> Result<Shelves<N, S>, ShelfFault>
     ensures count { IfOk result (λ f. vec_len f.shelves ≡ workers) }
+    ensures new { IfOk result (λ f. f.shelves.items ≡ replicate workers (fresh N.place)) }
+    ensures own { IfOk result (λ f. f.own ≡ fresh N.place) }
     ensures told { Forked shelf.old shelf.new }
     ensures just { OnOk result (ForkedTimes (workers + 2) shelf.old shelf.new) }
     ensures cause { IfErr result NotNamed }

@@ -1,5 +1,6 @@
 use Rattle.std.proofs.Common.{◌+◌, ap, ◌∙◌}
-use Rattle.lsm_bulk_load.proofs.ForkLaws.{forked_just, forking_more}
+use Rattle.lsm_shelf.specs.Told.{fresh}
+use Rattle.lsm_bulk_load.proofs.ForkLaws.{forked_just, forking_more, one_more}
 use Rattle.lsm_bulk_load.proofs.crew.forks.Goals as goal
 
 pub returns-in_err-push-clause-told : goal.returns-in_err-push-clause-told
@@ -9,4 +10,5 @@ pub loop-preserved : goal.loop-preserved
 loop-preserved g c = record {
   told = forking_more _ _ _ _ c.loop.invariant.told c.in_ok-fork.ensures.ok;
   count = c.in_ok-push.ensures.len ∙ ap (λ n. n + 1) c.loop.invariant.count;
+  new = one_more (fresh g.N.Naming.place) c.loop.counter c.loop.forks.items c.push.new.self.items c.in_ok-fork.fork c.loop.invariant.new c.in_ok-fork.ensures.fork c.in_ok-push.ensures.items;
 }
