@@ -1,8 +1,9 @@
 -- What lines that are loaded leave of a store, and why they stop (this project's rule).
-use Rattle.std.specs.Prelude.{◌≡◌, ◌⊎◌, ℕ, zero, suc, ◌+◌, ◌<◌, ◌^◌, List, [], length, All, Option}
+use Rattle.std.specs.Prelude.{◌≡◌, ◌⊎◌, ℕ, zero, suc, ◌+◌, ◌<◌, ◌^◌, List, [], length, replicate}
+use Rattle.std.specs.Prelude.{All, Option}
 use Rattle.std.specs.Io.KnownBytes.{IsAtEnd}
 use Rattle.lsm_shelf.specs.Asked.{Asked}
-use Rattle.lsm_shelf.specs.Told.{Becomes, NotNamed, Told, forking}
+use Rattle.lsm_shelf.specs.Told.{Becomes, NotNamed, Place, Told, forking, fresh}
 use Rattle.lsm_shelf.specs.declared.shelf_fault.ShelfFault.{ShelfFault}
 use Rattle.lsm_codec.specs.Entries.{Entry}
 use Rattle.lsm_history.specs.History.{IsLater}
@@ -18,7 +19,9 @@ use Rattle.lsm_state.specs.Held.{Held}
 use Rattle.lsm_state.specs.declared.ingest.Ingested.{Ingested}
 use Rattle.lsm_state.specs.declared.state_fault.StateFault.{StateFault}
 use Rattle.lsm_store.specs.Background.{IsBroughtIn, IsKeptOut}
+use Rattle.lsm_store.specs.Sweeping.{LastForkedTwice}
 use Rattle.lsm_store.specs.Workers.{IsWorkersEnd}
+use Rattle.lsm_store.specs.Working.{HaveEndedBeside}
 use Rattle.lsm_store.specs.declared.worker_end.WorkerEnd.{WorkerEnd}
 use Rattle.lsm_store.specs.declared.worker_fault.WorkerFault.{WorkerFault}
 use Rattle.lsm_bulk_load.specs.Coming.{CameIn, ComesNext}
@@ -75,6 +78,14 @@ pub record TakesBatch (old new : Pending) (was now : Marked) (p q : Progress) (e
 -- It gave just so many forks, and nothing else was told but counts.
 abbrev pub ForkedTimes : ℕ → Told → Told → Type 0
 ForkedTimes n old new = Becomes (forking n old) new
+
+-- So many workers ended so, each by a shelf to which nothing was told before, and the one that only
+-- gathered by a fork of the last of these; and each was told just what its worker did.
+abbrev pub HaveWorkedBeside : Type 0 → (Asked → ShelfFault → Type 0) → (Held → Type 0) → Place
+    → (workers : ℕ) → List WorkerEnd → Type 0
+HaveWorkedBeside Honest Refused keeps place workers ends = (lent : List Told)
+    × LastForkedTwice (replicate workers (fresh place)) lent
+    × HaveEndedBeside Honest Refused keeps lent (fresh place) ends
 
 -- Just what one ingest of this batch told it, at one taking of the lock, where the fact held: the
 -- batch came in, or was refused.

@@ -17,11 +17,11 @@ use Rattle.lsm_store.specs.Workers.{IsWorkersEnd}
 use Rattle.lsm_store.specs.Working.{HaveEndedBeside}
 use Rattle.lsm_store.specs.declared.worker_end.WorkerEnd.{WorkerEnd}
 use Rattle.lsm_bulk_load.specs.Ending.{IsFaultless}
-use Rattle.lsm_bulk_load.specs.Loading.{ForkedTimes}
+use Rattle.lsm_bulk_load.specs.Loading.{ForkedTimes, HaveWorkedBeside}
 use Rattle.lsm_opening.specs.Starting.{IsStarted}
 use Rattle.lsm_opening.specs.declared.prepared.Start.{Start}
 use Rattle.lsm_cmd_shell.specs.Beside.{IsLent, IsTalkedBeside, waiting}
-use Rattle.lsm_cmd_shell.specs.Conversing.{ConversesBeside, HaveWorkedBeside, IsBesideFault, IsConversedBeside, IsForking, IsOfEnds, IsUnmanned}
+use Rattle.lsm_cmd_shell.specs.Conversing.{ConversesBeside, IsBesideFault, IsConversedBeside, IsForking, IsOfEnds, IsUnmanned}
 use Rattle.lsm_cmd_shell.specs.Keeping.{HasComeTo}
 use Rattle.lsm_cmd_shell.specs.declared.shell_fault.ShellFault.{ShellFault}
 use Rattle.lsm_cmd_shell.specs.declared.talk_fault.TalkFault.{TalkFault}

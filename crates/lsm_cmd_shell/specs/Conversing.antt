@@ -1,21 +1,19 @@
 -- A conversation with the database of a folder (this project's rule).
 use Rattle.std.specs.Prelude.{◌≡◌, ◌≤◌, ◌⊎◌, ℕ, ◌+◌, Bool, List, All, length, Option, None, Some}
-use Rattle.std.specs.Prelude.{Result, Ok, Err, replicate}
+use Rattle.std.specs.Prelude.{Result, Ok, Err}
 use Rattle.std.specs.Io.KnownBytes.{Keeps}
 use Rattle.lsm_shelf.specs.Asked.{Asked}
-use Rattle.lsm_shelf.specs.Told.{Forked, NotNamed, Place, Told, fresh}
+use Rattle.lsm_shelf.specs.Told.{Forked, NotNamed, Told, fresh}
 use Rattle.lsm_shelf.specs.declared.shelf_fault.ShelfFault.{ShelfFault}
 use Rattle.lsm_state.specs.Held.{Held}
 use Rattle.lsm_text.specs.declared.form.Form.{Form}
 use Rattle.lsm_directory.specs.declared.folder.folder_file.FolderFile.{FolderFile}
 use Rattle.lsm_script.specs.Steps.{Stage, clear, stage_of}
-use Rattle.lsm_store.specs.Sweeping.{LastForkedTwice}
 use Rattle.lsm_store.specs.Workers.{IsWorkersEnd}
-use Rattle.lsm_store.specs.Working.{HaveEndedBeside}
 use Rattle.lsm_store.specs.declared.worker_end.WorkerEnd.{WorkerEnd}
 use Rattle.lsm_store.specs.declared.worker_fault.WorkerFault.{WorkerFault}
 use Rattle.lsm_bulk_load.specs.Ending.{IsFaultless, IsFirstFault}
-use Rattle.lsm_bulk_load.specs.Loading.{ForkedTimes}
+use Rattle.lsm_bulk_load.specs.Loading.{ForkedTimes, HaveWorkedBeside}
 use Rattle.lsm_opening.specs.Starting.{IsStartRefusal, IsStarted}
 use Rattle.lsm_opening.specs.WriterFault.{of_shelf}
 use Rattle.lsm_opening.specs.declared.faults.compact_fault.CompactFault.TheVariants.{Writer, Worker}
@@ -73,14 +71,6 @@ IsConverseFault Stored Refused honest start logs form bails input e was is old n
     × Converses honest start logs form bails input (Err fault) was is old new))
 
 -- ---- beside workers
-
--- So many workers ended so, each by a shelf to which nothing was told before, and the one that only
--- gathered by a fork of the last of these; and each was told just what its worker did.
-abbrev pub HaveWorkedBeside : Type 0 → (Asked → ShelfFault → Type 0) → (Held → Type 0) → Place
-    → (workers : ℕ) → List WorkerEnd → Type 0
-HaveWorkedBeside honest Refused keeps place workers ends = (lent : List Told)
-    × LastForkedTwice (replicate workers (fresh place)) lent
-    × HaveEndedBeside honest Refused keeps lent (fresh place) ends
 
 -- The directory was begun or opened, and its shelf gave forks: one for each worker, one for the
 -- conversation and one for the store. By one of them, to which nothing was told before, a

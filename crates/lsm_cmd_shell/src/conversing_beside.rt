@@ -13,9 +13,9 @@ ghost use Rattle.lsm_store.specs.Working.{HaveEndedBeside};
 ghost use Rattle.lsm_opening.specs.Parts.{AreOf, usual};
 ghost use Rattle.lsm_cmd_shell.specs.Beside.{IsTalkedBeside, waiting};
 ghost use Rattle.lsm_bulk_load.specs.Ending.{IsFaultless, IsFirstFault};
-ghost use Rattle.lsm_bulk_load.specs.Loading.{ForkedTimes};
-ghost use Rattle.lsm_cmd_shell.specs.Conversing.{HaveWorkedBeside, IsBesideFault};
-ghost use Rattle.lsm_cmd_shell.specs.Conversing.{IsConversedBeside, IsOfEnds, IsUnmanned, IsWorkerOr};
+ghost use Rattle.lsm_bulk_load.specs.Loading.{ForkedTimes, HaveWorkedBeside};
+ghost use Rattle.lsm_cmd_shell.specs.Conversing.{IsBesideFault, IsConversedBeside, IsOfEnds};
+ghost use Rattle.lsm_cmd_shell.specs.Conversing.{IsUnmanned, IsWorkerOr};
 ghost use Rattle.lsm_cmd_shell.specs.Keeping.{IsKeptByReplies};
 
 use crate::beside::talk_beside;
