@@ -1,5 +1,5 @@
 -- What is left behind the lines, and why all is not done.
-use Rattle.std.proofs.Common.{◌≡◌, ◌≢◌, ◌==◌, not, true, Bool, ℕ, ◌+◌, ◌<◌, ◌≤◌, List, [], ◌∷◌, ◌++◌, length, get_or, take, drop, Some, None, All, refl, sym, ap, ◌∙◌, subst, append_assoc, inl, inr}
+use Rattle.std.proofs.Common.{◌≡◌, ◌≢◌, ◌==◌, not, true, Bool, ℕ, ◌+◌, ◌<◌, ◌≤◌, List, [], ◌∷◌, ◌++◌, length, replicate, get_or, take, drop, Some, None, All, refl, sym, ap, ◌∙◌, subst, append_assoc, inl, inr}
 use Rattle.std.proofs.lemmas.Bool.{eq-eqb, false≢true}
 use Rattle.std.proofs.lemmas.List.{drop_more, take-append-drop, take_all}
 use Rattle.std.proofs.lemmas.List.Elements.{All-more}
@@ -14,11 +14,14 @@ use Rattle.lsm_lines.specs.Gathering.{Pending}
 use Rattle.lsm_lines.specs.declared.write_line_fault.WriteLineFault.{WriteLineFault}
 use Rattle.lsm_lines.specs.declared.write_line_fault.WriteLineFault.TheVariants as lines
 use Rattle.lsm_state.specs.Held.{Held}
-use Rattle.lsm_store.specs.Workers.{IsWorkersEnd}
+use Rattle.lsm_shelf.specs.Place.{Place}
+use Rattle.lsm_shelf.specs.Told.{Told, fresh}
+use Rattle.lsm_store.specs.Sweeping.{LastForkedTwice}
+use Rattle.lsm_store.specs.Working.{HaveEndedBeside}
 use Rattle.lsm_store.specs.declared.worker_end.WorkerEnd.{WorkerEnd}
 use Rattle.lsm_store.specs.declared.worker_fault.WorkerFault.{WorkerFault}
 use Rattle.lsm_bulk_load.specs.Ending.{IsFaultless, IsFirstFault, IsLate, IsLooked, ReservesNone}
-use Rattle.lsm_bulk_load.specs.Loading.{IsLoaded, IsStopped, IsUnloaded, SomeAreIn, SomeAreInToo, StopsBehind}
+use Rattle.lsm_bulk_load.specs.Loading.{HaveEndedWell, HaveWorkedBeside, IsLoaded, IsStopped, IsUnloaded, SomeAreIn, SomeAreInToo, StopsBehind}
 use Rattle.lsm_bulk_load.specs.Marks.{Marked, marked_in}
 use Rattle.lsm_bulk_load.specs.declared.load_fault.LoadFault.{LoadFault}
 use Rattle.lsm_bulk_load.specs.declared.load_fault.LoadFault.TheVariants.{OutOfMemory, Shelf, Line, Ingest, Other, Worker, Due}
@@ -64,6 +67,10 @@ gone_with ticket live other has =
 
 pub reserves_same : (was is : Held) → is ≡ was → ReservesNone was is
 reserves_same was is e ticket has = subst (λ (h : Held). HasTicket h.live ticket) e has
+
+-- slots alone changed then
+pub reserves_still : (was mid is : Held) → ReservesNone was mid → is ≡ record mid { slots = is.slots } → ReservesNone was is
+reserves_still was mid is none rest ticket has = none ticket (subst (λ (l : List Booked). HasTicket l ticket) (ap (λ (h : Held). h.live) rest) has)
 
 -- a job was reserved, which left `mid`, and given up again
 pub reserves_back : (was mid is : Held) (job : Booked) (given : ℕ) → mid.live ≡ was.live ++ job ∷ [] → given ≡ job.work.ticket
@@ -133,37 +140,37 @@ too_later old found mark now p s later = (s.0, s.1, later_then s.0.history mark.
 
 -- ---- why all is not done
 
-of_lines : (Refused : Asked → ShelfFault → Type 0) (Honest : Type 0) (keeps : Held → Type 0) (old : Pending) (found now : Marked) (p : Progress) (e : LoadFault)
-    → IsStopped Refused keeps old found now p e → IsUnloaded Refused Honest keeps old found now p e
-of_lines Refused Honest keeps old found now p OutOfMemory s = s
-of_lines Refused Honest keeps old found now p (Line fault) s = s
-of_lines Refused Honest keeps old found now p (Ingest fault) s = s
-of_lines Refused Honest keeps old found now p Other s = s
-of_lines Refused Honest keeps old found now p (Shelf fault) s = absurd s
-of_lines Refused Honest keeps old found now p (Worker fault) s = absurd s
-of_lines Refused Honest keeps old found now p Due s = absurd s
+of_lines : (Refused : Asked → ShelfFault → Type 0) (Ended : List WorkerEnd → Type 0) (keeps : Held → Type 0) (old : Pending) (found now : Marked) (p : Progress) (e : LoadFault)
+    → IsStopped Refused keeps old found now p e → IsUnloaded Refused Ended keeps old found now p e
+of_lines Refused Ended keeps old found now p OutOfMemory s = s
+of_lines Refused Ended keeps old found now p (Line fault) s = s
+of_lines Refused Ended keeps old found now p (Ingest fault) s = s
+of_lines Refused Ended keeps old found now p Other s = s
+of_lines Refused Ended keeps old found now p (Shelf fault) s = absurd s
+of_lines Refused Ended keeps old found now p (Worker fault) s = absurd s
+of_lines Refused Ended keeps old found now p Due s = absurd s
 
 -- all lines are in, and then this
-behind_all : {T : Type 0} (Refused : Asked → ShelfFault → Type 0) (Honest : Type 0) (keeps : Held → Type 0) (old : Pending) (found mark now : Marked) (p : Progress) (x : T) (ends : List WorkerEnd) (e : LoadFault)
-    → IsLoaded old found mark p → All (IsWorkersEnd Honest) ends → IsLate {T = T} mark now (Ok x) ends e → IsUnloaded Refused Honest keeps old found now p e
-behind_all Refused Honest keeps old found mark now p x ends e l each (inl k) =
+behind_all : {T : Type 0} (Refused : Asked → ShelfFault → Type 0) (Ended : List WorkerEnd → Type 0) (keeps : Held → Type 0) (old : Pending) (found mark now : Marked) (p : Progress) (x : T) (ends : List WorkerEnd) (e : LoadFault)
+    → IsLoaded old found mark p → Ended ends → IsLate {T = T} mark now (Ok x) ends e → IsUnloaded Refused Ended keeps old found now p e
+behind_all Refused Ended keeps old found mark now p x ends e l each (inl k) =
     rw k.0 (too_later old found mark now p (mark, all_in old found mark p l, later_same mark.history) k.1)
-behind_all Refused Honest keeps old found mark now p x ends (Worker fault) l each (inr k) =
+behind_all Refused Ended keeps old found mark now p x ends (Worker fault) l each (inr k) =
     (subst (λ (m : Marked). IsLoaded old found m p) (sym k.0) l, (ends, each, k.1))
-behind_all Refused Honest keeps old found mark now p x ends Due l each (inr k) = subst (λ (m : Marked). IsLoaded old found m p) (sym k.0) l
-behind_all Refused Honest keeps old found mark now p x ends OutOfMemory l each (inr k) = absurd k.1
-behind_all Refused Honest keeps old found mark now p x ends (Line fault) l each (inr k) = absurd k.1
-behind_all Refused Honest keeps old found mark now p x ends (Ingest fault) l each (inr k) = absurd k.1
-behind_all Refused Honest keeps old found mark now p x ends Other l each (inr k) = absurd k.1
-behind_all Refused Honest keeps old found mark now p x ends (Shelf fault) l each (inr k) = absurd k.1
+behind_all Refused Ended keeps old found mark now p x ends Due l each (inr k) = subst (λ (m : Marked). IsLoaded old found m p) (sym k.0) l
+behind_all Refused Ended keeps old found mark now p x ends OutOfMemory l each (inr k) = absurd k.1
+behind_all Refused Ended keeps old found mark now p x ends (Line fault) l each (inr k) = absurd k.1
+behind_all Refused Ended keeps old found mark now p x ends (Ingest fault) l each (inr k) = absurd k.1
+behind_all Refused Ended keeps old found mark now p x ends Other l each (inr k) = absurd k.1
+behind_all Refused Ended keeps old found mark now p x ends (Shelf fault) l each (inr k) = absurd k.1
 
 -- not all are
-behind_some : (T : Type 0) (Refused : Asked → ShelfFault → Type 0) (Honest : Type 0) (keeps : Held → Type 0) (old : Pending) (found mark now : Marked) (p : Progress) (f : LoadFault) (ends : List WorkerEnd) (e : LoadFault)
-    → IsStopped Refused keeps old found mark p f → IsLate {T = T} mark now (Err f) ends e → IsUnloaded Refused Honest keeps old found now p e
-behind_some T Refused Honest keeps old found mark now p f ends e s (inl k) = rw k.0 (too_later old found mark now p (in_too Refused keeps old found mark p f s) k.1)
-behind_some T Refused Honest keeps old found mark now p f ends e s (inr k) =
+behind_some : (T : Type 0) (Refused : Asked → ShelfFault → Type 0) (Ended : List WorkerEnd → Type 0) (keeps : Held → Type 0) (old : Pending) (found mark now : Marked) (p : Progress) (f : LoadFault) (ends : List WorkerEnd) (e : LoadFault)
+    → IsStopped Refused keeps old found mark p f → IsLate {T = T} mark now (Err f) ends e → IsUnloaded Refused Ended keeps old found now p e
+behind_some T Refused Ended keeps old found mark now p f ends e s (inl k) = rw k.0 (too_later old found mark now p (in_too Refused keeps old found mark p f s) k.1)
+behind_some T Refused Ended keeps old found mark now p f ends e s (inr k) =
     let here : IsStopped Refused keeps old found now p f = subst (λ (m : Marked). IsStopped Refused keeps old found m p f) (sym k.0) s in
-    rw k.1 (of_lines Refused Honest keeps old found now p f here)
+    rw k.1 (of_lines Refused Ended keeps old found now p f here)
 
 -- ---- one reason
 
@@ -192,19 +199,38 @@ finished old found mark m now p (Ok x) (Ok y) same l none is =
 finished old found mark m now p (Err e) (Ok y) same l none is = absurd none
 finished old found mark m now p loaded (Err e) same l none is = tt
 
-pub unfinished : {T : Type 0} (Refused : Asked → ShelfFault → Type 0) (Honest : Type 0) (keeps : Held → Type 0) (old : Pending) (found mark m now : Marked) (p : Progress) (ends : List WorkerEnd)
+pub unfinished : {T : Type 0} (Refused : Asked → ShelfFault → Type 0) (Ended : List WorkerEnd → Type 0) (keeps : Held → Type 0) (old : Pending) (found mark m now : Marked) (p : Progress) (ends : List WorkerEnd)
     (loaded done : Result T LoadFault) → mark ≡ found → OnOk loaded (IsLoaded old mark m p) → IfErr loaded (λ e. IsStopped Refused keeps old mark m p e)
-    → All (IsWorkersEnd Honest) ends → IfErr done (λ e. IsLate m now loaded ends e) → IfErr done (λ e. IsUnloaded Refused Honest keeps old found now p e)
-unfinished Refused Honest keeps old found mark m now p ends loaded (Ok y) same l s each late = tt
-unfinished Refused Honest keeps old found mark m now p ends (Ok x) (Err e) same l s each late =
-    behind_all Refused Honest keeps old found m now p x ends e (subst (λ (f : Marked). IsLoaded old f m p) same l) each late
-unfinished {T} Refused Honest keeps old found mark m now p ends (Err f) (Err e) same l s each late =
-    behind_some T Refused Honest keeps old found m now p f ends e (subst (λ (g : Marked). IsStopped Refused keeps old g m p f) same s) late
+    → Ended ends → IfErr done (λ e. IsLate m now loaded ends e) → IfErr done (λ e. IsUnloaded Refused Ended keeps old found now p e)
+unfinished Refused Ended keeps old found mark m now p ends loaded (Ok y) same l s each late = tt
+unfinished Refused Ended keeps old found mark m now p ends (Ok x) (Err e) same l s each late =
+    behind_all Refused Ended keeps old found m now p x ends e (subst (λ (f : Marked). IsLoaded old f m p) same l) each late
+unfinished {T} Refused Ended keeps old found mark m now p ends (Err f) (Err e) same l s each late =
+    behind_some T Refused Ended keeps old found m now p f ends e (subst (λ (g : Marked). IsStopped Refused keeps old g m p f) same s) late
 
 -- no worker began
-pub unbegun : {T : Type 0} (Refused : Asked → ShelfFault → Type 0) (Honest : Type 0) (keeps : Held → Type 0) (old : Pending) (found mark now : Marked) (p : Progress) (done : Result T LoadFault)
+pub unbegun : {T : Type 0} (Refused : Asked → ShelfFault → Type 0) (Ended : List WorkerEnd → Type 0) (keeps : Held → Type 0) (old : Pending) (found mark now : Marked) (p : Progress) (done : Result T LoadFault)
     → mark ≡ found → old.held ≡ [] → p ≡ record { lines = 0; batches = 0 } → IfErr done (λ e. IsLate {T = T} mark now (Err OutOfMemory) [] e)
-    → IfErr done (λ e. IsUnloaded Refused Honest keeps old found now p e)
-unbegun Refused Honest keeps old found mark now p (Ok y) same held none late = tt
-unbegun {T} Refused Honest keeps old found mark now p (Err e) same held none late =
-    behind_some T Refused Honest keeps old found mark now p OutOfMemory [] e (subst (λ (m : Marked). SomeAreIn old found m p) (sym same) (none_came old found p held none)) late
+    → IfErr done (λ e. IsUnloaded Refused Ended keeps old found now p e)
+unbegun Refused Ended keeps old found mark now p (Ok y) same held none late = tt
+unbegun {T} Refused Ended keeps old found mark now p (Err e) same held none late =
+    behind_some T Refused Ended keeps old found mark now p OutOfMemory [] e (subst (λ (m : Marked). SomeAreIn old found m p) (sym same) (none_came old found p held none)) late
+
+-- ---- who worked
+
+module _ (Honest : Type 0) (Refused : Asked → ShelfFault → Type 0) (keeps : Held → Type 0) (place : Place) (workers : ℕ) where
+  -- the forks of workers are new ones
+  pub worked_beside : (shelves : List Told) (ends items : List WorkerEnd) → shelves ≡ replicate workers (fresh place) → ends ≡ items
+      → (lent : List Told) × LastForkedTwice shelves lent × HaveEndedBeside Honest Refused keeps lent (fresh place) items → HaveWorkedBeside Honest Refused keeps place workers ends
+  worked_beside shelves ends items new same (lent, forked, ended) =
+      (lent, subst (λ (ts : List Told). LastForkedTwice ts lent) new forked, subst (λ (es : List WorkerEnd). HaveEndedBeside Honest Refused keeps lent (fresh place) es) (sym same) ended)
+
+  pub ended_well : {T : Type 0} (done : Result T LoadFault) (ends : List WorkerEnd) → OnOk done (All IsFaultless ends) → HaveWorkedBeside Honest Refused keeps place workers ends
+      → OnOk done (HaveEndedWell (HaveWorkedBeside Honest Refused keeps place workers))
+  ended_well (Ok x) ends none worked = (ends, none, worked)
+  ended_well (Err e) ends none worked = tt
+
+  -- where no worker began all is not done
+  pub none_well : {T : Type 0} (done loaded : Result T LoadFault) (e : LoadFault) → loaded ≡ Err e → OnOk done (OnErr loaded ⊥) → OnOk done (HaveEndedWell (HaveWorkedBeside Honest Refused keeps place workers))
+  none_well {T} (Ok x) loaded e is none = let here : ⊥ = subst (λ (r : Result T LoadFault). OnErr r ⊥) is none in absurd here
+  none_well (Err f) loaded e is none = tt

@@ -20,12 +20,11 @@ use Rattle.lsm_state.specs.declared.ingest.Ingested.{Ingested}
 use Rattle.lsm_state.specs.declared.state_fault.StateFault.{StateFault}
 use Rattle.lsm_store.specs.Background.{IsBroughtIn, IsKeptOut}
 use Rattle.lsm_store.specs.Sweeping.{LastForkedTwice}
-use Rattle.lsm_store.specs.Workers.{IsWorkersEnd}
 use Rattle.lsm_store.specs.Working.{HaveEndedBeside}
 use Rattle.lsm_store.specs.declared.worker_end.WorkerEnd.{WorkerEnd}
 use Rattle.lsm_store.specs.declared.worker_fault.WorkerFault.{WorkerFault}
 use Rattle.lsm_bulk_load.specs.Coming.{CameIn, ComesNext}
-use Rattle.lsm_bulk_load.specs.Ending.{IsFirstFault}
+use Rattle.lsm_bulk_load.specs.Ending.{IsFaultless, IsFirstFault}
 use Rattle.lsm_bulk_load.specs.Marks.{Marked}
 use Rattle.lsm_bulk_load.specs.declared.load_fault.LoadFault.{LoadFault}
 use Rattle.lsm_bulk_load.specs.declared.load_fault.LoadFault.TheVariants.{OutOfMemory, Shelf, Line}
@@ -86,6 +85,10 @@ abbrev pub HaveWorkedBeside : Type 0 → (Asked → ShelfFault → Type 0) → (
 HaveWorkedBeside Honest Refused keeps place workers ends = (lent : List Told)
     × LastForkedTwice (replicate workers (fresh place)) lent
     × HaveEndedBeside Honest Refused keeps lent (fresh place) ends
+
+-- So the workers ended, and none of them early.
+abbrev pub HaveEndedWell : (List WorkerEnd → Type 0) → Type 0
+HaveEndedWell Ended = (ends : List WorkerEnd) × All IsFaultless ends × Ended ends
 
 -- Just what one ingest of this batch told it, at one taking of the lock, where the fact held: the
 -- batch came in, or was refused.
@@ -170,25 +173,24 @@ IsStopped Refused keeps old found now p (Shelf fault) = ⊥
 IsStopped Refused keeps old found now p (Worker fault) = ⊥
 IsStopped Refused keeps old found now p Due = ⊥
 
--- Workers ended, the first one in their order that has a fault with this one.
-abbrev pub EndedBy : Type 0 → WorkerFault → Type 0
-EndedBy Honest fault = (ends : List WorkerEnd) × All (IsWorkersEnd Honest) ends
-    × IsFirstFault fault ends
+-- The workers ended so, the first one in their order that has a fault with this one.
+abbrev pub EndedBy : (List WorkerEnd → Type 0) → WorkerFault → Type 0
+EndedBy Ended fault = (ends : List WorkerEnd) × Ended ends × IsFirstFault fault ends
 
 -- Which lines are in the state behind a load, and why all is not done: nothing began; all lines are
 -- in, and a worker had ended early, or something is due; or not all are.
-abbrev pub IsUnloaded : (Asked → ShelfFault → Type 0) → Type 0 → (Held → Type 0)
+abbrev pub IsUnloaded : (Asked → ShelfFault → Type 0) → (List WorkerEnd → Type 0) → (Held → Type 0)
     → Pending → (found now : Marked) → Progress → LoadFault → Type 0
-IsUnloaded Refused Honest keeps old found now p (Shelf fault) =
+IsUnloaded Refused Ended keeps old found now p (Shelf fault) =
     NotNamed fault × (now ≡ found) × (p ≡ record { lines = 0; batches = 0 })
-IsUnloaded Refused Honest keeps old found now p (Worker fault) =
-    IsLoaded old found now p × EndedBy Honest fault
-IsUnloaded Refused Honest keeps old found now p Due = IsLoaded old found now p
-IsUnloaded Refused Honest keeps old found now p (Line fault) =
+IsUnloaded Refused Ended keeps old found now p (Worker fault) =
+    IsLoaded old found now p × EndedBy Ended fault
+IsUnloaded Refused Ended keeps old found now p Due = IsLoaded old found now p
+IsUnloaded Refused Ended keeps old found now p (Line fault) =
     IsStopped Refused keeps old found now p (Line fault)
-IsUnloaded Refused Honest keeps old found now p (Ingest fault) =
+IsUnloaded Refused Ended keeps old found now p (Ingest fault) =
     IsStopped Refused keeps old found now p (Ingest fault)
-IsUnloaded Refused Honest keeps old found now p OutOfMemory =
+IsUnloaded Refused Ended keeps old found now p OutOfMemory =
     IsStopped Refused keeps old found now p OutOfMemory
-IsUnloaded Refused Honest keeps old found now p Other =
+IsUnloaded Refused Ended keeps old found now p Other =
     IsStopped Refused keeps old found now p Other

@@ -1,13 +1,15 @@
 //! Lines come into a state while workers compact beside.
 
-ghost use Rattle.std.specs.Prelude.{◌≡◌, ◌+◌, [], All, IfErr, IfSome, OnOk};
-ghost use Rattle.lsm_shelf.specs.Told.{Forked};
+ghost use Rattle.std.specs.Prelude.{◌≡◌, ◌+◌, [], List, IfErr, IfSome, OnOk};
+ghost use Rattle.lsm_shelf.specs.Told.{Forked, Told, fresh};
 ghost use Rattle.lsm_state.specs.Held.{Held};
 ghost use Rattle.lsm_store.specs.Compacting.{IsKeptByCompaction};
-ghost use Rattle.lsm_store.specs.Workers.{IsWorkersEnd};
+ghost use Rattle.lsm_store.specs.Sweeping.{LastForkedTwice};
+ghost use Rattle.lsm_store.specs.Working.{HaveEndedBeside};
 ghost use Rattle.lsm_bulk_load.specs.Ending.{IsIdle, IsLooked, ReservesNone};
-ghost use Rattle.lsm_bulk_load.specs.Keeping.{IsKeptByAll, IsOfLines, IsTaken};
-ghost use Rattle.lsm_bulk_load.specs.Loading.{ForkedTimes, IsLoaded, IsStopped, IsUnloaded};
+ghost use Rattle.lsm_bulk_load.specs.Keeping.{IsKeptByAll, IsKeptSince, IsOfLines, IsTaken};
+ghost use Rattle.lsm_bulk_load.specs.Loading.{ForkedTimes, HaveEndedWell, HaveWorkedBeside};
+ghost use Rattle.lsm_bulk_load.specs.Loading.{IsLoaded, IsStopped, IsUnloaded};
 ghost use Rattle.lsm_bulk_load.specs.Marks.{IsEven, marked_in};
 
 use crate::crew::Crew;
@@ -64,7 +66,9 @@ fn load_all<N: Boarded, S: Shelf, O: Origin, R: Threads + Wait + Sync, I: Read +
         OnOk a.0.0 (IsLoaded lines mark a.0.1 a.0.2)) }
     ensures refused { IfSome result.0 (λ a. IfErr a.0.0 (λ e.
         IsStopped (S.refuses N.place) O.keeps lines mark a.0.1 a.0.2 e)) }
-    ensures ends { IfSome result.0 (λ a. All (IsWorkersEnd S.honest) a.1.items) }
+    ensures ended { IfSome result.0 (λ a. (lent : List Told)
+        × LastForkedTwice crew.shelves.items lent × HaveEndedBeside S.honest (S.refuses N.place)
+        (IsKeptSince O.keeps O.found) lent (fresh N.place) a.1.items) }
     ensures kept { ∥ O.keeps result.1 ∥₁ }
     ensures even { IsEven O.found (marked_in result.1) }
 {
@@ -108,7 +112,8 @@ fn load_all<N: Boarded, S: Shelf, O: Origin, R: Threads + Wait + Sync, I: Read +
 
 /// Loads the lines of an input, of which none was gathered yet, into a state, while so many workers
 /// compact beside, until all lines are in and nothing is due. The shelf is asked for forks alone:
-/// one for each worker, one for the batches and one for the store.
+/// one for each worker, one for the batches and one for the store. Each worker was told of its own
+/// just what it did.
 ///
 /// The state comes back. It is just as far as the lines made it that are counted; only behind
 /// `Other` it goes on from there. All of them are lines before the first one that is no write of a
@@ -142,8 +147,11 @@ where
     ensures loaded { OnOk result.done
         (IsLoaded lines (marked_in state) (marked_in result.state) result.progress) }
     ensures idle { OnOk result.done (S.honest → IsIdle result.state) }
-    ensures refused { IfErr result.done (λ e. IsUnloaded (S.refuses N.place) S.honest O.keeps
-        lines (marked_in state) (marked_in result.state) result.progress e) }
+    ensures worked { OnOk result.done (HaveEndedWell (HaveWorkedBeside S.honest
+        (S.refuses N.place) (IsKeptSince O.keeps O.found) N.place workers)) }
+    ensures refused { IfErr result.done (λ e. IsUnloaded (S.refuses N.place)
+        (HaveWorkedBeside S.honest (S.refuses N.place) (IsKeptSince O.keeps O.found) N.place
+        workers) O.keeps lines (marked_in state) (marked_in result.state) result.progress e) }
     ensures told { Forked shelf.old shelf.new }
     ensures just { OnOk result.done (ForkedTimes (workers + 2) shelf.old shelf.new) }
 {

@@ -93,6 +93,7 @@ impl<N: Boarded, S: Shelf, O: Origin> Crew<N, S, O> {
         requires found { O.found ≡ marked_in state }
         requires first { (h : Held) → IsTaken state h → O.keeps h }
         ensures count { IfOk result (λ c. vec_len c.shelves ≡ workers) }
+        ensures new { IfOk result (λ c. c.shelves.items ≡ replicate workers (fresh N.place)) }
         ensures back { IfErr result (λ e. e.0 ≡ record state { pinners = [] }) }
         ensures cause { IfErr result (λ e. NotNamed e.1) }
         ensures told { Forked shelf.old shelf.new }

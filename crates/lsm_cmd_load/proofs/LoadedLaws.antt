@@ -12,14 +12,15 @@ use Rattle.lsm_requests.specs.declared.load_options.LoadOptions.{LoadOptions}
 use Rattle.lsm_directory.specs.declared.folder.folder_file.FolderFile.{FolderFile}
 use Rattle.lsm_lines.specs.Gathering.{Pending}
 use Rattle.lsm_lines.specs.Passing.{PassesLines}
-use Rattle.lsm_bulk_load.specs.Ending.{IsIdle, IsLooked}
-use Rattle.lsm_bulk_load.specs.Loading.{ForkedTimes, IsLoaded}
+use Rattle.lsm_bulk_load.specs.Ending.{IsIdle, IsLooked, ReservesNone}
+use Rattle.lsm_bulk_load.specs.Loading.{ForkedTimes, HaveEndedWell, IsLoaded}
 use Rattle.lsm_bulk_load.specs.Marks.{Marked, marked_in}
 use Rattle.lsm_bulk_load.specs.declared.progress.Progress.{Progress}
+use Rattle.lsm_bulk_load.proofs.CallerLemmas.{reserves_still}
 use Rattle.lsm_opening.specs.Compactions.{IsSwept, Refuses}
 use Rattle.lsm_opening.specs.Starting.{IsStarted}
 use Rattle.lsm_opening.specs.declared.prepared.Start.{Start}
-use Rattle.lsm_cmd_load.specs.Loaded.{HasComeBy, IsToCome, IsUnswept, LoadsAll, LoadsWhole}
+use Rattle.lsm_cmd_load.specs.Loaded.{AreOfLoad, HasComeBy, IsToCome, IsUnswept, LoadsAll, LoadsWhole}
 
 -- the lines that are still to come, behind those that were passed over
 pub to_come : (options : LoadOptions) (count : ℕ) (input : Option (List ℕ)) (old new : Pending) → old ≡ record { form = options.ingest.form; last = options.last_line; held = []; left = input }
@@ -42,6 +43,7 @@ pub record Behind (Refused : Asked → ShelfFault → Type 0) (Honest : Type 0) 
   pub behind : Held
   pub come : ∥ HasComeBy Refused Honest pending found behind ∥₁
   pub judged : IsLooked behind loaded
+  pub none : ReservesNone behind loaded
   pub looked : Looked loaded.slots left.slots
   pub rest : left ≡ record loaded { slots = left.slots }
   pub idle : Honest → IsIdle left
@@ -49,8 +51,8 @@ pub record Behind (Refused : Asked → ShelfFault → Type 0) (Honest : Type 0) 
 
 pub loads_all : (Refused : Asked → ShelfFault → Type 0) (Honest : Type 0) (start : Start) (logs : List FolderFile) (workers : ℕ) (pending : Pending) (p : Progress) (found loaded left : Held) (was opened is : Told)
     → IsStarted Honest start logs found was opened → IsLoaded pending (marked_in found) (marked_in loaded) p → Behind Refused Honest pending found loaded left → ForkedTimes (workers + 2) opened is
-    → LoadsAll Refused Honest start logs workers pending p left was is
-loads_all Refused Honest start logs workers pending p found loaded left was opened is started all behind forked = record {
+    → HaveEndedWell (AreOfLoad Refused Honest pending found was.place workers) → LoadsAll Refused Honest start logs workers pending p left was is
+loads_all Refused Honest start logs workers pending p found loaded left was opened is started all behind forked worked = record {
   found = found;
   mid = opened;
   started = started;
@@ -58,30 +60,33 @@ loads_all Refused Honest start logs workers pending p found loaded left was open
   come = behind.come;
   looked = subst (λ (s : Slotted). Looked s left.slots) (ap (λ (h : Held). h.slots) behind.judged) behind.looked;
   rest = both_rest behind.behind loaded left behind.judged behind.rest;
+  none = reserves_still behind.behind loaded left behind.none behind.rest;
   loaded = subst (λ (m : Marked). IsLoaded pending (marked_in found) m p) (sym behind.same) all;
   idle = behind.idle;
   forked = forked;
+  worked = worked;
 }
 
 pub loads_whole : (Refused : Asked → ShelfFault → Type 0) (Honest : Type 0) (start : Start) (logs : List FolderFile) (workers : ℕ) (pending : Pending) (p : Progress) (board : TableId) (found loaded left : Held) (was opened mid is : Told)
     → IsStarted Honest start logs found was opened → IsLoaded pending (marked_in found) (marked_in loaded) p → Behind Refused Honest pending found loaded left → ForkedTimes (workers + 2) opened mid
-    → IsSwept Honest board left mid is → LoadsWhole Refused Honest start logs workers pending p was is
-loads_whole Refused Honest start logs workers pending p board found loaded left was opened mid is started all behind forked swept = record {
+    → HaveEndedWell (AreOfLoad Refused Honest pending found was.place workers) → IsSwept Honest board left mid is → LoadsWhole Refused Honest start logs workers pending p was is
+loads_whole Refused Honest start logs workers pending p board found loaded left was opened mid is started all behind forked worked swept = record {
   left = left;
   mid = mid;
-  loads = loads_all Refused Honest start logs workers pending p found loaded left was opened mid started all behind forked;
+  loads = loads_all Refused Honest start logs workers pending p found loaded left was opened mid started all behind forked worked;
   board = board;
   swept = swept;
 }
 
 pub unswept : (Refused : Asked → ShelfFault → Type 0) (Honest : Type 0) (start : Start) (logs : List FolderFile) (workers : ℕ) (pending : Pending) (p : Progress) (fault : StateFault) (board : TableId)
     (found loaded left : Held) (was opened mid is : Told) → IsStarted Honest start logs found was opened → IsLoaded pending (marked_in found) (marked_in loaded) p
-    → Behind Refused Honest pending found loaded left → ForkedTimes (workers + 2) opened mid → Refuses Refused Honest board left fault mid is → IsUnswept Refused Honest start logs workers pending fault was is
-unswept Refused Honest start logs workers pending p fault board found loaded left was opened mid is started all behind forked refuses = record {
+    → Behind Refused Honest pending found loaded left → ForkedTimes (workers + 2) opened mid
+    → HaveEndedWell (AreOfLoad Refused Honest pending found was.place workers) → Refuses Refused Honest board left fault mid is → IsUnswept Refused Honest start logs workers pending fault was is
+unswept Refused Honest start logs workers pending p fault board found loaded left was opened mid is started all behind forked worked refuses = record {
   p = p;
   left = left;
   mid = mid;
-  loads = loads_all Refused Honest start logs workers pending p found loaded left was opened mid started all behind forked;
+  loads = loads_all Refused Honest start logs workers pending p found loaded left was opened mid started all behind forked worked;
   board = board;
   refuses = refuses;
 }

@@ -4,7 +4,7 @@ use Rattle.std.specs.Prelude.{decimal, Option}
 use Rattle.std.specs.Io.KnownBytes.{Appends, Keeps}
 use Rattle.atomic_table.specs.Seated.{TableId}
 use Rattle.lsm_shelf.specs.Asked.{Asked}
-use Rattle.lsm_shelf.specs.Told.{Forked, Told}
+use Rattle.lsm_shelf.specs.Told.{Forked, Place, Told}
 use Rattle.lsm_shelf.specs.declared.shelf_fault.ShelfFault.{ShelfFault}
 use Rattle.lsm_slots.specs.Slots.{Looked}
 use Rattle.lsm_state.specs.Held.{Held, IsLawfulState}
@@ -18,9 +18,11 @@ use Rattle.lsm_opening.specs.Starting.{IsStartRefusal, IsStarted}
 use Rattle.lsm_opening.specs.declared.faults.writer_fault.WriterFault.TheVariants.{OutOfMemory}
 use Rattle.lsm_opening.specs.declared.faults.writer_fault.WriterFault.TheVariants.{Read}
 use Rattle.lsm_opening.specs.declared.prepared.Start.{Start}
-use Rattle.lsm_bulk_load.specs.Ending.{IsIdle, IsLooked}
-use Rattle.lsm_bulk_load.specs.Keeping.{HasComeTo, IsOfLines}
-use Rattle.lsm_bulk_load.specs.Loading.{ForkedTimes, IsLoaded, IsUnloaded}
+use Rattle.lsm_store.specs.declared.worker_end.WorkerEnd.{WorkerEnd}
+use Rattle.lsm_bulk_load.specs.Ending.{IsIdle, IsLooked, ReservesNone}
+use Rattle.lsm_bulk_load.specs.Keeping.{HasComeTo, IsKeptSince, IsOfLines}
+use Rattle.lsm_bulk_load.specs.Loading.{ForkedTimes, HaveEndedWell, HaveWorkedBeside, IsLoaded}
+use Rattle.lsm_bulk_load.specs.Loading.{IsUnloaded}
 use Rattle.lsm_bulk_load.specs.Marks.{marked_in}
 use Rattle.lsm_bulk_load.specs.declared.load_fault.LoadFault.{LoadFault}
 use Rattle.lsm_bulk_load.specs.declared.progress.Progress.{Progress}
@@ -38,11 +40,18 @@ loaded_text p = codes "loaded "
 abbrev pub HasComeBy : (Asked → ShelfFault → Type 0) → Type 0 → Pending → (found h : Held) → Type 0
 HasComeBy Refused Honest pending found h = HasComeTo Refused Honest (IsOfLines pending) found h
 
+-- So many workers ended so, beside which the lock kept since the state was found that it came from
+-- this by steps of workers and by ingests of lines that were to come.
+abbrev pub AreOfLoad : (Asked → ShelfFault → Type 0) → Type 0 → Pending → (found : Held) → Place
+    → (workers : ℕ) → List WorkerEnd → Type 0
+AreOfLoad Refused Honest pending found place workers ends = HaveWorkedBeside Honest Refused
+    (IsKeptSince (HasComeBy Refused Honest pending found) (marked_in found)) place workers ends
+
 -- The directory was begun or opened, and all lines that were to come came into it, so many; over an
--- honest shelf nothing was due behind them; after the opening the shelf was asked for forks alone,
--- one for each of so many workers, and two.
--- Of the state behind them no more changed then than slots that were looked at, live jobs, and the
--- next ticket.
+-- honest shelf nothing was due behind them. After the opening the shelf was asked for forks alone:
+-- one for each of so many workers, of which none ended early, one for the batches, and one for the
+-- store. Of the state behind the lines no more changed then than slots that were looked at, live
+-- jobs, of which none is new, and the next ticket.
 pub record LoadsAll (Refused : Asked → ShelfFault
     → Type 0) (Honest : Type 0) (start : Start) (logs : List FolderFile) (workers : ℕ) (pending
     : Pending) (p : Progress) (left : Held) (was is : Told) : Type 0 where
@@ -54,9 +63,11 @@ pub record LoadsAll (Refused : Asked → ShelfFault
   pub looked : Looked behind.slots left.slots
   pub rest : left ≡ record behind
       { slots = left.slots; live = left.live; next_ticket = left.next_ticket }
+  pub none : ReservesNone behind left
   pub loaded : IsLoaded pending (marked_in found) (marked_in left) p
   pub idle : Honest → IsIdle left
   pub forked : ForkedTimes (workers + 2) mid is
+  pub worked : HaveEndedWell (AreOfLoad Refused Honest pending found was.place workers)
 
 -- ... and what the state behind them does not keep was removed.
 pub record LoadsWhole (Refused : Asked → ShelfFault
@@ -81,8 +92,8 @@ IsLoadDone Refused Honest start logs workers pending was is old new =
 -- was left, and this fault kept the others out, or what was due from being compacted. Whatever the
 -- fault is, nothing came in that no line spells.
 pub record StopsLoading (Refused : Asked → ShelfFault
-    → Type 0) (Honest : Type 0) (start : Start) (logs : List FolderFile) (pending : Pending) (p
-    : Progress) (fault : LoadFault) (was is : Told) : Type 0 where
+    → Type 0) (Honest : Type 0) (start : Start) (logs : List FolderFile) (workers : ℕ) (pending
+    : Pending) (p : Progress) (fault : LoadFault) (was is : Told) : Type 0 where
   pub found : Held
   pub mid : Told
   pub started : IsStarted Honest start logs found was mid
@@ -92,8 +103,9 @@ pub record StopsLoading (Refused : Asked → ShelfFault
   pub behind : Held
   pub come : ∥ HasComeBy Refused Honest pending found behind ∥₁
   pub looked : IsLooked behind left
-  pub unloaded : IsUnloaded Refused Honest (HasComeBy Refused Honest pending found) pending
-      (marked_in found) (marked_in left) p fault
+  pub none : ReservesNone behind left
+  pub unloaded : IsUnloaded Refused (AreOfLoad Refused Honest pending found was.place workers)
+      (HasComeBy Refused Honest pending found) pending (marked_in found) (marked_in left) p fault
   pub forked : Forked mid is
 
 -- All lines came in, and the collect behind them was refused.
@@ -118,7 +130,7 @@ IsLoadFault Stored Refused Honest start logs from workers pending (Before e) was
     IsStartRefusal Stored Refused Honest start logs e was is
 IsLoadFault Stored Refused Honest start logs from workers pending (Lines fault line) was is =
     (p : Progress) × IsFirstOut from p line
-    × StopsLoading Refused Honest start logs pending p fault was is
+    × StopsLoading Refused Honest start logs workers pending p fault was is
 IsLoadFault Stored Refused Honest start logs from workers pending (Sweep fault) was is =
     IsUnswept Refused Honest start logs workers pending fault was is
 IsLoadFault Stored Refused Honest start logs from workers pending Write was is =

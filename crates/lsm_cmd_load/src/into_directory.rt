@@ -65,6 +65,7 @@ where
     T: Teller,
     O: Write,
     requires parts { AreOf usual N.registry N.board N.history parts }
+    requires shelf { shelf.old.place ≡ N.place }
     requires held { lines.held ≡ [] }
     ensures done { OnOk result (IsLoadDone (S.refuses N.place) S.honest prepared.now.start
         prepared.now.logs.items options.workers lines shelf.old shelf.new

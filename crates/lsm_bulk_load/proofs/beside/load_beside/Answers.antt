@@ -1,12 +1,10 @@
-use Rattle.std.proofs.Common.{rules, ◌≡◌, ◌∙◌, [], List, All, IfErr, OnOk, ap, inl, inr, refl, subst, sym}
+use Rattle.std.proofs.Common.{rules, ◌≡◌, ◌∙◌, [], IfErr, OnOk, ap, inl, inr, refl, subst, sym}
 use Rattle.lsm_state.specs.Held.{Held}
-use Rattle.lsm_store.specs.Workers.{IsWorkersEnd}
-use Rattle.lsm_store.specs.declared.worker_end.WorkerEnd.{WorkerEnd}
 use Rattle.lsm_bulk_load.specs.Ending.{IsLate}
-use Rattle.lsm_bulk_load.specs.Keeping.{IsTaken}
-use Rattle.lsm_bulk_load.specs.Loading.{IsLoaded, IsStopped}
+use Rattle.lsm_bulk_load.specs.Keeping.{IsKeptSince, IsTaken}
+use Rattle.lsm_bulk_load.specs.Loading.{HaveWorkedBeside, IsLoaded, IsStopped}
 use Rattle.lsm_bulk_load.specs.Marks.{marked_in}
-use Rattle.lsm_bulk_load.proofs.EndingLaws.{unbegun, unfinished}
+use Rattle.lsm_bulk_load.proofs.EndingLaws.{ended_well, none_well, unbegun, unfinished, worked_beside}
 use Rattle.lsm_bulk_load.proofs.beside.load_beside.Goals as goal
 
 pub returns-in-Some-clause-refused : goal.returns-in-Some-clause-refused
@@ -15,17 +13,37 @@ returns-in-Some-clause-refused g c =
     let same : c.of-mark.result ≡ marked_in c.args.state = search rules in
     let l : OnOk a.0.0 (IsLoaded c.args.lines c.of-mark.result a.0.1 a.0.2) = search rules in
     let s : IfErr a.0.0 (λ e. IsStopped (g.S.Shelf.refuses g.N.Naming.place) g.O.Origin.keeps c.args.lines c.of-mark.result a.0.1 a.0.2 e) = search rules in
-    let those : All (IsWorkersEnd g.S.Shelf.honest) a.1.items = search rules in
-    let each : All (IsWorkersEnd g.S.Shelf.honest) c.deref.result.now = subst (λ (es : List WorkerEnd). All (IsWorkersEnd g.S.Shelf.honest) es) (sym c.deref.ensures.value) those in
+    let Refused = g.S.Shelf.refuses g.N.Naming.place in
+    let kept = IsKeptSince g.O.Origin.keeps g.O.Origin.found in
+    let each = worked_beside g.S.Shelf.honest Refused kept g.N.Naming.place c.args.workers c.in-Ok.crew.shelves.items c.deref.result.now a.1.items c.in-Ok.ensures.new c.deref.ensures.value
+    (rw c.in-Some.is at c.load_all-answer.ensures.ended)
+    in
     let late : IfErr c.finish-done.result (λ e. IsLate a.0.1 (marked_in c.finish-done.new.state) a.0.0 c.deref.result.now e) = c.finish-done.ensures.late in
-    unfinished (g.S.Shelf.refuses g.N.Naming.place) g.S.Shelf.honest g.O.Origin.keeps c.args.lines (marked_in c.args.state) c.of-mark.result a.0.1 (marked_in c.finish-done.new.state) a.0.2
+    unfinished Refused (HaveWorkedBeside g.S.Shelf.honest Refused kept g.N.Naming.place c.args.workers) g.O.Origin.keeps c.args.lines (marked_in c.args.state) c.of-mark.result a.0.1 (marked_in c.finish-done.new.state) a.0.2
     c.deref.result.now a.0.0 c.finish-done.result same l s each late
 
 pub returns-in-None-clause-refused : goal.returns-in-None-clause-refused
 returns-in-None-clause-refused g c =
     let same : c.of-before.result ≡ marked_in c.args.state = search rules in
-    unbegun (g.S.Shelf.refuses g.N.Naming.place) g.S.Shelf.honest g.O.Origin.keeps c.args.lines (marked_in c.args.state) c.of-before.result _ c.none-in-None.result
+    let Refused = g.S.Shelf.refuses g.N.Naming.place in
+    let Ended = HaveWorkedBeside g.S.Shelf.honest Refused (IsKeptSince g.O.Origin.keeps g.O.Origin.found) g.N.Naming.place c.args.workers in
+    unbegun Refused Ended g.O.Origin.keeps c.args.lines (marked_in c.args.state) c.of-before.result _ c.none-in-None.result
     c.finish-done-in-None.result same c.requires.held c.none-in-None.ensures c.finish-done-in-None.ensures.late
+
+pub returns-in-Some-clause-worked : goal.returns-in-Some-clause-worked
+returns-in-Some-clause-worked g c =
+    let a = c.in-Some.answer in
+    let Refused = g.S.Shelf.refuses g.N.Naming.place in
+    let kept = IsKeptSince g.O.Origin.keeps g.O.Origin.found in
+    let each = worked_beside g.S.Shelf.honest Refused kept g.N.Naming.place c.args.workers c.in-Ok.crew.shelves.items c.deref.result.now a.1.items c.in-Ok.ensures.new c.deref.ensures.value
+    (rw c.in-Some.is at c.load_all-answer.ensures.ended)
+    in
+    ended_well g.S.Shelf.honest Refused kept g.N.Naming.place c.args.workers c.finish-done.result c.deref.result.now c.finish-done.ensures.faultless each
+
+pub returns-in-None-clause-worked : goal.returns-in-None-clause-worked
+returns-in-None-clause-worked g c =
+    none_well g.S.Shelf.honest (g.S.Shelf.refuses g.N.Naming.place) (IsKeptSince g.O.Origin.keeps g.O.Origin.found) g.N.Naming.place c.args.workers c.finish-done-in-None.result _ _ refl
+    c.finish-done-in-None.ensures.loaded
 
 pub returns-in-Some-clause-kept : goal.returns-in-Some-clause-kept
 returns-in-Some-clause-kept g c = (c.load_all-answer.result.1, c.load_all-answer.ensures.kept, c.finish-done.ensures.looked, c.finish-done.ensures.none)
