@@ -193,6 +193,7 @@ fn store_of<N: Boarded, S: Shelf, K: Invariant>(
 /// range that is asked for is left, or nothing is due: the state, of which the fact holds, when none
 /// of them ends with a fault. The shelf is asked for a fork for the store, and for one for each
 /// worker of each round.
+#[tactic(auto, using(lsm_shelf::proofs::CallerLemmas::forked_none))]
 fn compact_state<N: Boarded, S: Shelf, K: Invariant, R: Threads + Wait + Sync, E: Write + Send>(
     rt: &R,
     alloc: Global,
