@@ -1,6 +1,6 @@
 -- So many forks of a shelf.
 use Rattle.std.proofs.Common.{◌≡◌, ◌+◌, ℕ, zero, suc, List, [], ◌∷◌, ◌++◌, replicate, refl, ap, ◌∙◌, arith}
-use Rattle.lsm_shelf.specs.Told.{Becomes, Forked, Told, forking}
+use Rattle.lsm_shelf.specs.Told.{Becomes, Forked, Told}
 use Rattle.lsm_shelf.proofs.CallerLemmas.{forked_same, forked_then}
 use Rattle.lsm_bulk_load.specs.Loading.{ForkedTimes}
 

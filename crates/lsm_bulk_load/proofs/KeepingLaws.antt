@@ -19,7 +19,7 @@ use Rattle.lsm_store.specs.Background.{BringsIn, IsIngestStep}
 use Rattle.lsm_store.specs.Compacting.{IsKeptByCompaction}
 use Rattle.lsm_bulk_load.specs.Coming.{ComesNext}
 use Rattle.lsm_bulk_load.specs.Keeping.{AreStepsOf, HasComeTo, HasGrown, IsKeptByAll, IsKeptByLearning, IsKeptByNext, IsOfLines, IsStepOf, IsTaken}
-use Rattle.lsm_bulk_load.specs.Loading.{AreToldOf, IsToldOf, IsToldOfBatches, IsToldOfNext, Loads}
+use Rattle.lsm_bulk_load.specs.Loading.{IsToldOfBatches, IsToldOfNext, Loads}
 use Rattle.lsm_bulk_load.specs.Marks.{Marked, marked_in}
 use Rattle.lsm_bulk_load.specs.declared.progress.Progress.{Progress}
 use Rattle.lsm_bulk_load.proofs.LoadLaws.{SameForm, came_more, came_none, gathers_then}

@@ -1,9 +1,11 @@
-use Rattle.std.proofs.Common.{rules, ◌≡◌, ◌∙◌, [], IfErr, OnOk, ap, inl, inr, refl, subst, sym}
+use Rattle.std.proofs.Common.{rules, ◌≡◌, ◌∙◌, [], IfErr, OnOk, ap, inl, inr, refl, subst}
+use Rattle.std.specs.Prelude.{Err}
 use Rattle.lsm_state.specs.Held.{Held}
 use Rattle.lsm_bulk_load.specs.Ending.{IsLate}
 use Rattle.lsm_bulk_load.specs.Keeping.{IsKeptSince, IsTaken}
 use Rattle.lsm_bulk_load.specs.Loading.{HaveWorkedBeside, IsLoaded, IsStopped}
 use Rattle.lsm_bulk_load.specs.Marks.{marked_in}
+use Rattle.lsm_bulk_load.specs.declared.load_fault.LoadFault.TheVariants.{OutOfMemory}
 use Rattle.lsm_bulk_load.proofs.EndingLaws.{ended_well, none_well, unbegun, unfinished, worked_beside}
 use Rattle.lsm_bulk_load.proofs.beside.load_beside.Goals as goal
 
@@ -42,7 +44,7 @@ returns-in-Some-clause-worked g c =
 
 pub returns-in-None-clause-worked : goal.returns-in-None-clause-worked
 returns-in-None-clause-worked g c =
-    none_well g.S.Shelf.honest (g.S.Shelf.refuses g.N.Naming.place) (IsKeptSince g.O.Origin.keeps g.O.Origin.found) g.N.Naming.place c.args.workers c.finish-done-in-None.result _ _ refl
+    none_well g.S.Shelf.honest (g.S.Shelf.refuses g.N.Naming.place) (IsKeptSince g.O.Origin.keeps g.O.Origin.found) g.N.Naming.place c.args.workers c.finish-done-in-None.result (Err OutOfMemory) OutOfMemory refl
     c.finish-done-in-None.ensures.loaded
 
 pub returns-in-Some-clause-kept : goal.returns-in-Some-clause-kept

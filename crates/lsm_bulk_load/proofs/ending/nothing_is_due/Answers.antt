@@ -23,4 +23,4 @@ returns-in-Ok-Some-clause-same g c =
 
 pub returns-in-Ok-Some-clause-none : goal.returns-in-Ok-Some-clause-none
 returns-in-Ok-Some-clause-none g c =
-    reserves_back c.args.state.now c.reserve_next.new.self c.give_up.new.state _ _ (ap (λ (h : Held). h.live) (rw c.in-Ok-Some.field-0-is at c.in-Ok-Some.ensures.ok)) c.ticket.ensures c.give_up.ensures.gone
+    reserves_back c.args.state.now c.reserve_next.new.self c.give_up.new.state _ _ (ap (λ (h : Held). h.live) (rw c.in-Ok-Some.field-0-is at c.in-Ok-Some.ensures.ok)) c.ticket.ensures.ticket c.give_up.ensures.gone
