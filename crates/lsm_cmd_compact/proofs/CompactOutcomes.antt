@@ -1,27 +1,25 @@
 -- What a compaction answers, by what is done.
 use Rattle.std.proofs.Common.{◌≡◌, ◌≢◌, ℕ, inl, inr, List, Option, IfErr, OnErr, OnOk, refl, sym, subst, ap, ◌∙◌}
-use Rattle.std.specs.Prelude.{◌⊎◌, Some, None, Result, Ok, Err}
+use Rattle.std.specs.Prelude.{Some, None, Result, Ok, Err}
 use Rattle.std.specs.Io.KnownBytes.{Keeps}
 use Rattle.atomic_table.specs.Seated.{TableId}
 use Rattle.lsm_shelf.specs.Asked.{Asked}
 use Rattle.lsm_shelf.specs.declared.shelf_fault.ShelfFault.{ShelfFault}
-use Rattle.lsm_shelf.specs.Told.{Becomes, Forked, Told, finding}
+use Rattle.lsm_shelf.specs.Told.{Becomes, Told, finding}
 use Rattle.lsm_codec.specs.Entries.{answer}
 use Rattle.lsm_model.specs.Files.{all_entries}
 use Rattle.lsm_version.specs.Versions.{files}
 use Rattle.lsm_journal.specs.HeldManifest.{HeldManifest}
 use Rattle.lsm_state.specs.Held.{Held}
 use Rattle.lsm_store.specs.Compacting.{IsLeftByWorkers}
-use Rattle.lsm_store.specs.declared.worker_end.WorkerEnd.{WorkerEnd}
 use Rattle.lsm_opening.specs.Compactions.{IsSwept}
-use Rattle.lsm_opening.specs.Starting.{Opens}
 use Rattle.lsm_opening.specs.declared.faults.writer_fault.WriterFault.TheVariants.{Write as WriteFault}
 use Rattle.lsm_requests.specs.declared.compact_options.CompactOptions.{CompactOptions}
 use Rattle.lsm_requests.specs.declared.compact_range.CompactRange.{CompactRange}
 use Rattle.lsm_store.specs.declared.picks.Picks.{Picks}
 use Rattle.lsm_store.specs.declared.picks.Picks.TheVariants.{Choice, Gathering, Joining}
 use Rattle.lsm_store.specs.declared.picks.Picks.TheVariants.{Manual}
-use Rattle.lsm_cmd_compact.specs.Compacting.{AreAimed, IsAimed, IsAimedFault, IsClearedBy, AreFaultless, Clears, Compacts, IsCompactFault, IsNamed, IsOfManning, IsOpened, IsNotCompacted, LeavesAll, StopsCompacting, StopsSweeping, installed_between}
+use Rattle.lsm_cmd_compact.specs.Compacting.{IsAimed, IsClearedBy, Clears, Compacts, IsCompactFault, IsNamed, IsOpened, IsNotCompacted, LeavesAll, StopsCompacting, StopsSweeping, StopsWorking, Works, installed_between}
 use Rattle.lsm_opening.specs.declared.faults.compact_fault.CompactFault.{CompactFault}
 use Rattle.lsm_opening.specs.declared.faults.compact_fault.CompactFault.TheVariants.{Writer}
 
@@ -41,49 +39,41 @@ leaves Honest found left l = record {
   shows = λ h k. ap (λ (q : ℕ). answer (all_entries (files left.slots.version)) k q) l.as_found.last ∙ l.as_found.answers h k found.slots.version.last (inl refl);
 }
 
-pub opens : (Honest : Type 0) (board : TableId) (found : Held) (was mid is : Told) → Opens Honest found was mid → found.slots.board.board ≡ board → Forked mid is → IsOpened Honest board found was is
-opens Honest board found was mid is opened on forked = record { mid = mid; opened = opened; on = on; forked = forked }
-
--- no worker began, or one of them has a fault
-pub unfinished : (Stored : ℕ → List ℕ → Type 0) (Refused : Asked → ShelfFault → Type 0) (Honest : Type 0) (board : TableId) (found : Held) (options : CompactOptions) (e : CompactFault) (was is : Told)
-    → IsOpened Honest board found was is → IsOfManning e ⊎ IsAimedFault Refused Honest (IsLeftByWorkers Honest found) was.place found options e
+-- workers were not done
+pub unfinished : (Stored : ℕ → List ℕ → Type 0) (Refused : Asked → ShelfFault → Type 0) (Honest : Type 0) (board : TableId) (found : Held) (options : CompactOptions) (e : CompactFault) (was begun is : Told)
+    → IsOpened Honest board found was begun → StopsWorking Refused Honest (IsLeftByWorkers Honest found) was.place found options e begun is
     → StopsCompacting Stored Refused Honest options e was is
-unfinished Stored Refused Honest board found options e was is opened stops = elim stops [
-  | inl manning ↦ inl (inr (manning, (board, (found, opened))))
-  | inr fault ↦ inr (inl record { board = board; found = found; opened = opened; stopped = fault })
-]
+unfinished Stored Refused Honest board found options e was begun is opened stopped = inr (inl record { board = board; found = found; begun = begun; opened = opened; stopped = stopped })
 
 -- nothing, or not all, was removed
-pub unswept : (Stored : ℕ → List ℕ → Type 0) (Refused : Asked → ShelfFault → Type 0) (Honest : Type 0) (board : TableId) (found left : Held) (options : CompactOptions) (returned : List (WorkerEnd × Option Told))
-    (e : CompactFault) (was mid is : Told) → IsOpened Honest board found was mid → AreAimed Refused Honest (IsLeftByWorkers Honest found) was.place found options returned → AreFaultless returned
-    → IsLeftByWorkers Honest found left → StopsSweeping Refused Honest board left e mid is → StopsCompacting Stored Refused Honest options e was is
-unswept Stored Refused Honest board found left options returned e was mid is opened each faultless by stops = inr (inr (inl record {
+pub unswept : (Stored : ℕ → List ℕ → Type 0) (Refused : Asked → ShelfFault → Type 0) (Honest : Type 0) (board : TableId) (found left : Held) (options : CompactOptions)
+    (e : CompactFault) (was begun ended is : Told) → IsOpened Honest board found was begun → Works Refused Honest (IsLeftByWorkers Honest found) was.place found options begun ended
+    → IsLeftByWorkers Honest found left → StopsSweeping Refused Honest board left e ended is → StopsCompacting Stored Refused Honest options e was is
+unswept Stored Refused Honest board found left options e was begun ended is opened worked by stops = inr (inr (inl record {
   board = board;
   found = found;
   left = left;
-  mid = mid;
+  begun = begun;
   opened = opened;
-  returned = returned;
-  ends_are = each;
-  faultless = faultless;
+  ended = ended;
+  worked = worked;
   leaves = leaves Honest found left by;
   stops = stops;
 }))
 
 -- all was done
-pub compacts : (Refused : Asked → ShelfFault → Type 0) (Honest : Type 0) (board : TableId) (found left : Held) (options : CompactOptions) (installed : ℕ) (returned : List (WorkerEnd × Option Told)) (was mid read is : Told)
-    → IsOpened Honest board found was mid → AreAimed Refused Honest (IsLeftByWorkers Honest found) was.place found options returned → AreFaultless returned
-    → Clears (IsLeftByWorkers Honest found) found options.range → IsLeftByWorkers Honest found left → installed ≡ installed_between found left → IsNamed left mid read → IsSwept Honest board left read is
+pub compacts : (Refused : Asked → ShelfFault → Type 0) (Honest : Type 0) (board : TableId) (found left : Held) (options : CompactOptions) (installed : ℕ) (was begun ended read is : Told)
+    → IsOpened Honest board found was begun → Works Refused Honest (IsLeftByWorkers Honest found) was.place found options begun ended
+    → Clears (IsLeftByWorkers Honest found) found options.range → IsLeftByWorkers Honest found left → installed ≡ installed_between found left → IsNamed left ended read → IsSwept Honest board left read is
     → Compacts Refused Honest options installed was is
-compacts Refused Honest board found left options installed returned was mid read is opened each faultless cleared by count named swept = record {
+compacts Refused Honest board found left options installed was begun ended read is opened worked cleared by count named swept = record {
   board = board;
   found = found;
   left = left;
-  mid = mid;
+  begun = begun;
   opened = opened;
-  returned = returned;
-  ends_are = each;
-  faultless = faultless;
+  ended = ended;
+  worked = worked;
   cleared = cleared;
   leaves = leaves Honest found left by;
   count = count;

@@ -1,4 +1,6 @@
 mod Quiet
 mod Ends
+mod ForkLaws
+mod RoundLaws
 mod CompactOutcomes
 mod RunLaws

@@ -1,6 +1,7 @@
 -- What a `compact` leaves, and why it is refused (this project's rule).
-use Rattle.std.specs.Prelude.{◌≡◌, ◌≢◌, ◌<◌, ℕ, ◌-◌, ◌⊎◌, Bool, List, ◌∷◌, ◌++◌, length}
-use Rattle.std.specs.Prelude.{replicate, All, IsFalse, IsTrue, Option, None, Some, Err, true}
+use Rattle.std.specs.Prelude.{◌≡◌, ◌≢◌, ◌<◌, ℕ, zero, suc, ◌-◌, ◌⊎◌, Bool, List, ◌∷◌, ◌++◌}
+use Rattle.std.specs.Prelude.{length, replicate, All, IsFalse, IsTrue, Option, None, Some, Err}
+use Rattle.std.specs.Prelude.{true}
 use Rattle.std.specs.Io.KnownBytes.{Appends, Keeps}
 use Rattle.atomic_table.specs.Seated.{TableId}
 use Rattle.lsm_codec.specs.Entries.{answer}
@@ -8,7 +9,7 @@ use Rattle.lsm_codec.specs.Keys.{UserKey}
 use Rattle.lsm_shelf.specs.Asked.{Asked, ReadManifest}
 use Rattle.lsm_shelf.specs.declared.shelf_fault.ShelfFault.{ShelfFault}
 use Rattle.lsm_shelf.specs.Told.{Place, Told, Becomes, CountedBy, Forked, NotNamed, NotTaken}
-use Rattle.lsm_shelf.specs.Told.{finding, fresh}
+use Rattle.lsm_shelf.specs.Told.{finding, forking, fresh}
 use Rattle.lsm_manifest.specs.Shape.{Form}
 use Rattle.lsm_journal.specs.HeldManifest.{HeldManifest}
 use Rattle.lsm_journal.specs.Recovering.{IsRecovered, IsRecoverRefusal, RecoverCounted}
@@ -99,6 +100,50 @@ pub record AreEnds (Refused : Asked → ShelfFault → Type 0) (Honest : Type 0)
   pub shelves : AreReturned Honest Refused keeps
       (given_each picks true (replicate workers (fresh place))) returned
 
+-- One round: the shelf gave a fork for each of so many workers, and nothing else was asked of it.
+-- So they ended, each by its fork.
+pub record IsRound (Refused : Asked → ShelfFault → Type 0) (Honest : Type 0) (keeps : Held
+    → Type 0) (place : Place) (workers : ℕ) (picks : Picks) (returned
+    : List (WorkerEnd × Option Told)) (was is : Told) : Type 0 where
+  pub forked : Becomes (forking workers was) is
+  pub ends_are : AreEnds Refused Honest keeps place workers picks returned
+
+-- one in which none of them has a fault
+abbrev pub IsFaultlessRound : (Asked → ShelfFault → Type 0) → Type 0 → (Held → Type 0) → Place
+    → (workers : ℕ) → Picks → (was is : Told) → Type 0
+IsFaultlessRound Refused Honest keeps place workers picks was is =
+    (returned : List (WorkerEnd × Option Told)) × AreFaultless returned
+    × IsRound Refused Honest keeps place workers picks returned was is
+
+-- one in which the first of them that has a fault has this one
+abbrev pub IsFaultyRound : (Asked → ShelfFault → Type 0) → Type 0 → (Held → Type 0) → Place
+    → (workers : ℕ) → Picks → CompactFault → (was is : Told) → Type 0
+IsFaultyRound Refused Honest keeps place workers picks e was is = (fault : WorkerFault)
+    × (e ≡ Worker fault) × ((returned : List (WorkerEnd × Option Told))
+    × IsFirstFault fault returned
+    × IsRound Refused Honest keeps place workers picks returned was is)
+
+-- so many faultless ones, one after another
+abbrev pub AreRounds : (Asked → ShelfFault → Type 0) → Type 0 → (Held → Type 0) → Place
+    → (workers : ℕ) → Picks → (count : ℕ) → (was is : Told) → Type 0
+AreRounds Refused Honest keeps place workers picks zero was is = is ≡ was
+AreRounds Refused Honest keeps place workers picks (suc count) was is =
+    (mid : Told) × AreRounds Refused Honest keeps place workers picks count was mid
+    × IsFaultlessRound Refused Honest keeps place workers picks mid is
+
+-- Memory ran out for workers, or for what they pick; or a shelf failed to fork.
+abbrev pub IsOfManning : CompactFault → Type 0
+IsOfManning e = (fault : ShelfFault) × (e ≡ Writer (of_shelf fault)) × NotNamed fault
+
+-- Behind so many rounds there was no next one, for want of workers, and the shelf was asked for
+-- forks alone; or it was the last, for a fault.
+abbrev pub StopsBehindRounds : (Asked → ShelfFault → Type 0) → Type 0 → (Held → Type 0) → Place
+    → (workers : ℕ) → Picks → CompactFault → (was is : Told) → Type 0
+StopsBehindRounds Refused Honest keeps place workers picks e was is =
+    (count : ℕ) × (mid : Told) × AreRounds Refused Honest keeps place workers picks count was mid
+    × ((IsOfManning e × Forked mid is)
+    ⊎ IsFaultyRound Refused Honest keeps place workers picks e mid is)
+
 -- how many versions were made current between two states of a database: where workers alone changed
 -- it, so many results were installed, or files gathered
 abbrev pub installed_between : Held → Held → ℕ
@@ -140,12 +185,25 @@ IsAimed v (Some r) Joining = ⊥
 IsAimed v (Some r) Gathering = ⊥
 IsAimed v (Some r) (Manual s) = IsToClear v r.from r.to s
 
--- So ended as many workers as options say, which picked what these ask for.
-abbrev pub AreAimed : (Asked → ShelfFault → Type 0) → Type 0 → (Held → Type 0) → Place → Held
-    → CompactOptions → List (WorkerEnd × Option Told) → Type 0
-AreAimed Refused Honest keeps place found options returned = (picks : Picks)
+-- All that the shelf was told by workers that are done: it gave a fork for the store; then there
+-- was at least one round of as many workers as options say, which picked what these ask for.
+abbrev pub Works : (Asked → ShelfFault → Type 0) → Type 0 → (Held → Type 0) → Place → Held
+    → CompactOptions → (was is : Told) → Type 0
+Works Refused Honest keeps place found options was is = (picks : Picks)
     × IsAimed found.slots.version options.range picks
-    × AreEnds Refused Honest keeps place options.workers picks returned
+    × ((mid : Told) × Becomes (forking 1 was) mid
+    × ((more : ℕ)
+    × AreRounds Refused Honest keeps place options.workers picks (suc more) mid is))
+
+-- And where they are not: there was no memory for what they pick, or no store, and it was asked for
+-- forks alone; or it gave that fork, and behind rounds was no next one, or a worker had a fault.
+abbrev pub StopsWorking : (Asked → ShelfFault → Type 0) → Type 0 → (Held → Type 0) → Place → Held
+    → CompactOptions → CompactFault → (was is : Told) → Type 0
+StopsWorking Refused Honest keeps place found options e was is =
+    (IsOfManning e × Forked was is)
+    ⊎ ((picks : Picks) × IsAimed found.slots.version options.range picks
+    × ((mid : Told) × Becomes (forking 1 was) mid
+    × StopsBehindRounds Refused Honest keeps place options.workers picks e mid is))
 
 -- no file was left of a range that is picked
 abbrev pub IsClearedBy : (Held → Type 0) → Picks → Type 0
@@ -156,14 +214,11 @@ IsClearedBy keeps (Manual s) = IsClearedUnder keeps s
 
 -- ---- what the shelf was told
 
--- The directory was opened as this state, which has this board; after that the shelf was asked for
--- forks alone.
+-- The directory was opened as this state, which has this board.
 pub record IsOpened (Honest : Type 0) (board : TableId) (found : Held) (was is : Told)
     : Type 0 where
-  pub mid : Told
-  pub opened : Opens Honest found was mid
+  pub opened : Opens Honest found was is
   pub on : found.slots.board.board ≡ board
-  pub forked : Forked mid is
 
 -- The manifest was read, and is the one that this state holds: so what it comes to is this state's
 -- version.
@@ -171,28 +226,27 @@ pub record IsNamed (left : Held) (was is : Told) : Type 0 where
   pub told : Becomes (finding left.journal.number left.journal.bytes was) is
   pub counts : SameCounts was is
 
--- The directory was opened; workers took what is chosen, or what a range asks for, and none ended
--- with a fault. Of a range that was asked for no file was left at its levels. The state left has
--- the board of the one opened, of which all is left, and so many results were installed between
--- both. The manifest that was read then is the one that it holds, and what nothing names was
--- removed.
+-- The directory was opened. Workers took what is chosen, or what a range asks for, round by round,
+-- and none ended with a fault; the shelf gave forks for them and for the store, and no other. Of a
+-- range that was asked for no file was left at its levels. The state left has the board of the one
+-- opened, of which all is left, and so many results were installed between both. The manifest that
+-- was read then is the one that it holds, and what nothing names was removed.
 pub record Compacts (Refused : Asked → ShelfFault
     → Type 0) (Honest : Type 0) (options : CompactOptions) (installed : ℕ) (was is : Told)
     : Type 0 where
   pub board : TableId
   pub found : Held
   pub left : Held
-  pub mid : Told
-  pub opened : IsOpened Honest board found was mid
-  pub returned : List (WorkerEnd × Option Told)
-  pub ends_are : AreAimed Refused Honest (IsLeftByWorkers Honest found) was.place found options
-      returned
-  pub faultless : AreFaultless returned
+  pub begun : Told
+  pub opened : IsOpened Honest board found was begun
+  pub ended : Told
+  pub worked : Works Refused Honest (IsLeftByWorkers Honest found) was.place found options
+      begun ended
   pub cleared : Clears (IsLeftByWorkers Honest found) found options.range
   pub leaves : LeavesAll Honest found left
   pub count : installed ≡ installed_between found left
   pub read : Told
-  pub named : IsNamed left mid read
+  pub named : IsNamed left ended read
   pub swept : IsSwept Honest board left read is
 
 -- That was done, and how many results were installed was written.
@@ -221,43 +275,16 @@ abbrev pub IsUnopened : (ℕ → List ℕ → Type 0) → (Asked → ShelfFault 
 IsUnopened Stored Refused Honest e was is = (fault : WriterFault) × (e ≡ Writer fault)
     × IsOpeningRefusal Stored Refused Honest fault was is
 
--- Memory ran out before a worker began, or a shelf failed to fork.
-abbrev pub IsOfManning : CompactFault → Type 0
-IsOfManning e = (fault : ShelfFault) × (e ≡ Writer (of_shelf fault)) × NotNamed fault
-
--- The directory was opened, and no worker began.
-abbrev pub IsUnmanned : Type 0 → CompactFault → Told → Told → Type 0
-IsUnmanned Honest e was is = IsOfManning e
-    × ((board : TableId) × ((found : Held) × IsOpened Honest board found was is))
-
--- No worker began.
-abbrev pub NoneBegan : (ℕ → List ℕ → Type 0) → (Asked → ShelfFault → Type 0) → Type 0 → CompactFault
-    → Told → Told → Type 0
-NoneBegan Stored Refused Honest e was is =
-    IsUnopened Stored Refused Honest e was is ⊎ IsUnmanned Honest e was is
-
--- Workers ended, the first one in their order that has a fault with this one.
-abbrev pub IsWorkersFault : (Asked → ShelfFault → Type 0) → Type 0 → (Held → Type 0) → Place → ℕ
-    → Picks → CompactFault → Type 0
-IsWorkersFault Refused Honest keeps place workers picks e = (fault : WorkerFault)
-    × (e ≡ Worker fault) × ((returned : List (WorkerEnd × Option Told))
-    × AreEnds Refused Honest keeps place workers picks returned × IsFirstFault fault returned)
-
--- They picked what options ask for.
-abbrev pub IsAimedFault : (Asked → ShelfFault → Type 0) → Type 0 → (Held → Type 0) → Place → Held
-    → CompactOptions → CompactFault → Type 0
-IsAimedFault Refused Honest keeps place found options e = (picks : Picks)
-    × IsAimed found.slots.version options.range picks
-    × IsWorkersFault Refused Honest keeps place options.workers picks e
-
--- The directory was opened, a worker ended with a fault, and nothing was removed.
+-- The directory was opened, workers were not done, and nothing was removed.
 pub record IsUnfinished (Refused : Asked → ShelfFault
     → Type 0) (Honest : Type 0) (options : CompactOptions) (e : CompactFault) (was is : Told)
     : Type 0 where
   pub board : TableId
   pub found : Held
-  pub opened : IsOpened Honest board found was is
-  pub stopped : IsAimedFault Refused Honest (IsLeftByWorkers Honest found) was.place found options e
+  pub begun : Told
+  pub opened : IsOpened Honest board found was begun
+  pub stopped : StopsWorking Refused Honest (IsLeftByWorkers Honest found) was.place found options
+      e begun is
 
 -- The shelf refused to read the manifest, which it counted once, but for want of memory.
 pub record IsUnread (Refused : Asked → ShelfFault → Type 0) (fault : ShelfFault) (was is : Told)
@@ -290,22 +317,21 @@ StopsSweeping Refused Honest board left e was is =
     ⊎ ((fault : StateFault) × (read : Told) × (e ≡ Writer (State fault)) × IsNamed left was read
     × Refuses Refused Honest board left fault read is)
 
--- No worker ended with a fault, and nothing or not all was removed, by a state with the board of
--- the one opened, of which all is left.
+-- Workers were done, and nothing or not all was removed, by a state with the board of the one
+-- opened, of which all is left.
 pub record IsUnswept (Refused : Asked → ShelfFault
     → Type 0) (Honest : Type 0) (options : CompactOptions) (e : CompactFault) (was is : Told)
     : Type 0 where
   pub board : TableId
   pub found : Held
   pub left : Held
-  pub mid : Told
-  pub opened : IsOpened Honest board found was mid
-  pub returned : List (WorkerEnd × Option Told)
-  pub ends_are : AreAimed Refused Honest (IsLeftByWorkers Honest found) was.place found options
-      returned
-  pub faultless : AreFaultless returned
+  pub begun : Told
+  pub opened : IsOpened Honest board found was begun
+  pub ended : Told
+  pub worked : Works Refused Honest (IsLeftByWorkers Honest found) was.place found options
+      begun ended
   pub leaves : LeavesAll Honest found left
-  pub stops : StopsSweeping Refused Honest board left e mid is
+  pub stops : StopsSweeping Refused Honest board left e ended is
 
 -- All was done, and the reply was not written.
 abbrev pub IsUntold : (Asked → ShelfFault → Type 0) → Type 0 → CompactOptions → CompactFault → Told
@@ -317,7 +343,7 @@ IsUntold Refused Honest options e was is =
 abbrev pub StopsCompacting : (ℕ → List ℕ → Type 0) → (Asked → ShelfFault → Type 0) → Type 0
     → CompactOptions → CompactFault → Told → Told → Type 0
 StopsCompacting Stored Refused Honest options e was is =
-    NoneBegan Stored Refused Honest e was is
+    IsUnopened Stored Refused Honest e was is
     ⊎ (IsUnfinished Refused Honest options e was is
     ⊎ (IsUnswept Refused Honest options e was is
     ⊎ IsUntold Refused Honest options e was is))

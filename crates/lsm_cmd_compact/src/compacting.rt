@@ -1,40 +1,41 @@
 //! A directory is compacted.
 
 pub(crate) mod finding;
+pub(crate) mod forking;
 pub(crate) mod job_teller;
 pub(crate) mod program;
 pub(crate) mod progress;
 pub(crate) mod tally;
 pub(crate) mod torn;
 
-ghost use Rattle.std.specs.Prelude.{◌≡◌, ◌≢◌, ◌⊎◌, All, IfErr, IfOk, IsFalse, IsTrue, OnOk, true};
-ghost use Rattle.std.specs.Prelude.{replicate, vec_len};
+ghost use Rattle.std.specs.Prelude.{◌≡◌, ◌≢◌, ◌⊎◌, ℕ, suc, All, IfErr, IfOk, IsFalse, IsTrue, OnOk};
+ghost use Rattle.std.specs.Prelude.{true, vec_len};
 ghost use Rattle.std.specs.Io.KnownBytes.{Appends, Keeps};
 ghost use Rattle.lsm_shelf.specs.Stored.{Stored};
-ghost use Rattle.lsm_shelf.specs.Told.{Forked, fresh};
-ghost use Rattle.lsm_shelf.specs.declared.shelf_fault.ShelfFault.TheVariants.{OutOfMemory};
+ghost use Rattle.lsm_shelf.specs.Told.{Becomes, Forked, NotNamed, forking};
 ghost use Rattle.lsm_slots.specs.Slots.{Looked};
 ghost use Rattle.lsm_state.specs.Held.{Held};
 ghost use Rattle.lsm_store.specs.Compacting.{IsKeptByCompaction, IsSeated};
 ghost use Rattle.lsm_store.specs.Readers.{SeatsPinners};
 ghost use Rattle.lsm_store.specs.Workers.{IsWorkersEnd};
 ghost use Rattle.lsm_store.specs.Working.{AreReturned, given_each};
-ghost use Rattle.lsm_opening.specs.WriterFault.{of_shelf};
 ghost use Rattle.lsm_opening.specs.Parts.{AreOf, usual};
 ghost use Rattle.lsm_opening.specs.declared.faults.writer_fault.WriterFault.TheVariants.{Write as WriteFault};
-ghost use Rattle.lsm_cmd_compact.specs.Compacting.{AreAimed, AreEnds, AreFaultless, IsAimedFault};
-ghost use Rattle.lsm_cmd_compact.specs.Compacting.{IsCompactFault, IsCompacted};
-ghost use Rattle.lsm_cmd_compact.specs.Compacting.{Clears, IsAimed, IsClearedBy, IsOfManning};
-ghost use Rattle.lsm_cmd_compact.specs.Compacting.{DoesCompact, IsWorkersFault, StopsCompacting};
+ghost use Rattle.lsm_cmd_compact.specs.Compacting.{AreRounds, Clears, DoesCompact, IsAimed};
+ghost use Rattle.lsm_cmd_compact.specs.Compacting.{IsClearedBy, IsCompactFault, IsCompacted};
+ghost use Rattle.lsm_cmd_compact.specs.Compacting.{IsFaultlessRound, IsFaultyRound, IsOfManning};
+ghost use Rattle.lsm_cmd_compact.specs.Compacting.{StopsBehindRounds, StopsCompacting};
+ghost use Rattle.lsm_cmd_compact.specs.Compacting.{StopsWorking, Works};
 ghost use Rattle.lsm_opening.specs.Compactions.{IsSwept, Refuses, installed_text};
 ghost use Rattle.lsm_opening.specs.declared.faults.compact_fault.CompactFault.TheVariants.{Writer as WriterVariant};
 
 use crate::compacting::finding::find_manifest;
+use crate::compacting::forking::forks;
 use crate::compacting::job_teller::JobTeller;
 use crate::compacting::progress::{tell_installed, tell_opened, tell_removed};
 use crate::compacting::tally::judge;
 use crate::compacting::torn::refuse_torn;
-use lsm_opening::{CompactFault, Crew, NewParts, WriterFault, forks, open, sweep};
+use lsm_opening::{CompactFault, NewParts, WriterFault, open, sweep};
 use lsm_requests::CompactOptions;
 use lsm_slots::Boarded;
 use lsm_state::{State, StateFault};
@@ -74,37 +75,38 @@ fn run_all<N: Boarded, S: Shelf, K: Invariant, R: Threads + Wait + Sync, E: Writ
     run_workers_by(rt, alloc, store, shelves, &NoGate, picks)
 }
 
-/// What the workers of a store have done, one for each of so many new forks, when none of them ends
-/// with a fault.
-fn work<N: Boarded, S: Shelf, K: Invariant, R: Threads + Wait + Sync, E: Write + Send>(
+/// One round: a worker for each of so many new forks of the shelf takes what is picked, and none of
+/// them ends with a fault. Nothing else is asked of the shelf.
+fn take_round<N: Boarded, S: Shelf, K: Invariant, R: Threads + Wait + Sync, E: Write + Send>(
     rt: &R,
     alloc: Global,
     store: &Store<N, S, K>,
-    shelves: Vec<NamedShelf<N, S>>,
+    shelf: &mut NamedShelf<N, S>,
     options: &CompactOptions,
     picks: &Picks,
     err: &mut E,
-) -> Result<Vec<Returned<N, S>>, CompactFault>
+) -> Result<(), CompactFault>
     requires kept { IsKeptByCompaction S.honest K.keeps }
-    requires count { vec_len shelves ≡ options.now.workers }
-    requires new { shelves.items ≡ replicate options.now.workers (fresh N.place) }
-    ensures ends { IfOk result (λ v.
-        AreEnds (S.refuses N.place) S.honest K.keeps N.place options.now.workers picks.now
-        v.items) }
-    ensures faultless { IfOk result (λ v. AreFaultless v.items) }
-    ensures refused { IfErr result (λ e. (e ≡ WriterVariant (of_shelf OutOfMemory))
-        ⊎ IsWorkersFault (S.refuses N.place) S.honest K.keeps N.place options.now.workers picks.now
-        e) }
+    ensures round { OnOk result (IsFaultlessRound (S.refuses N.place) S.honest K.keeps N.place
+        options.now.workers picks.now shelf.old shelf.new) }
+    ensures refused { IfErr result (λ e. (IsOfManning e × Forked shelf.old shelf.new)
+        ⊎ IsFaultyRound (S.refuses N.place) S.honest K.keeps N.place options.now.workers picks.now
+        e shelf.old shelf.new) }
     ensures quiet { IsFalse options.now.progress → Keeps (E.contents err.old) (E.contents err.new) }
 {
+    let shelves = match forks(alloc, shelf, options.workers) {
+        Ok(shelves) => shelves,
+        Err(fault) => return Err(CompactFault::of_shelf(fault)),
+    };
     let Ok(returned) = run_all(rt, alloc, store, shelves, picks, options.progress, err) else {
         return Err(CompactFault::of_shelf(ShelfFault::OutOfMemory));
     };
     judge(&returned)?;
-    Ok(returned)
+    Ok(())
 }
 
-/// Whether no file of a range that is picked is left at its levels, as the state under the lock says.
+/// Whether no file of a range that is picked is left at its levels, as the state under the lock
+/// says.
 fn is_cleared<N: Boarded, S: Shelf, K: Invariant, R: Wait>(
     rt: &R,
     store: &Store<N, S, K>,
@@ -118,42 +120,31 @@ fn is_cleared<N: Boarded, S: Shelf, K: Invariant, R: Wait>(
     }
 }
 
-/// What the workers of a store have done, when none of them ends with a fault: again, each with a
-/// new fork of the shelf, until no file of a range that is picked is left at its levels.
+/// Rounds of workers of a store, in none of which one ends with a fault, until no file of a range
+/// that is picked is left at its levels: one round at least, each with new forks of the shelf.
 fn clear<N: Boarded, S: Shelf, K: Invariant, R: Threads + Wait + Sync, E: Write + Send>(
     rt: &R,
     alloc: Global,
     store: &Store<N, S, K>,
     shelf: &mut NamedShelf<N, S>,
-    shelves: Vec<NamedShelf<N, S>>,
     options: &CompactOptions,
     picks: &Picks,
     err: &mut E,
-) -> Result<Vec<Returned<N, S>>, CompactFault>
+) -> Result<(), CompactFault>
     requires kept { IsKeptByCompaction S.honest K.keeps }
-    requires count { vec_len shelves ≡ options.now.workers }
-    requires new { shelves.items ≡ replicate options.now.workers (fresh N.place) }
-    ensures ends { IfOk result (λ v.
-        AreEnds (S.refuses N.place) S.honest K.keeps N.place options.now.workers picks.now
-        v.items) }
-    ensures faultless { IfOk result (λ v. AreFaultless v.items) }
+    ensures rounds { OnOk result ((more : ℕ) × AreRounds (S.refuses N.place) S.honest K.keeps
+        N.place options.now.workers picks.now (suc more) shelf.old shelf.new) }
     ensures cleared { OnOk result (IsClearedBy K.keeps picks.now) }
-    ensures refused { IfErr result (λ e. IsOfManning e
-        ⊎ IsWorkersFault (S.refuses N.place) S.honest K.keeps N.place options.now.workers picks.now
-        e) }
+    ensures refused { IfErr result (λ e. StopsBehindRounds (S.refuses N.place) S.honest K.keeps
+        N.place options.now.workers picks.now e shelf.old shelf.new) }
     ensures quiet { IsFalse options.now.progress
         → Keeps (E.contents err.old) (E.contents err.new) }
 {
-    let mut shelves = shelves;
     'tries: for _ in rt.forever() {
-        let returned = work(rt, alloc, store, shelves, options, picks, err)?;
+        take_round(rt, alloc, store, shelf, options, picks, err)?;
         if is_cleared(rt, store, picks) {
-            return Ok(returned);
+            return Ok(());
         }
-        shelves = match forks(alloc, shelf, options.workers) {
-            Ok(shelves) => shelves,
-            Err(fault) => return Err(CompactFault::of_shelf(fault)),
-        };
     }
     unreachable!()
 }
@@ -178,9 +169,31 @@ fn aim_of<N: Boarded, S: Shelf>(
     }
 }
 
-/// Lets so many workers compact a state, beside which a lock keeps a fact, until nothing of the range
-/// that is asked for is left, or nothing is due: the state, of which the fact holds, and what each
-/// worker has done, when none of them ends with a fault.
+/// The store of a state, whose readers are let go, over a fork of the shelf.
+#[tactic(auto, using(lsm_shelf::proofs::CallerLemmas::forked_once, lsm_shelf::proofs::CallerLemmas::forked_same))]
+fn store_of<N: Boarded, S: Shelf, K: Invariant>(
+    alloc: Global,
+    state: State<N, S>,
+    shelf: &mut NamedShelf<N, S>,
+) -> Result<Store<N, S, K>, ShelfFault>
+    requires seats { SeatsPinners state }
+    requires kept { (h : Held) → IsSeated state h → K.keeps h }
+    ensures just { OnOk result (Becomes (forking 1 shelf.old) shelf.new) }
+    ensures told { Forked shelf.old shelf.new }
+    ensures cause { IfErr result NotNamed }
+{
+    let reading = shelf.fork(alloc)?;
+    match Store::new(alloc, state, reading) {
+        Ok((store, _readers)) => Ok(store),
+        Err((_state, _shelf, fault)) => Err(fault),
+    }
+}
+
+/// Lets so many workers compact a state, beside which a lock keeps a fact, until nothing of the
+/// range that is asked for is left, or nothing is due: the state, of which the fact holds, when none
+/// of them ends with a fault. The shelf is asked for a fork for the store, and for one for each
+/// worker of each round.
+#[tactic(auto, using(lsm_shelf::proofs::CallerLemmas::forked_none))]
 fn compact_state<N: Boarded, S: Shelf, K: Invariant, R: Threads + Wait + Sync, E: Write + Send>(
     rt: &R,
     alloc: Global,
@@ -188,35 +201,29 @@ fn compact_state<N: Boarded, S: Shelf, K: Invariant, R: Threads + Wait + Sync, E
     shelf: &mut NamedShelf<N, S>,
     options: &CompactOptions,
     err: &mut E,
-) -> Result<(State<N, S>, Vec<Returned<N, S>>), CompactFault>
+) -> Result<State<N, S>, CompactFault>
     requires seats { SeatsPinners state }
     requires kept { (h : Held) → IsSeated state h → K.keeps h }
     requires steps { IsKeptByCompaction S.honest K.keeps }
-    ensures kept { IfOk result (λ r. ∥ K.keeps r.0 ∥₁) }
-    ensures ends { IfOk result (λ r.
-        AreAimed (S.refuses N.place) S.honest K.keeps N.place state options.now r.1.items) }
-    ensures faultless { IfOk result (λ r. AreFaultless r.1.items) }
+    ensures kept { IfOk result (λ left. ∥ K.keeps left ∥₁) }
+    ensures worked { OnOk result (Works (S.refuses N.place) S.honest K.keeps N.place state
+        options.now shelf.old shelf.new) }
     ensures cleared { OnOk result (Clears K.keeps state options.now.range) }
-    ensures refused { IfErr result (λ e. IsOfManning e
-        ⊎ IsAimedFault (S.refuses N.place) S.honest K.keeps N.place state options.now e) }
-    ensures told { Forked shelf.old shelf.new }
+    ensures refused { IfErr result (λ e. StopsWorking (S.refuses N.place) S.honest K.keeps N.place
+        state options.now e shelf.old shelf.new) }
     ensures quiet { IsFalse options.now.progress → Keeps (E.contents err.old) (E.contents err.new) }
 {
     let Ok(picks) = aim_of(alloc, &state, options) else {
         return Err(CompactFault::of_shelf(ShelfFault::OutOfMemory));
     };
-    let made: Crew<N, S, K> = match Crew::new(alloc, state, shelf, options.workers) {
-        Ok(crew) => crew,
-        Err((_state, fault)) => return Err(CompactFault::of_shelf(fault)),
+    let store: Store<N, S, K> = match store_of(alloc, state, shelf) {
+        Ok(store) => store,
+        Err(fault) => return Err(CompactFault::of_shelf(fault)),
     };
-    let Crew {
-        store,
-        shelves,
-        own,
-    } = made;
-    let mut own = own;
-    let returned = clear(rt, alloc, &store, &mut own, shelves, options, &picks, err)?;
-    Ok((store.into_state(), returned))
+    match clear(rt, alloc, &store, shelf, options, &picks, err) {
+        Ok(()) => Ok(store.into_state()),
+        Err(fault) => Err(fault),
+    }
 }
 
 /// Removes what a state does not keep, and says how much where that is asked for.
@@ -278,9 +285,7 @@ fn compact_named<N: Boarded, S: Shelf, R: Threads + Wait + Sync, O: Write, E: Wr
     tell_opened(&state, options.progress, err);
     what_was_found_is_kept::<State<N, S>>();
     let begun = state.current().0;
-    let (mut left, _returned) = compact_state::<N, S, Brand, R, E>(
-        rt, alloc, state, shelf, options, err,
-    )?;
+    let mut left = compact_state::<N, S, Brand, R, E>(rt, alloc, state, shelf, options, err)?;
     let installed = left.current().0.saturating_sub(begun);
     tell_installed(installed, options.progress, err);
     find_manifest(rt, alloc, &left, shelf)?;

@@ -1,10 +1,10 @@
 -- A conversation beside workers.
-use Rattle.std.proofs.Common.{◌≡◌, ◌≤◌, ◌+◌, ℕ, Bool, List, All, length, Option, None, IfErr, OnOk, refl, sym, subst, inl, inr}
+use Rattle.std.proofs.Common.{◌≡◌, ◌≤◌, ◌+◌, ℕ, Bool, List, All, length, replicate, Option, None, IfErr, OnOk, sym, subst, inl, inr}
 use Rattle.std.specs.Prelude.{Result, Ok, Err}
 use Rattle.lsm_codec.specs.Entries.{Entry}
 use Rattle.lsm_shelf.specs.Asked.{Asked}
 use Rattle.lsm_shelf.specs.Place.{Place}
-use Rattle.lsm_shelf.specs.Told.{Forked, Told, fresh}
+use Rattle.lsm_shelf.specs.Told.{Told, fresh}
 use Rattle.lsm_shelf.specs.declared.shelf_fault.ShelfFault.{ShelfFault}
 use Rattle.lsm_history.specs.History.{IsLater}
 use Rattle.lsm_model.specs.Runs.{ReadsAs}
@@ -12,9 +12,12 @@ use Rattle.lsm_state.specs.Held.{Held, plain}
 use Rattle.lsm_text.specs.declared.form.Form.{Form}
 use Rattle.lsm_directory.specs.declared.folder.folder_file.FolderFile.{FolderFile}
 use Rattle.lsm_script.specs.Steps.{OnDesk, clear}
+use Rattle.lsm_store.specs.Sweeping.{LastForkedTwice}
 use Rattle.lsm_store.specs.Workers.{IsWorkersEnd}
+use Rattle.lsm_store.specs.Working.{HaveEndedBeside}
 use Rattle.lsm_store.specs.declared.worker_end.WorkerEnd.{WorkerEnd}
 use Rattle.lsm_bulk_load.specs.Ending.{IsFaultless}
+use Rattle.lsm_bulk_load.specs.Loading.{ForkedTimes, HaveWorkedBeside}
 use Rattle.lsm_opening.specs.Starting.{IsStarted}
 use Rattle.lsm_opening.specs.declared.prepared.Start.{Start}
 use Rattle.lsm_cmd_shell.specs.Beside.{IsLent, IsTalkedBeside, waiting}
@@ -27,34 +30,43 @@ use Rattle.lsm_cmd_shell.specs.declared.talk_fault.TalkFault.{TalkFault}
 pub lent : (honest : Type 0) (known : List Entry) (h k : Held) → k ≡ h → IsLater h.history known → (honest → ReadsAs (plain k) k.history) → IsLent honest known h
 lent honest known h k same later reads = record { later = later; reads = subst (λ (x : Held). honest → ReadsAs (plain x) x.history) same reads }
 
-pub conversed : (honest : Type 0) (start : Start) (logs : List FolderFile) (form : Form) (bails : Bool) (workers : ℕ) (input : Option (List ℕ)) (r : Result (Unit {0}) TalkFault) (ends items : List WorkerEnd)
-    (was mid is : Told) (old : Option (List ℕ)) (state left : Held) (desk : OnDesk) (place : Place) → IsStarted honest start logs state was mid → Forked mid is → desk ≡ clear
+-- the forks of workers are new ones
+pub worked_beside : (honest : Type 0) (Refused : Asked → ShelfFault → Type 0) (keeps : Held → Type 0) (place : Place) (workers : ℕ) (shelves : List Told) (ends : List WorkerEnd) → shelves ≡ replicate workers (fresh place)
+    → (lent : List Told) × LastForkedTwice shelves lent × HaveEndedBeside honest Refused keeps lent (fresh place) ends → HaveWorkedBeside honest Refused keeps place workers ends
+worked_beside honest Refused keeps place workers shelves ends new (lent, forked, ended) = (lent, subst (λ (ts : List Told). LastForkedTwice ts lent) new forked, ended)
+
+pub conversed : (Refused : Asked → ShelfFault → Type 0) (honest : Type 0) (start : Start) (logs : List FolderFile) (form : Form) (bails : Bool) (workers : ℕ) (input : Option (List ℕ)) (r : Result (Unit {0}) TalkFault) (ends items : List WorkerEnd)
+    (was mid is : Told) (old : Option (List ℕ)) (state left : Held) (desk : OnDesk) (place : Place) → was.place ≡ place → IsStarted honest start logs state was mid → ForkedTimes (workers + 2) mid is → desk ≡ clear
     → IsTalkedBeside honest (HasComeTo honest form input state) form bails input r (waiting state.history (fresh place) desk None) old → ∥ HasComeTo honest form input state left ∥₁ → ends ≡ items → (workers ≤ length ends) × (length ends ≤ workers + 1)
-    → All (IsWorkersEnd honest) items → ConversesBeside honest start logs form bails workers input r ends was is old
-conversed honest start logs form bails workers input r ends items was mid is old state left desk place started forked desk_is talk come same count each = record {
+    → All (IsWorkersEnd honest) items → HaveWorkedBeside honest Refused (HasComeTo honest form input state) place workers items
+    → ConversesBeside Refused honest start logs form bails workers input r ends was is old
+conversed Refused honest start logs form bails workers input r ends items was mid is old state left desk place here started forked desk_is talk come same count each worked = record {
   state = state;
   mid = mid;
   started = started;
   forked = forked;
-  own = fresh place;
-  unasked = refl;
-  talk = subst (λ (d : OnDesk). IsTalkedBeside honest (HasComeTo honest form input state) form bails input r (waiting state.history (fresh place) d None) old) desk_is talk;
+  talk =
+      subst (λ (p : Place). IsTalkedBeside honest (HasComeTo honest form input state) form bails input r (waiting state.history (fresh p) clear None) old) (sym here)
+      (subst (λ (d : OnDesk). IsTalkedBeside honest (HasComeTo honest form input state) form bails input r (waiting state.history (fresh place) d None) old) desk_is talk);
   left = left;
   come = come;
   count = count;
   each = subst (λ (es : List WorkerEnd). All (IsWorkersEnd honest) es) (sym same) each;
+  worked =
+      subst (λ (p : Place). HaveWorkedBeside honest Refused (HasComeTo honest form input state) p workers ends) (sym here)
+      (subst (λ (es : List WorkerEnd). HaveWorkedBeside honest Refused (HasComeTo honest form input state) place workers es) (sym same) worked);
 }
 
 -- how that is judged
-pub judged_done : (honest : Type 0) (start : Start) (logs : List FolderFile) (form : Form) (bails : Bool) (workers : ℕ) (input : Option (List ℕ)) (r : Result (Unit {0}) TalkFault) (ends : List WorkerEnd) (was is : Told)
-    (old : Option (List ℕ)) (done : Result (Unit {0}) ShellFault) → ConversesBeside honest start logs form bails workers input r ends was is old → OnOk done ((r ≡ Ok tt) × All IsFaultless ends)
-    → OnOk done (IsConversedBeside honest start logs form bails workers input was is old)
-judged_done honest start logs form bails workers input r ends was is old (Ok x) c judged =
-    (ends, judged.1, subst (λ (q : Result (Unit {0}) TalkFault). ConversesBeside honest start logs form bails workers input q ends was is old) judged.0 c)
-judged_done honest start logs form bails workers input r ends was is old (Err e) c judged = tt
+pub judged_done : (Refused : Asked → ShelfFault → Type 0) (honest : Type 0) (start : Start) (logs : List FolderFile) (form : Form) (bails : Bool) (workers : ℕ) (input : Option (List ℕ)) (r : Result (Unit {0}) TalkFault) (ends : List WorkerEnd) (was is : Told)
+    (old : Option (List ℕ)) (done : Result (Unit {0}) ShellFault) → ConversesBeside Refused honest start logs form bails workers input r ends was is old → OnOk done ((r ≡ Ok tt) × All IsFaultless ends)
+    → OnOk done (IsConversedBeside Refused honest start logs form bails workers input was is old)
+judged_done Refused honest start logs form bails workers input r ends was is old (Ok x) c judged =
+    (ends, judged.1, subst (λ (q : Result (Unit {0}) TalkFault). ConversesBeside Refused honest start logs form bails workers input q ends was is old) judged.0 c)
+judged_done Refused honest start logs form bails workers input r ends was is old (Err e) c judged = tt
 
 pub judged_fault : (Stored : ℕ → List ℕ → Type 0) (Refused : Asked → ShelfFault → Type 0) (honest : Type 0) (start : Start) (logs : List FolderFile) (form : Form) (bails : Bool) (workers : ℕ) (input : Option (List ℕ))
-    (r : Result (Unit {0}) TalkFault) (ends : List WorkerEnd) (was is : Told) (old new : Option (List ℕ)) (done : Result (Unit {0}) ShellFault) → ConversesBeside honest start logs form bails workers input r ends was is old
+    (r : Result (Unit {0}) TalkFault) (ends : List WorkerEnd) (was is : Told) (old new : Option (List ℕ)) (done : Result (Unit {0}) ShellFault) → ConversesBeside Refused honest start logs form bails workers input r ends was is old
     → IfErr done (IsOfEnds r ends) → IfErr done (λ e. IsBesideFault Stored Refused honest start logs form bails workers input e was is old new)
 judged_fault Stored Refused honest start logs form bails workers input r ends was is old new (Ok x) c judged = tt
 judged_fault Stored Refused honest start logs form bails workers input r ends was is old new (Err e) c judged = inr (inr (inr (r, ends, judged, c)))

@@ -18,7 +18,7 @@ use Rattle.lsm_cmd_shell.specs.declared.shell_fault.ShellFault.{ShellFault}
 module _ {C M : Type 0} (folders : Ghosts C M) where
   pub talks_at : {T F : Type 0} (r : Result T F) (path : List ℕ) (options : IngestOptions) (workers : Option ℕ) (bails : Bool) (input : Option (List ℕ)) (start : Start) (logs : List FolderFile) (begun ended : FileShelf C M)
       (old new : Option (List ℕ)) → IsShelfAt folders path (IsPrepared options start logs) begun
-      → OnOk r (IsConversed workers (AreHonest folders.calls) start logs options.form bails input (told_by folders begun) (told_by folders ended) old new) → OnOk r (TalksAt folders path options workers bails input old new)
+      → OnOk r (IsConversed workers MayRefuse (AreHonest folders.calls) start logs options.form bails input (told_by folders begun) (told_by folders ended) old new) → OnOk r (TalksAt folders path options workers bails input old new)
   talks_at (Ok x) path options workers bails input start logs begun ended old new on done = record { start = start; logs = logs; begun = begun; on = on; ended = ended; done = done }
   talks_at (Err e) path options workers bails input start logs begun ended old new on done = tt
 

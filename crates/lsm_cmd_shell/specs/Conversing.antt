@@ -13,6 +13,7 @@ use Rattle.lsm_store.specs.Workers.{IsWorkersEnd}
 use Rattle.lsm_store.specs.declared.worker_end.WorkerEnd.{WorkerEnd}
 use Rattle.lsm_store.specs.declared.worker_fault.WorkerFault.{WorkerFault}
 use Rattle.lsm_bulk_load.specs.Ending.{IsFaultless, IsFirstFault}
+use Rattle.lsm_bulk_load.specs.Loading.{ForkedTimes, HaveWorkedBeside}
 use Rattle.lsm_opening.specs.Starting.{IsStartRefusal, IsStarted}
 use Rattle.lsm_opening.specs.WriterFault.{of_shelf}
 use Rattle.lsm_opening.specs.declared.faults.compact_fault.CompactFault.TheVariants.{Writer, Worker}
@@ -71,33 +72,37 @@ IsConverseFault Stored Refused honest start logs form bails input e was is old n
 
 -- ---- beside workers
 
--- The directory was begun or opened, and its shelf gave forks. With one of them a conversation went
--- on with its state, and ended so, while so many workers compacted, and one more gathered where it
--- could be had, which ended so. Whenever the state was lent, and when it was left, it had come from
--- the one that was begun or opened by steps of workers and by replies to lines of the input alone.
--- It was said of an output that had this much; that it is the caller's is to be read.
-pub record ConversesBeside (honest : Type 0) (start : Start) (logs : List FolderFile) (form : Form)
+-- The directory was begun or opened, and its shelf gave forks: one for each worker, one for the
+-- conversation and one for the store. By one of them, to which nothing was told before, a
+-- conversation went on with its state, and ended so, while so many workers compacted, and one more
+-- gathered where it could be had, which ended so. Whenever the state was lent, and when it was
+-- left, it had come from the one that was begun or opened by steps of workers and by replies to
+-- lines of the input alone. It was said of an output that had this much; that it is the caller's is
+-- to be read.
+pub record ConversesBeside (Refused : Asked → ShelfFault
+    → Type 0) (honest : Type 0) (start : Start) (logs : List FolderFile) (form : Form)
     (bails : Bool) (workers : ℕ) (input : Option (List ℕ)) (r : Result (Unit {0}) TalkFault)
     (ends : List WorkerEnd) (was is : Told) (old : Option (List ℕ)) : Type 0 where
   pub state : Held
   pub mid : Told
   pub started : IsStarted honest start logs state was mid
-  pub forked : Forked mid is
-  pub own : Told
-  pub unasked : own ≡ fresh own.place
+  pub forked : ForkedTimes (workers + 2) mid is
   pub talk : IsTalkedBeside honest (HasComeTo honest form input state) form bails input r
-      (waiting state.history own clear None) old
+      (waiting state.history (fresh was.place) clear None) old
   pub left : Held
   pub come : ∥ HasComeTo honest form input state left ∥₁
   pub count : (workers ≤ length ends) × (length ends ≤ workers + 1)
   pub each : All (IsWorkersEnd honest) ends
+  pub worked : HaveWorkedBeside honest Refused (HasComeTo honest form input state) was.place
+      workers ends
 
 -- It ended well, and no worker ended early.
-abbrev pub IsConversedBeside : Type 0 → Start → List FolderFile → Form → (bails : Bool)
-    → (workers : ℕ) → Option (List ℕ) → Told → Told → Option (List ℕ) → Type 0
-IsConversedBeside honest start logs form bails workers input was is old =
+abbrev pub IsConversedBeside : (Asked → ShelfFault → Type 0) → Type 0 → Start → List FolderFile
+    → Form → (bails : Bool) → (workers : ℕ) → Option (List ℕ) → Told → Told → Option (List ℕ)
+    → Type 0
+IsConversedBeside Refused honest start logs form bails workers input was is old =
     (ends : List WorkerEnd) × All IsFaultless ends
-    × ConversesBeside honest start logs form bails workers input (Ok tt) ends was is old
+    × ConversesBeside Refused honest start logs form bails workers input (Ok tt) ends was is old
 
 -- the fault of the first worker that has one
 abbrev pub IsWorkers : List WorkerEnd → ShellFault → Type 0
@@ -148,17 +153,18 @@ IsBesideFault Stored Refused honest start logs form bails workers input e was is
     × IsStartRefusal Stored Refused honest start logs fault was is × Keeps old new)
     ⊎ (((e ≡ spent) × IsForking honest start logs was is)
     ⊎ ((r : Result (Unit {0}) TalkFault) × (ends : List WorkerEnd) × IsOfEnds r ends e
-    × ConversesBeside honest start logs form bails workers input r ends was is old)))
+    × ConversesBeside Refused honest start logs form bails workers input r ends was is old)))
 
 -- ---- with workers, or without
 
 -- a conversation ended well
-abbrev pub IsConversed : Option ℕ → Type 0 → Start → List FolderFile → Form → (bails : Bool)
-    → Option (List ℕ) → Told → Told → Option (List ℕ) → Option (List ℕ) → Type 0
-IsConversed None honest start logs form bails input was is old new =
+abbrev pub IsConversed : Option ℕ → (Asked → ShelfFault → Type 0) → Type 0 → Start
+    → List FolderFile → Form → (bails : Bool) → Option (List ℕ) → Told → Told → Option (List ℕ)
+    → Option (List ℕ) → Type 0
+IsConversed None Refused honest start logs form bails input was is old new =
     Converses honest start logs form bails input (Ok tt) was is old new
-IsConversed (Some workers) honest start logs form bails input was is old new =
-    IsConversedBeside honest start logs form bails workers input was is old
+IsConversed (Some workers) Refused honest start logs form bails input was is old new =
+    IsConversedBeside Refused honest start logs form bails workers input was is old
 
 -- this kept it from such an end
 abbrev pub IsUnconversed : Option ℕ → (ℕ → List ℕ → Type 0) → (Asked → ShelfFault → Type 0) → Type 0

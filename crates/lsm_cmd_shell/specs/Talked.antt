@@ -26,8 +26,8 @@ module _ {C M : Type 0} (folders : Ghosts C M) where
     pub begun : FileShelf C M
     pub on : IsShelfAt folders path (IsPrepared options start logs) begun
     pub ended : FileShelf C M
-    pub done : IsConversed workers (AreHonest folders.calls) start logs options.form bails input
-        (told_by folders begun) (told_by folders ended) old new
+    pub done : IsConversed workers MayRefuse (AreHonest folders.calls) start logs options.form
+        bails input (told_by folders begun) (told_by folders ended) old new
 
 module _ {C M : Type 0} (folders : Ghosts C M) (marks : mark.Ghosts M) where
   -- The lock of the folder at the path was held, and it was looked at. On a shelf of it this fault

@@ -1,27 +1,31 @@
 //! A conversation with the database on a shelf, while workers compact beside.
 
-ghost use Rattle.std.specs.Prelude.{◌≡◌, ◌+◌, ◌≤◌, All, IfErr, IfNone, IfOk, IfSome, None, Ok};
-ghost use Rattle.std.specs.Prelude.{OnOk, vec_len};
+ghost use Rattle.std.specs.Prelude.{◌≡◌, ◌+◌, ◌≤◌, All, List, IfErr, IfNone, IfOk, IfSome, None};
+ghost use Rattle.std.specs.Prelude.{Ok, OnOk, replicate, vec_len};
 ghost use Rattle.lsm_shelf.specs.Stored.{Stored};
-ghost use Rattle.lsm_shelf.specs.Told.{Forked, fresh};
+ghost use Rattle.lsm_shelf.specs.Told.{Forked, Told, fresh};
 ghost use Rattle.lsm_state.specs.Held.{Held};
 ghost use Rattle.lsm_store.specs.Compacting.{IsKeptByCompaction, IsSeated};
 ghost use Rattle.lsm_store.specs.Readers.{SeatsPinners};
+ghost use Rattle.lsm_store.specs.Sweeping.{LastForkedTwice};
 ghost use Rattle.lsm_store.specs.Workers.{IsWorkersEnd};
+ghost use Rattle.lsm_store.specs.Working.{HaveEndedBeside};
 ghost use Rattle.lsm_opening.specs.Parts.{AreOf, usual};
 ghost use Rattle.lsm_cmd_shell.specs.Beside.{IsTalkedBeside, waiting};
 ghost use Rattle.lsm_bulk_load.specs.Ending.{IsFaultless, IsFirstFault};
+ghost use Rattle.lsm_bulk_load.specs.Loading.{ForkedTimes, HaveWorkedBeside};
 ghost use Rattle.lsm_cmd_shell.specs.Conversing.{IsBesideFault, IsConversedBeside, IsOfEnds};
 ghost use Rattle.lsm_cmd_shell.specs.Conversing.{IsUnmanned, IsWorkerOr};
 ghost use Rattle.lsm_cmd_shell.specs.Keeping.{IsKeptByReplies};
 
 use crate::beside::talk_beside;
+use crate::crew::Crew;
 use crate::shell_fault::ShellFault;
 use crate::talk_fault::TalkFault;
 use lsm_folder::Reasons;
 use lsm_history::Memory;
 use lsm_lines::LineReader;
-use lsm_opening::{CompactFault, Crew, NewParts, Prepared, WriterFault, start};
+use lsm_opening::{CompactFault, NewParts, Prepared, WriterFault, start};
 use lsm_script::Desk;
 use lsm_slots::Boarded;
 use lsm_state::State;
@@ -71,6 +75,8 @@ where
     ensures count { IfSome result (λ r. (vec_len shelves ≤ vec_len r.1)
         × (vec_len r.1 ≤ vec_len shelves + 1)) }
     ensures ends { IfSome result (λ r. All (IsWorkersEnd S.honest) r.1.items) }
+    ensures ended { IfSome result (λ r. (lent : List Told) × LastForkedTwice shelves.items lent
+        × HaveEndedBeside S.honest (S.refuses N.place) K.keeps lent (fresh N.place) r.1.items) }
 {
     let told = &mut *out;
     let run = with_workers(
@@ -162,7 +168,7 @@ fn judge(talked: Result<(), TalkFault>, ends: &[WorkerEnd]) -> Result<(), ShellF
 
 /// Puts a state behind a lock that keeps a fact, and replies to lines on it while so many workers
 /// compact: how that ended, and the state, of which the fact holds. The shelf is asked for forks
-/// alone.
+/// alone: one for each worker, one for the conversation and one for the store.
 fn converse_on<N, S, K, R, I, O>(
     rt: &R,
     alloc: Global,
@@ -192,16 +198,19 @@ where
     ensures count { IfOk result (λ r. (workers ≤ vec_len r.0.1)
         × (vec_len r.0.1 ≤ workers + 1)) }
     ensures ends { IfOk result (λ r. All (IsWorkersEnd S.honest) r.0.1.items) }
+    ensures ended { IfOk result (λ r. HaveWorkedBeside S.honest (S.refuses N.place) K.keeps
+        N.place workers r.0.1.items) }
     ensures kept { IfOk result (λ r. ∥ K.keeps r.1 ∥₁) }
     ensures refused { IfErr result (λ e.
         IsUnmanned e (O.contents out.old) (O.contents out.new)) }
+    ensures just { OnOk result (ForkedTimes (workers + 2) shelf.old shelf.new) }
     ensures told { Forked shelf.old shelf.new }
 {
     let mut state = state;
     let memory = state.remember();
     let made: Crew<N, S, K> = match Crew::new(alloc, state, shelf, workers) {
         Ok(crew) => crew,
-        Err((_state, fault)) => return Err(ShellFault::Run(CompactFault::of_shelf(fault))),
+        Err(fault) => return Err(ShellFault::Run(CompactFault::of_shelf(fault))),
     };
     let Crew {
         store,
@@ -238,9 +247,10 @@ where
     I: Read + Drop,
     O: Write,
     requires parts { AreOf usual N.registry N.board N.history parts }
-    ensures done { OnOk result (IsConversedBeside S.honest prepared.now.start
-        prepared.now.logs.items form bails workers lines.left shelf.old shelf.new
-        (O.contents out.old)) }
+    requires shelf { shelf.old.place ≡ N.place }
+    ensures done { OnOk result (IsConversedBeside (S.refuses N.place) S.honest
+        prepared.now.start prepared.now.logs.items form bails workers lines.left shelf.old
+        shelf.new (O.contents out.old)) }
     ensures fault { IfErr result (λ e. IsBesideFault (Stored S.Receipt (S.is_of N.place)
         S.Receipt.number S.Receipt.image) (S.refuses N.place) S.honest prepared.now.start
         prepared.now.logs.items form bails workers lines.left e shelf.old shelf.new
@@ -287,9 +297,9 @@ where
     O: Write,
     requires parts { AreOf usual N.registry N.board N.history parts }
     requires shelf { (S.told shelf).place ≡ N.place }
-    ensures done { OnOk result.0 (IsConversedBeside S.honest prepared.now.start
-        prepared.now.logs.items form bails workers lines.left (S.told shelf) (S.told result.1)
-        (O.contents out.old)) }
+    ensures done { OnOk result.0 (IsConversedBeside (S.refuses N.place) S.honest
+        prepared.now.start prepared.now.logs.items form bails workers lines.left (S.told shelf)
+        (S.told result.1) (O.contents out.old)) }
     ensures fault { IfErr result.0 (λ e. IsBesideFault (Stored S.Receipt (S.is_of N.place)
         S.Receipt.number S.Receipt.image) (S.refuses N.place) S.honest prepared.now.start
         prepared.now.logs.items form bails workers lines.left e (S.told shelf) (S.told result.1)
@@ -321,9 +331,9 @@ where
     R: Threads + Wait + Sync,
     I: Read + Drop,
     O: Write,
-    ensures done { OnOk result.0 (IsConversedBeside S.honest prepared.now.start
-        prepared.now.logs.items form bails workers (I.remaining input) (S.told shelf)
-        (S.told result.1) (O.contents out.old)) }
+    ensures done { OnOk result.0 (IsConversedBeside (S.refuses (S.told shelf).place) S.honest
+        prepared.now.start prepared.now.logs.items form bails workers (I.remaining input)
+        (S.told shelf) (S.told result.1) (O.contents out.old)) }
     ensures fault { IfErr result.0 (λ e. IsBesideFault (Stored S.Receipt
         (S.is_of (S.told shelf).place) S.Receipt.number S.Receipt.image)
         (S.refuses (S.told shelf).place) S.honest prepared.now.start prepared.now.logs.items form

@@ -39,9 +39,9 @@ where
     R: Threads + Wait + Sync,
     I: Read + Drop,
     O: Write,
-    ensures done { OnOk result.0 (IsConversed workers S.honest prepared.now.start
-        prepared.now.logs.items form bails (I.remaining input) (S.told shelf) (S.told result.1)
-        (O.contents out.old) (O.contents out.new)) }
+    ensures done { OnOk result.0 (IsConversed workers (S.refuses (S.told shelf).place) S.honest
+        prepared.now.start prepared.now.logs.items form bails (I.remaining input) (S.told shelf)
+        (S.told result.1) (O.contents out.old) (O.contents out.new)) }
     ensures fault { IfErr result.0 (λ e. IsUnconversed workers (Stored S.Receipt
         (S.is_of (S.told shelf).place) S.Receipt.number S.Receipt.image)
         (S.refuses (S.told shelf).place) S.honest prepared.now.start prepared.now.logs.items form

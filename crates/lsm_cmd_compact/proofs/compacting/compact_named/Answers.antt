@@ -1,4 +1,4 @@
-use Rattle.std.proofs.Common.{◌≡◌, ℕ, ◌-◌, ◌⊎◌, List, inl, inr, refl, sym, ap, ◌∙◌, subst, rules}
+use Rattle.std.proofs.Common.{◌≡◌, ℕ, ◌-◌, List, inl, inr, refl, sym, ap, ◌∙◌, subst, rules}
 use Rattle.std.specs.Io.KnownBytes.{Appends}
 use Rattle.std.proofs.lemmas.Result.{err_from_is_err_and}
 use Rattle.lsm_directory.proofs.CallerLemmas.{keeps_same}
@@ -6,9 +6,9 @@ use Rattle.lsm_shelf.specs.Told.{Place}
 use Rattle.lsm_slots.specs.Slots.{current_id}
 use Rattle.lsm_state.specs.Held.{Held}
 use Rattle.lsm_store.specs.Compacting.{IsLeftByWorkers}
-use Rattle.lsm_cmd_compact.specs.Compacting.{AreAimed, IsAimedFault, IsNamed, IsOfManning, IsOpened, installed_between}
+use Rattle.lsm_cmd_compact.specs.Compacting.{IsNamed, IsOpened, StopsWorking, Works, installed_between}
 use Rattle.lsm_opening.specs.Compactions.{installed_text}
-use Rattle.lsm_cmd_compact.proofs.CompactOutcomes.{compacts, named_still, opens, unfinished, unswept}
+use Rattle.lsm_cmd_compact.proofs.CompactOutcomes.{compacts, named_still, unfinished, unswept}
 use Rattle.lsm_cmd_compact.proofs.Quiet.{quiet_then}
 use Rattle.lsm_cmd_compact.proofs.compacting.compact_named.Goals as goal
 
@@ -21,7 +21,7 @@ compact_state-requires-clause-steps g c κs within = c.what_was_found_is_kept.en
 pub returns-in_err-state-clause-fault : goal.returns-in_err-state-clause-fault
 returns-in_err-state-clause-fault g c =
     let p = err_from_is_err_and c.from_residual.result c.from_residual.ensures.1 in
-    rw (p.1, p.2) (inl (inl (c.in_err-state.field-0.0, refl, c.in_err-state.ensures.refused)))
+    rw (p.1, p.2) (inl (c.in_err-state.field-0.0, refl, c.in_err-state.ensures.refused))
 
 pub returns-in_err-state-clause-left : goal.returns-in_err-state-clause-left
 returns-in_err-state-clause-left g c =
@@ -34,10 +34,13 @@ returns-in_err-left-clause-fault g c =
     let Stored : ℕ → List ℕ → Type 0 = λ number image. (r : g.row.S-Receipt.Denot) × g.S.Shelf.is_of g.N.Naming.place r × (g.S.Receipt.TableReceipt.number r ≡ number) × (g.S.Receipt.TableReceipt.image r ≡ image) in
     let Refused = g.S.Shelf.refuses g.N.Naming.place in
     let found = c.in_ok-state.state in
-    let opened : IsOpened g.S.Shelf.honest g.N.Boarded.board found c.args.shelf.now c.compact_state.new.shelf = opens _ _ _ _ c.open.new.shelf _ c.in_ok-state.ensures.opened c.in_ok-state.ensures.board c.in_err-left.ensures.told in
+    let opened : IsOpened g.S.Shelf.honest g.N.Boarded.board found c.args.shelf.now c.open.new.shelf = record { opened = c.in_ok-state.ensures.opened; on = c.in_ok-state.ensures.board } in
     let e = c.in_err-left.field-0.0 in
-    let stops = subst (λ (at : Place). IsOfManning e ⊎ IsAimedFault Refused g.S.Shelf.honest (IsLeftByWorkers g.S.Shelf.honest found) at found c.args.options.now e) (sym c.requires.shelf) c.in_err-left.ensures.refused in
-    rw (p.1, p.2) (unfinished Stored Refused g.S.Shelf.honest g.N.Boarded.board found c.args.options.now e _ _ opened stops)
+    let stops =
+    subst (λ (at : Place). StopsWorking Refused g.S.Shelf.honest (IsLeftByWorkers g.S.Shelf.honest found) at found c.args.options.now e c.open.new.shelf c.compact_state.new.shelf) (sym c.requires.shelf)
+    c.in_err-left.ensures.refused
+    in
+    rw (p.1, p.2) (unfinished Stored Refused g.S.Shelf.honest g.N.Boarded.board found c.args.options.now e _ _ _ opened stops)
 
 pub returns-in_err-find_manifest-clause-fault : goal.returns-in_err-find_manifest-clause-fault
 returns-in_err-find_manifest-clause-fault g c =
@@ -47,12 +50,13 @@ returns-in_err-find_manifest-clause-fault g c =
     let Honest = g.S.Shelf.honest in
     let law = c.what_was_found_is_kept.ensures in
     let found = c.in_ok-state.state in
-    let returned = c.in_ok-left._returned.items in
-    let opened : IsOpened Honest g.N.Boarded.board found c.args.shelf.now c.compact_state.new.shelf = opens _ _ _ _ c.open.new.shelf _ c.in_ok-state.ensures.opened c.in_ok-state.ensures.board c.in_ok-left.ensures.told in
-    let ends = subst (λ (at : Place). AreAimed Refused Honest (IsLeftByWorkers Honest found) at found c.args.options.now returned) (sym c.requires.shelf) c.in_ok-left.ensures.ends in
+    let opened : IsOpened Honest g.N.Boarded.board found c.args.shelf.now c.open.new.shelf = record { opened = c.in_ok-state.ensures.opened; on = c.in_ok-state.ensures.board } in
+    let worked =
+    subst (λ (at : Place). Works Refused Honest (IsLeftByWorkers Honest found) at found c.args.options.now c.open.new.shelf c.compact_state.new.shelf) (sym c.requires.shelf) c.in_ok-left.ensures.worked
+    in
     let left : IsLeftByWorkers Honest found c.in_ok-left.left = law.out found c.in_ok-left.left c.in_ok-left.ensures.kept in
-    rw (p.1, p.2) (unswept Stored Refused Honest g.N.Boarded.board found c.in_ok-left.left c.args.options.now returned c.in_err-find_manifest.field-0.0 _ _ _ opened ends
-    c.in_ok-left.ensures.faultless left (inl c.in_err-find_manifest.ensures.refused))
+    rw (p.1, p.2) (unswept Stored Refused Honest g.N.Boarded.board found c.in_ok-left.left c.args.options.now c.in_err-find_manifest.field-0.0 _ _ _ _ opened worked
+    left (inl c.in_err-find_manifest.ensures.refused))
 
 pub returns-in_err-sweep_all-clause-fault : goal.returns-in_err-sweep_all-clause-fault
 returns-in_err-sweep_all-clause-fault g c =
@@ -62,14 +66,15 @@ returns-in_err-sweep_all-clause-fault g c =
     let Honest = g.S.Shelf.honest in
     let law = c.what_was_found_is_kept.ensures in
     let found = c.in_ok-state.state in
-    let returned = c.in_ok-left._returned.items in
-    let opened : IsOpened Honest g.N.Boarded.board found c.args.shelf.now c.compact_state.new.shelf = opens _ _ _ _ c.open.new.shelf _ c.in_ok-state.ensures.opened c.in_ok-state.ensures.board c.in_ok-left.ensures.told in
-    let ends = subst (λ (at : Place). AreAimed Refused Honest (IsLeftByWorkers Honest found) at found c.args.options.now returned) (sym c.requires.shelf) c.in_ok-left.ensures.ends in
+    let opened : IsOpened Honest g.N.Boarded.board found c.args.shelf.now c.open.new.shelf = record { opened = c.in_ok-state.ensures.opened; on = c.in_ok-state.ensures.board } in
+    let worked =
+    subst (λ (at : Place). Works Refused Honest (IsLeftByWorkers Honest found) at found c.args.options.now c.open.new.shelf c.compact_state.new.shelf) (sym c.requires.shelf) c.in_ok-left.ensures.worked
+    in
     let after = c.sweep_all.new.state in
     let left : IsLeftByWorkers Honest found after = law.looked found c.in_ok-left.left after (law.out found c.in_ok-left.left c.in_ok-left.ensures.kept) c.in_err-sweep_all.ensures.looked c.in_err-sweep_all.ensures.rest in
     let named : IsNamed after c.compact_state.new.shelf c.find_manifest.new.shelf = named_still c.in_ok-left.left after _ _ c.in_err-sweep_all.ensures.rest c.in_ok-find_manifest.ensures.named in
-    rw (p.1, p.2) (unswept Stored Refused Honest g.N.Boarded.board found after c.args.options.now returned _ _ _ _ opened ends
-    c.in_ok-left.ensures.faultless left (inr (c.in_err-sweep_all.field-0.0, c.find_manifest.new.shelf, refl, named, c.in_err-sweep_all.ensures.refused)))
+    rw (p.1, p.2) (unswept Stored Refused Honest g.N.Boarded.board found after c.args.options.now _ _ _ _ _ opened worked
+    left (inr (c.in_err-sweep_all.field-0.0, c.find_manifest.new.shelf, refl, named, c.in_err-sweep_all.ensures.refused)))
 
 pub returns-in_err-find_manifest-clause-left : goal.returns-in_err-find_manifest-clause-left
 returns-in_err-find_manifest-clause-left g c =
@@ -87,9 +92,10 @@ returns-clause-fault g c =
     let Honest = g.S.Shelf.honest in
     let law = c.what_was_found_is_kept.ensures in
     let found = c.in_ok-state.state in
-    let returned = c.in_ok-left._returned.items in
-    let opened : IsOpened Honest g.N.Boarded.board found c.args.shelf.now c.compact_state.new.shelf = opens _ _ _ _ c.open.new.shelf _ c.in_ok-state.ensures.opened c.in_ok-state.ensures.board c.in_ok-left.ensures.told in
-    let ends = subst (λ (at : Place). AreAimed Refused Honest (IsLeftByWorkers Honest found) at found c.args.options.now returned) (sym c.requires.shelf) c.in_ok-left.ensures.ends in
+    let opened : IsOpened Honest g.N.Boarded.board found c.args.shelf.now c.open.new.shelf = record { opened = c.in_ok-state.ensures.opened; on = c.in_ok-state.ensures.board } in
+    let worked =
+    subst (λ (at : Place). Works Refused Honest (IsLeftByWorkers Honest found) at found c.args.options.now c.open.new.shelf c.compact_state.new.shelf) (sym c.requires.shelf) c.in_ok-left.ensures.worked
+    in
     let after = c.sweep_all.new.state in
     let left : IsLeftByWorkers Honest found after = law.looked found c.in_ok-left.left after (law.out found c.in_ok-left.left c.in_ok-left.ensures.kept) c.in_ok-sweep_all.ensures.looked c.in_ok-sweep_all.ensures.rest in
     let named : IsNamed after c.compact_state.new.shelf c.find_manifest.new.shelf = named_still c.in_ok-left.left after _ _ c.in_ok-sweep_all.ensures.rest c.in_ok-find_manifest.ensures.named in
@@ -102,7 +108,7 @@ returns-clause-fault g c =
       refl,
       (
         c.saturating_sub-installed.result,
-        compacts Refused Honest g.N.Boarded.board found after c.args.options.now _ returned _ _ _ _ opened ends c.in_ok-left.ensures.faultless c.in_ok-left.ensures.cleared left count named
+        compacts Refused Honest g.N.Boarded.board found after c.args.options.now _ _ _ _ _ _ opened worked c.in_ok-left.ensures.cleared left count named
             c.in_ok-sweep_all.ensures.ok,
       ),
     )))
@@ -113,9 +119,10 @@ returns-in-Ok-clause-done g c =
     let Honest = g.S.Shelf.honest in
     let law = c.what_was_found_is_kept.ensures in
     let found = c.in_ok-state.state in
-    let returned = c.in_ok-left._returned.items in
-    let opened : IsOpened Honest g.N.Boarded.board found c.args.shelf.now c.compact_state.new.shelf = opens _ _ _ _ c.open.new.shelf _ c.in_ok-state.ensures.opened c.in_ok-state.ensures.board c.in_ok-left.ensures.told in
-    let ends = subst (λ (at : Place). AreAimed Refused Honest (IsLeftByWorkers Honest found) at found c.args.options.now returned) (sym c.requires.shelf) c.in_ok-left.ensures.ends in
+    let opened : IsOpened Honest g.N.Boarded.board found c.args.shelf.now c.open.new.shelf = record { opened = c.in_ok-state.ensures.opened; on = c.in_ok-state.ensures.board } in
+    let worked =
+    subst (λ (at : Place). Works Refused Honest (IsLeftByWorkers Honest found) at found c.args.options.now c.open.new.shelf c.compact_state.new.shelf) (sym c.requires.shelf) c.in_ok-left.ensures.worked
+    in
     let after = c.sweep_all.new.state in
     let left : IsLeftByWorkers Honest found after = law.looked found c.in_ok-left.left after (law.out found c.in_ok-left.left c.in_ok-left.ensures.kept) c.in_ok-sweep_all.ensures.looked c.in_ok-sweep_all.ensures.rest in
     let named : IsNamed after c.compact_state.new.shelf c.find_manifest.new.shelf = named_still c.in_ok-left.left after _ _ c.in_ok-sweep_all.ensures.rest c.in_ok-find_manifest.ensures.named in
@@ -126,7 +133,7 @@ returns-in-Ok-clause-done g c =
     let count : c.saturating_sub-installed.result ≡ installed_between found after = cc in
     let written : Appends (g.O.Write.contents c.args.out.now) (g.O.Write.contents c.reply.new.out) (installed_text c.saturating_sub-installed.result) = search rules in (
       c.saturating_sub-installed.result,
-      compacts Refused Honest g.N.Boarded.board found after c.args.options.now _ returned _ _ _ _ opened ends c.in_ok-left.ensures.faultless c.in_ok-left.ensures.cleared left count named
+      compacts Refused Honest g.N.Boarded.board found after c.args.options.now _ _ _ _ _ _ opened worked c.in_ok-left.ensures.cleared left count named
           c.in_ok-sweep_all.ensures.ok,
       written,
     )

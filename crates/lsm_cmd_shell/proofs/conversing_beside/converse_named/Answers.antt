@@ -35,11 +35,12 @@ returns-in-Ok-converse_on g c =
     let old = g.O.Write.contents c.args.out.now in
     let ends = c.deref.result.now in
     let here = c.in-Ok-converse_on in
-    let talked = conversed H start logs c.args.form c.args.bails c.args.workers input here.ended.0 ends here.ended.1.items c.args.shelf.now c.start.new.shelf c.converse_on.new.shelf old c.in-Ok.state here._left c.in-Ok-new.desk
-    g.N.Naming.place c.in-Ok.ensures.started c.converse_on.ensures.told c.in-Ok-new.ensures.clear here.ensures.talked here.ensures.kept c.deref.ensures.value (subst (λ (n : ℕ). (c.args.workers ≤ n) × (n ≤ c.args.workers + 1)) (sym c.deref.ensures.len) here.ensures.count)
-    here.ensures.ends
+    let just = rw c.in-Ok-converse_on.is at c.converse_on.ensures.just in
+    let talked = conversed Refused H start logs c.args.form c.args.bails c.args.workers input here.ended.0 ends here.ended.1.items c.args.shelf.now c.start.new.shelf c.converse_on.new.shelf old c.in-Ok.state here._left c.in-Ok-new.desk
+    g.N.Naming.place c.requires.shelf c.in-Ok.ensures.started just c.in-Ok-new.ensures.clear here.ensures.talked here.ensures.kept c.deref.ensures.value
+    (subst (λ (n : ℕ). (c.args.workers ≤ n) × (n ≤ c.args.workers + 1)) (sym c.deref.ensures.len) here.ensures.count) here.ensures.ends here.ensures.ended
     in
     record {
-      done = judged_done H start logs c.args.form c.args.bails c.args.workers input here.ended.0 ends c.args.shelf.now c.converse_on.new.shelf old c.judge.result talked c.judge.ensures.done;
+      done = judged_done Refused H start logs c.args.form c.args.bails c.args.workers input here.ended.0 ends c.args.shelf.now c.converse_on.new.shelf old c.judge.result talked c.judge.ensures.done;
       fault = judged_fault There Refused H start logs c.args.form c.args.bails c.args.workers input here.ended.0 ends c.args.shelf.now c.converse_on.new.shelf old _ c.judge.result talked c.judge.ensures.fault;
     }
