@@ -252,11 +252,11 @@ range_refused honest h level from to PinsSpent low unspent other r = absurd r
 
 pub closed_next : (h : Held) (p : TablePlan) → IsNext h p → IsClosedPlan h p
 closed_next h p (inl chosen) = closed_choice h h.slots.version (reserved_jobs h.live) p refl chosen.0
-closed_next h p (inr (inl down)) =
-    (let d = down.1 in (files_over h.slots.version d.span.level d.span.from d.span.to, d.planned))
-closed_next h p (inr (inr (inl joining))) =
-    (let j = joining.2 in
+closed_next h p (inr (inl joining)) =
+    (let j = joining.1 in
     (files_over h.slots.version j.span.level j.span.from j.span.to, j.planned))
+closed_next h p (inr (inr (inl down))) =
+    (let d = down.2 in (files_over h.slots.version d.span.level d.span.from d.span.to, d.planned))
 closed_next h p (inr (inr (inr chosen))) =
     closed_choice h h.slots.version (reserved_jobs h.live) p refl chosen.2
 
@@ -267,8 +267,8 @@ refused_next honest h p e going next (inr x) = subst (λ (f : StateFault). IsNex
 
 -- what goes before a choice that is not made, or waits, is next
 before_next : (h : Held) (p : TablePlan) → HasNoneAtOnce h → GoesBefore h p → IsNext h p
-before_next h p none (inl down) = inr (inl (none, down))
-before_next h p none (inr joining) = inr (inr (inl (none, joining.0, joining.1)))
+before_next h p none (inl joining) = inr (inl (none, joining))
+before_next h p none (inr down) = inr (inr (inl (none, down.0, down.1)))
 
 pub next_unchosen : (h : Held) (o : Option TablePlan)
     → HasNoChoice h.slots.version (reserved_jobs h.live)
@@ -277,12 +277,12 @@ pub next_unchosen : (h : Held) (o : Option TablePlan)
 next_unchosen h None none m = (m.0, m.1, inl none)
 next_unchosen h (Some p) none m = before_next h p (inl none) m
 
--- where no file goes down, what is joined goes before the choice
-pub joined_before : (h : Held) (o : Option TablePlan) → NoneGoesDown h
-    → MatchOption o (HasNoJoining h) (λ p. IsJoining h p)
+-- where nothing can be joined, the outermost file goes before the choice
+pub outermost_before : (h : Held) (o : Option TablePlan) → HasNoJoining h
+    → MatchOption o (NoneGoesDown h) (λ p. GoesDown h p)
     → MatchOption o (NoneGoesBefore h) (λ p. GoesBefore h p)
-joined_before h None none m = (none, m)
-joined_before h (Some p) none m = inr (none, m)
+outermost_before h None none m = (none, m)
+outermost_before h (Some p) none m = inr (none, m)
 
 pub match_none : {A : Type 0} (o : Option A) (P : Type 0) (Q : A → Type 0) → ((x : A) → o ≡ Some x → ⊥) → MatchOption o P Q → P
 match_none None P Q f m = m

@@ -115,7 +115,7 @@ IsRangeRefusal honest h level from to OutOfMemory = (h.halted ≡ false) × (lev
 IsRangeRefusal honest h level from to e = ⊥
 
 -- ---- what workers reserve: the choice below level 0, or that moves a file which is not small;
--- then the outermost file of level 0; then a run of files that are joined; then the choice of level
+-- then a run of files that are joined; then the outermost file of level 0; then the choice of level
 -- 0 where that is ready (this project's rule)
 
 -- a job of the plan only moves a file, and that one is not small
@@ -126,7 +126,7 @@ MovesLarge h p = IsLargeMove h.slots.version p h.options.target_size
 abbrev pub GoesAtOnce : Held → TablePlan → Type 0
 GoesAtOnce h p = (1 ≤ p.level) ⊎ MovesLarge h p
 
--- the choice has to wait until there is no outermost file, and nothing can be joined
+-- the choice has to wait until nothing can be joined, and there is no outermost file
 pub record WaitsForOthers (h : Held) (p : TablePlan) : Type 0 where
   pub chosen : IsChosen h p
   pub level : p.level ≡ 0
@@ -175,16 +175,16 @@ abbrev pub HasNoneReady : Held → Type 0
 HasNoneReady h = HasNoChoice h.slots.version (reserved_jobs h.live)
     ⊎ ((p : TablePlan) × WaitsForOthers h p × (IsReady h → ⊥))
 
--- The chosen plan where it goes at once; else that of the outermost file; else that of the files
--- that are joined; else the chosen one, where level 0 is ready.
+-- The chosen plan where it goes at once; else that of the files that are joined; else that of the
+-- outermost file; else the chosen one, where level 0 is ready.
 abbrev pub IsNext : Held → TablePlan → Type 0
 IsNext h p = (IsChosen h p × GoesAtOnce h p)
-    ⊎ (HasNoneAtOnce h × GoesDown h p)
-    ⊎ (HasNoneAtOnce h × NoneGoesDown h × IsJoining h p)
-    ⊎ (NoneGoesDown h × HasNoJoining h × IsChosen h p × IsReady h)
+    ⊎ (HasNoneAtOnce h × IsJoining h p)
+    ⊎ (HasNoneAtOnce h × HasNoJoining h × GoesDown h p)
+    ⊎ (HasNoJoining h × NoneGoesDown h × IsChosen h p × IsReady h)
 
 abbrev pub HasNoNext : Held → Type 0
-HasNoNext h = NoneGoesDown h × HasNoJoining h × HasNoneReady h
+HasNoNext h = HasNoJoining h × NoneGoesDown h × HasNoneReady h
 
 -- Why there is no next job: the state is halted; or there is one, but its ticket would be
 -- 2^64 - 1; or memory was refused.
@@ -199,7 +199,7 @@ IsNextRefusal honest h e = ⊥
 
 -- what goes before a choice that has to wait
 abbrev pub GoesBefore : Held → TablePlan → Type 0
-GoesBefore h p = GoesDown h p ⊎ (NoneGoesDown h × IsJoining h p)
+GoesBefore h p = IsJoining h p ⊎ (HasNoJoining h × GoesDown h p)
 
 abbrev pub NoneGoesBefore : Held → Type 0
-NoneGoesBefore h = NoneGoesDown h × HasNoJoining h
+NoneGoesBefore h = HasNoJoining h × NoneGoesDown h

@@ -1,5 +1,5 @@
 //! What workers reserve: the choice below level 0, or that moves a file which is not small; then
-//! the outermost file of level 0; then runs of files that are joined; then level 0.
+//! runs of files that are joined; then the outermost file of level 0; then level 0.
 
 ghost use Rattle.std.specs.Prelude.{◌≡◌, ◌≤◌, ◌-◌, ◌^◌, ◌↔◌, false, IfErr, IfNone, IfOk, IfSome};
 ghost use Rattle.std.specs.Prelude.{IsTrue, MatchOption, OnErr, OnOk};
@@ -87,7 +87,7 @@ impl<N: Boarded, S: Shelf> State<N, S> {
     }
 
     // The plan that goes before a choice which has to wait; none where there is none.
-    #[tactic(auto, using(crate::proofs::ReserveLaws::joined_before))]
+    #[tactic(auto, using(crate::proofs::ReserveLaws::outermost_before))]
     fn plan_before(&self, alloc: Global) -> Result<Option<Plan<N, S>>, StateFault>
         requires open { self.now.halted ≡ false }
         ensures before { S.honest → IfOk result (λ r.
@@ -98,10 +98,10 @@ impl<N: Boarded, S: Shelf> State<N, S> {
             IfSome r (λ p. IsClear p (reserved_jobs self.now.live))) }
         ensures refused { IfErr result (IsPlanRefusal self.now) }
     {
-        if let Some(plan) = self.outermost_plan(alloc)? {
+        if let Some(plan) = self.joining_plan(alloc)? {
             return Ok(Some(plan));
         }
-        self.joining_plan(alloc)
+        self.outermost_plan(alloc)
     }
 
     // Whether a plan is below level 0, or only moves a file that is not small.
@@ -152,9 +152,9 @@ impl<N: Boarded, S: Shelf> State<N, S> {
     }
 
     /// Reserves the next compaction of a worker: the chosen one, as `reserve` does, where that is
-    /// below level 0, or only moves a file that is not small; else that of the outermost file of
-    /// level 0 (`lsm_picker::outermost_span`), which only moves it; else that of the files that are
-    /// joined (`lsm_picker::span_to_join`), so that small files become larger ones; and where there
+    /// below level 0, or only moves a file that is not small; else that of the files that are joined
+    /// (`lsm_picker::span_to_join`), so that small files become larger ones; else that of the
+    /// outermost file of level 0 (`lsm_picker::outermost_span`), which only moves it; and where there
     /// is neither, or a live job is in the way, the chosen one, where level 0 is ready for it
     /// (`lsm_picker::level_zero_is_ready`). None exactly where there is none of these; then nothing
     /// changes.
