@@ -58,6 +58,10 @@ MOST = {
 # to twice what a whole one has, where that is more. The manifest that was followed is gone at once.
 AT_REST, OPENED, IN_THE_MIDST, MORE = 1.3, 1.3, 2, 64 << 10
 
+# How many tables there are at rest, and how many more for each target size of bytes; and how many more
+# in the midst of the writes: level 0 may be full, and a run may wait for a worker.
+TABLES, TABLES_EACH, TABLES_MORE = 64, 4, 24
+
 
 def mixed(x):
     x = (x + 0x9E3779B97F4A7C15) & MIX
@@ -325,32 +329,36 @@ class Writer:
         all_ = self.all
         took = []
         ours = []
+        tables = []
         held = None
         for first in range(self.count, self.count + all_, self.batch):
             took.append(self.write(first))
             time.sleep(self.pause)
             while (first - self.count + self.batch) * 8 >= all_ * (len(ours) + 1):
                 ours.append(used(self.shell.folder))
+                tables.append(self.shell.levels())
                 self.read(held)
                 if len(ours) == 2:
                     held = self.hold()
         self.expect("release", self.shell.ask(f"release {held[0]}"), "released")
         theirs, self.they_wrote = self.other.bring_in(self.count, all_)
         self.count += all_
-        return sorted(took), list(zip(ours, theirs, strict=True))
+        return sorted(took), list(zip(ours, theirs, strict=True)), tables
 
-    def judge(self, took, looks):
+    def judge(self, took, looks, seen):
         disk, theirs = at_rest(self.shell.folder), used(self.theirs)
         tables, total = self.shell.levels()
         came = (self.count - self.loaded) * (16 + SIZE)
         wrote = self.shell.written() - self.we_had
         each, ratio = wrote / came, wrote / (self.they_wrote - self.they_had)
         midst, rest = max(our / (their + MORE / IN_THE_MIDST) for our, their in looks), disk / theirs
-        most = 64 + 4 * total / TARGET
+        most = TABLES + TABLES_EACH * total / TARGET
+        parts = max(some / (TABLES + TABLES_MORE + TABLES_EACH * all_ / TARGET) for some, all_ in seen)
         slow, memory = took[len(took) * 99 // 100], self.shell.memory()
         print(
             f"{self.name}: {self.count} puts, {sum(took) / self.all * 1e6:.0f} us each, of 100 batches one"
-            f" {slow * 1e3:.0f} ms, the worst {took[-1] * 1e3:.0f}; {tables} tables of {total} bytes; disk {disk},"
+            f" {slow * 1e3:.0f} ms, the worst {took[-1] * 1e3:.0f}; {tables} tables of {total} bytes, before at most"
+            f" {parts:.2f} of their bound; disk {disk},"
             f" {rest:.2f} of LevelDB's, before at most {midst:.2f} of LevelDB's and 32 KiB;"
             f" {manifests(self.shell.folder)} manifests; {memory >> 10} KiB of memory; written {each:.1f} a byte,"
             f" {ratio:.2f} of LevelDB's",
@@ -368,6 +376,8 @@ class Writer:
             bad.append("it has other manifests than its own")
         if tables >= most:
             bad.append(f"{tables} tables are not below {most:.0f}")
+        if parts >= 1:
+            bad.append(f"in the midst it had {parts:.2f} times as many tables as it may have")
         if each >= MOST[self.kind][self.batch]:
             bad.append(f"it wrote {each:.1f} bytes for a byte that came in")
         if self.all == LONG and ratio >= TIMES:

@@ -31,7 +31,7 @@ use Rattle.lsm_state.specs.Held.{HasInputs, Held, IsLawfulState, plain}
 use Rattle.lsm_state.specs.Reserving.{HasOrderedInputs, IsChosen, IsClosedPlan, IsOfMoment}
 use Rattle.lsm_state.specs.Reserving.{IsPlanAt, IsRangePlan, IsRangeRefusal, IsReserveRefusal}
 use Rattle.lsm_state.specs.Reserving.{IsReserving, plan_in, reserved, GoesBefore, HasNoneAtOnce}
-use Rattle.lsm_state.specs.Reserving.{HasNoJoining, HasNoNext, IsJoining, IsReady, NoneGoesBefore}
+use Rattle.lsm_state.specs.Reserving.{GoesDown, HasNoJoining, HasNoNext, IsReady, NoneGoesBefore}
 use Rattle.lsm_state.specs.Reserving.{NoneGoesDown, WaitsForOthers, IsNext}
 use Rattle.lsm_state.specs.Reserving.{IsNextRefusal, IsPlanRefusal}
 use Rattle.lsm_state.specs.declared.state_fault.StateFault.{StateFault}
