@@ -1,4 +1,4 @@
-use Rattle.std.proofs.Common.{refl, inr, ◌∙◌}
+use Rattle.std.proofs.Common.{◌≡◌, length, refl, sym, ap, inr, ◌∙◌}
 use Rattle.std.proofs.lemmas.Result.{err_from_is_err_and}
 use Rattle.lsm_cmd_compact.proofs.RoundLaws.{faultless_round, faulty_round, round_of}
 use Rattle.lsm_cmd_compact.proofs.compacting.take_round.Goals as goal
@@ -15,8 +15,9 @@ returns-in_err-judge-clause-refused g c =
     let was = c.args.shelf.now in
     let is = c.forks.new.shelf in
     let ended = c.in-Ok-run_all in
+    let count : length ended.returned.items ≡ workers = ap length (sym c.deref.ensures.value) ∙ c.deref.ensures.len ∙ ended.ensures.len ∙ c.in-Ok.ensures.count in
     let round = round_of Refused Honest keeps place workers picks was is c.in-Ok.shelves.items ended.returned.items c.in-Ok.ensures.just
-    c.in-Ok.ensures.new (ended.ensures.len ∙ c.in-Ok.ensures.count) ended.ensures.ends ended.ensures.returned in
+    c.in-Ok.ensures.new count ended.ensures.ends ended.ensures.returned in
     rw (p.1, p.2) (inr (faulty_round Refused Honest keeps place workers picks was is ended.returned.items c.deref.result.now _ c.in_err-judge.field-0.0
     c.deref.ensures.value round refl c.in_err-judge.ensures.first))
 
@@ -31,7 +32,8 @@ returns-clause-round g c =
     let was = c.args.shelf.now in
     let is = c.forks.new.shelf in
     let ended = c.in-Ok-run_all in
+    let count : length ended.returned.items ≡ workers = ap length (sym c.deref.ensures.value) ∙ c.deref.ensures.len ∙ ended.ensures.len ∙ c.in-Ok.ensures.count in
     let round = round_of Refused Honest keeps place workers picks was is c.in-Ok.shelves.items ended.returned.items c.in-Ok.ensures.just
-    c.in-Ok.ensures.new (ended.ensures.len ∙ c.in-Ok.ensures.count) ended.ensures.ends ended.ensures.returned in
+    c.in-Ok.ensures.new count ended.ensures.ends ended.ensures.returned in
     faultless_round Refused Honest keeps place workers picks was is ended.returned.items c.deref.result.now c.deref.ensures.value round
     c.in_ok-judge.ensures.faultless
