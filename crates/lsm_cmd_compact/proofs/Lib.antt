@@ -1,6 +1,5 @@
 mod Quiet
 mod Ends
-mod ForkLaws
 mod RoundLaws
 mod CompactOutcomes
 mod RunLaws

@@ -1,7 +1,6 @@
 //! A directory is compacted.
 
 pub(crate) mod finding;
-pub(crate) mod forking;
 pub(crate) mod job_teller;
 pub(crate) mod program;
 pub(crate) mod progress;
@@ -30,12 +29,11 @@ ghost use Rattle.lsm_opening.specs.Compactions.{IsSwept, Refuses, installed_text
 ghost use Rattle.lsm_opening.specs.declared.faults.compact_fault.CompactFault.TheVariants.{Writer as WriterVariant};
 
 use crate::compacting::finding::find_manifest;
-use crate::compacting::forking::forks;
 use crate::compacting::job_teller::JobTeller;
 use crate::compacting::progress::{tell_installed, tell_opened, tell_removed};
 use crate::compacting::tally::judge;
 use crate::compacting::torn::refuse_torn;
-use lsm_opening::{CompactFault, NewParts, WriterFault, open, sweep};
+use lsm_opening::{CompactFault, NewParts, WriterFault, forks, open, sweep};
 use lsm_requests::CompactOptions;
 use lsm_slots::Boarded;
 use lsm_state::{State, StateFault};
