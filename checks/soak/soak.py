@@ -53,9 +53,11 @@ MOST = {
 }
 
 # Bytes on the disk for one of LevelDB's, while no program calls anything that removes: at rest behind
-# the writes, once the database was opened twice more, and in the midst of the writes, where 64 KiB more
-# is let be, since little is there at first: so many bytes a manifest comes to before it is followed, and
-# to twice what a whole one has, where that is more. The manifest that was followed is gone at once.
+# the writes; once the database was opened twice more, for one of those that LevelDB has before or behind
+# that, since it compacts as it opens, and of keys that are written again and again may have a third then;
+# and in the midst of the writes, where 64 KiB more is let be, since little is there at first: so many
+# bytes a manifest comes to before it is followed, and to twice what a whole one has, where that is more.
+# The manifest that was followed is gone at once.
 AT_REST, OPENED, IN_THE_MIDST, MORE = 1.3, 1.3, 2, 64 << 10
 
 # How many tables there are at rest, and how many more for each target size of bytes; and how many more
@@ -411,6 +413,7 @@ class Writer:
 
     def open_again(self):
         """Closes the database, and opens it twice, as a program would that runs now and then."""
+        before = used(self.theirs)
         for _ in range(2):
             self.shell.end()
             self.shell = Shell(self.lsm, self.shell.folder)
@@ -418,7 +421,7 @@ class Writer:
             self.other.end()
             self.other = LevelDB(self.leveldb, self.theirs, self.kind, self.batch)
             self.other.bring_in(self.count, 0)
-        disk, theirs = at_rest(self.shell.folder), used(self.theirs)
+        disk, theirs = at_rest(self.shell.folder), max(before, used(self.theirs))
         left = manifests(self.shell.folder)
         self.shell.end()
         self.other.end()
