@@ -31,5 +31,5 @@ still_idle was is looked rest idle =
     let options : is.options ≡ was.options = ap (λ (h : Held). h.options) rest in
     let version : is.slots.version ≡ was.slots.version = looked.version in (
       rw (live, version, options) idle.0,
-      (rw (live, version) idle.1.0, rw (live, version, options) idle.1.1, none_ready was is version live options idle.1.2),
+      (rw (live, version, options) idle.1.0, rw (live, version) idle.1.1, none_ready was is version live options idle.1.2),
     )
