@@ -1,5 +1,6 @@
 -- What a compaction answers, by what is done.
-use Rattle.std.proofs.Common.{◌≡◌, ◌≢◌, ℕ, inl, inr, List, Option, IfErr, OnErr, OnOk, refl, sym, subst, ap, ◌∙◌}
+use Rattle.std.proofs.Common.{◌≡◌, ◌≢◌, ℕ, inl, inr, List, Option, IfErr, OnErr, OnOk, refl, sym}
+use Rattle.std.proofs.Common.{subst, ap, ◌∙◌}
 use Rattle.std.specs.Prelude.{Some, None, Result, Ok, Err}
 use Rattle.std.specs.Io.KnownBytes.{Keeps}
 use Rattle.atomic_table.specs.Seated.{TableId}
@@ -19,7 +20,10 @@ use Rattle.lsm_requests.specs.declared.compact_range.CompactRange.{CompactRange}
 use Rattle.lsm_store.specs.declared.picks.Picks.{Picks}
 use Rattle.lsm_store.specs.declared.picks.Picks.TheVariants.{Choice, Gathering, Joining}
 use Rattle.lsm_store.specs.declared.picks.Picks.TheVariants.{Manual}
-use Rattle.lsm_cmd_compact.specs.Compacting.{IsAimed, IsClearedBy, Clears, Compacts, IsCompactFault, IsNamed, IsOpened, IsNotCompacted, LeavesAll, StopsCompacting, StopsSweeping, StopsWorking, Works, installed_between}
+use Rattle.lsm_cmd_compact.specs.Compacting.{IsAimed, IsClearedBy, Clears, Compacts, IsCompactFault}
+use Rattle.lsm_cmd_compact.specs.Compacting.{IsNamed, IsOpened, IsNotCompacted, LeavesAll}
+use Rattle.lsm_cmd_compact.specs.Compacting.{StopsCompacting, StopsSweeping, StopsWorking, Works}
+use Rattle.lsm_cmd_compact.specs.Compacting.{installed_between}
 use Rattle.lsm_opening.specs.declared.faults.compact_fault.CompactFault.{CompactFault}
 use Rattle.lsm_opening.specs.declared.faults.compact_fault.CompactFault.TheVariants.{Writer}
 
@@ -33,7 +37,8 @@ is_refused (Err e) status Stored Refused Honest options was is old new ok err sa
 -- ---- after the opening
 
 -- what workers left is all of it, and each user key shows what it showed
-pub leaves : (Honest : Type 0) (found left : Held) → IsLeftByWorkers Honest found left → LeavesAll Honest found left
+pub leaves : (Honest : Type 0) (found left : Held) → IsLeftByWorkers Honest found left
+    → LeavesAll Honest found left
 leaves Honest found left l = record {
   by_workers = l;
   shows = λ h k. ap (λ (q : ℕ). answer (all_entries (files left.slots.version)) k q) l.as_found.last ∙ l.as_found.answers h k found.slots.version.last (inl refl);
@@ -41,7 +46,8 @@ leaves Honest found left l = record {
 
 -- workers were not done
 pub unfinished : (Stored : ℕ → List ℕ → Type 0) (Refused : Asked → ShelfFault → Type 0) (Honest : Type 0) (board : TableId) (found : Held) (options : CompactOptions) (e : CompactFault) (was begun is : Told)
-    → IsOpened Honest board found was begun → StopsWorking Refused Honest (IsLeftByWorkers Honest found) was.place found options e begun is
+    → IsOpened Honest board found was begun
+    → StopsWorking Refused Honest (IsLeftByWorkers Honest found) was.place found options e begun is
     → StopsCompacting Stored Refused Honest options e was is
 unfinished Stored Refused Honest board found options e was begun is opened stopped = inr (inl record { board = board; found = found; begun = begun; opened = opened; stopped = stopped })
 
@@ -63,9 +69,11 @@ unswept Stored Refused Honest board found left options e was begun ended is open
 
 -- all was done
 pub compacts : (Refused : Asked → ShelfFault → Type 0) (Honest : Type 0) (board : TableId) (found left : Held) (options : CompactOptions) (installed : ℕ) (was begun ended read is : Told)
-    → IsOpened Honest board found was begun → Works Refused Honest (IsLeftByWorkers Honest found) was.place found options begun ended
-    → Clears (IsLeftByWorkers Honest found) found options.range → IsLeftByWorkers Honest found left → installed ≡ installed_between found left → IsNamed left ended read → IsSwept Honest board left read is
-    → Compacts Refused Honest options installed was is
+    → IsOpened Honest board found was begun
+    → Works Refused Honest (IsLeftByWorkers Honest found) was.place found options begun ended
+    → Clears (IsLeftByWorkers Honest found) found options.range → IsLeftByWorkers Honest found left
+    → installed ≡ installed_between found left → IsNamed left ended read
+    → IsSwept Honest board left read is → Compacts Refused Honest options installed was is
 compacts Refused Honest board found left options installed was begun ended read is opened worked cleared by count named swept = record {
   board = board;
   found = found;
@@ -83,7 +91,8 @@ compacts Refused Honest board found left options installed was begun ended read 
 }
 
 -- the manifest of a state of which no more changed than that slots were looked at
-pub named_still : (was is : Held) (t u : Told) → is ≡ record was { slots = is.slots } → IsNamed was t u → IsNamed is t u
+pub named_still : (was is : Held) (t u : Told) → is ≡ record was { slots = is.slots }
+    → IsNamed was t u → IsNamed is t u
 named_still was is t u same named =
     record {
       told = subst (λ (j : HeldManifest). Becomes (finding j.number j.bytes t) u) (sym (ap (λ (h : Held). h.journal) same)) named.told;
@@ -91,7 +100,8 @@ named_still was is t u same named =
     }
 
 -- what was picked for a range is cleared of it
-pub clears_by : (keeps : Held → Type 0) (found : Held) (range : Option CompactRange) (picks : Picks) → IsAimed found.slots.version range picks → IsClearedBy keeps picks → Clears keeps found range
+pub clears_by : (keeps : Held → Type 0) (found : Held) (range : Option CompactRange) (picks : Picks)
+    → IsAimed found.slots.version range picks → IsClearedBy keeps picks → Clears keeps found range
 clears_by keeps found None Choice aimed cleared = tt
 clears_by keeps found None Joining aimed cleared = tt
 clears_by keeps found None Gathering aimed cleared = tt

@@ -100,8 +100,8 @@ pub record AreEnds (Refused : Asked → ShelfFault → Type 0) (Honest : Type 0)
   pub shelves : AreReturned Honest Refused keeps
       (given_each picks true (replicate workers (fresh place))) returned
 
--- One round: the shelf gave so many forks, and was told nothing else. So many workers ended, each by
--- a shelf that was told nothing before.
+-- One round: the shelf gave so many forks, and was told nothing else. So many workers ended, each
+-- by a shelf that was told nothing before.
 pub record IsRound (Refused : Asked → ShelfFault → Type 0) (Honest : Type 0) (keeps : Held
     → Type 0) (place : Place) (workers : ℕ) (picks : Picks) (returned
     : List (WorkerEnd × Option Told)) (was is : Told) : Type 0 where
