@@ -6,13 +6,14 @@ all workers together a quarter.
 
 LSM is the program, FOLDER an empty folder. Folders of many small tables are made there, byte by byte. `lsm scan` and `lsm check` run on
 those that have more than twice as many as may be open, `lsm compact` by 8 workers on one whose level 0 has 64 jobs. What they print goes
-into a pipe that has room for little, so that they wait to be read; their descriptors are counted in /proc meanwhile. Ends with status 1
-where there are more than the limit, or fewer than show that the limit was reached.
+into a pipe that has room for little, so that they wait to be read; they are stopped while their descriptors are counted in /proc. Ends
+with status 1 where there are more than the limit, or fewer than show that the limit was reached.
 """
 import fcntl
 import os
 import resource
 import select
+import signal
 import subprocess
 import sys
 
@@ -140,12 +141,20 @@ class Watched:
     def look(self):
         place = f"/proc/{self.ran.pid}/fd"
         try:
+            if len(os.listdir(place)) < self.longest or not self.stops():
+                return
             numbers = os.listdir(place)
         except OSError:
             return  # it has ended
-        if len(numbers) >= self.longest:
-            self.longest = len(numbers)
-            self.most = max(self.most, sum(self.is_table(f"{place}/{number}") for number in numbers))
+        self.longest = max(self.longest, len(numbers))
+        self.most = max(self.most, sum(self.is_table(f"{place}/{number}") for number in numbers))
+        self.ran.send_signal(signal.SIGCONT)
+
+    def stops(self):
+        """Stops it, so that nothing is opened or closed while that is counted. Whether it had not ended."""
+        self.ran.send_signal(signal.SIGSTOP)
+        state = os.waitid(os.P_PID, self.ran.pid, os.WSTOPPED | os.WEXITED | os.WNOWAIT)
+        return state.si_code == os.CLD_STOPPED
 
     def is_table(self, place):
         try:
