@@ -1,8 +1,9 @@
-use Rattle.std.proofs.Common.{◌≡◌, ◌++◌, ◌∷◌, [], Some, ap, ◌∙◌, arith}
+use Rattle.std.proofs.Common.{◌≡◌, List, ◌++◌, ◌∷◌, [], Some, map, ap, ◌∙◌, arith}
+use Rattle.std.proofs.lemmas.List.{map-append}
 use Rattle.std.specs.Vec.Iter.{into_iter_items}
 use Rattle.lsm_pins.specs.Known.{Known}
 use Rattle.lsm_state.specs.Held.{Held}
-use Rattle.lsm_store.specs.Readers.{KnownVersion, IsFreeEnd, Learnt, known_at, seated}
+use Rattle.lsm_store.specs.Readers.{IsFreeEnd, IsKnownBy, Learnt, known_by, seated, unnumbered}
 use Rattle.lsm_store.proofs.SeatLaws.{all_popped, all_rest, one_more}
 use Rattle.lsm_store.proofs.store.seat_all.Goals as goal
 
@@ -24,12 +25,13 @@ loop-pinner-preserved g c =
     let fewer = step.1 in
     record {
       pinners = all_rest (IsFreeEnd g.N.Boarded.board) (into_iter_items c.loop-pinner.pinner-iterator) (into_iter_items c.next.new.self) pinner first before.pinners;
-      caches = all_popped (λ (d : KnownVersion). d ≡ known_at state place) c.loop-pinner.caches.items c.pop.new.self.items (Some c.in-Some-pop.cache) c.in-Some-pop.ensures.items before.caches;
+      caches = all_popped (IsKnownBy state place) c.loop-pinner.caches.items c.pop.new.self.items (Some c.in-Some-pop.cache) c.in-Some-pop.ensures.items before.caches;
       enough = omega arith;
       room = omega arith;
       all = omega arith;
-      readers = one_more (seated state place) c.loop-pinner.readers.items c.push.new.self.items (into_iter_items c.loop-pinner.pinner-iterator) (into_iter_items c.next.new.self) pinner _ before.readers first
-          (c.in-Ok.ensures.items ∙ ap (λ (r : Learnt). c.loop-pinner.readers.items ++ r ∷ []) (c.seat-reader.ensures.seated ∙ before.others pinner));
+      readers = one_more (seated state place) (map unnumbered c.loop-pinner.readers.items) (map unnumbered c.push.new.self.items) (into_iter_items c.loop-pinner.pinner-iterator) (into_iter_items c.next.new.self) pinner _ before.readers first
+          (ap (λ (rs : List Learnt). map unnumbered rs) c.in-Ok.ensures.items ∙ map-append unnumbered c.loop-pinner.readers.items (c.seat-reader.result ∷ [])
+          ∙ ap (λ (r : Learnt). map unnumbered c.loop-pinner.readers.items ++ r ∷ []) (c.seat-reader.ensures.seated ∙ before.others pinner));
       same = c.seat-reader.ensures.same ∙ before.same;
       rest = c.seat-reader.ensures.rest ∙ ap (λ (h : Held). record h { slots = record h.slots { board = c.seat-reader.new.state.slots.board } }) before.rest;
       others = λ (p : Known). c.seat-reader.ensures.others p ∙ before.others p;
