@@ -177,10 +177,13 @@ impl<N: Boarded, S: Shelf, K: Invariant> Store<N, S, K> {
         Ok((store, readers))
     }
 
-    /// The store of a state, without readers: its pinners stay with it.
-    pub fn of(state: State<N, S>) -> Store<N, S, K>
-        requires kept { K.keeps state }
+    /// The store of a state, whose readers are let go: it is read by its state alone, under the
+    /// lock. No shelf is asked for a fork.
+    pub fn of(alloc: Global, state: State<N, S>) -> Store<N, S, K>
+        requires kept { (h : Held) → IsSeated state h → K.keeps h }
     {
+        let mut state = state;
+        let _ends = take_ends(&mut state, alloc);
         Store {
             state: Mutex::new(Guarded {
                 state,
