@@ -1,5 +1,6 @@
 -- Forks of a shelf, counted.
 use Rattle.std.proofs.Common.{◌≡◌, ℕ, zero, suc, ◌+◌, ◌≤◌, List, [], ◌∷◌, ◌++◌, refl, ap, ◌∙◌, arith}
+use Rattle.std.specs.Prelude.{Result, Ok, Err, OnErr}
 use Rattle.lsm_shelf.specs.Place.{Place}
 use Rattle.lsm_shelf.specs.Told.{Becomes, Forked, ForkedAtMost, ForkedTimes, Told, forking, fork_at, forks_behind}
 
@@ -42,6 +43,11 @@ forked_at_most n a b p = (p.0, p.2)
 
 pub more_at_most : (n m : ℕ) (a b : Told) → n ≤ m → ForkedTimes n a b → ForkedAtMost m a b
 more_at_most n m a b le p = (n, le, p)
+
+-- what holds, holds where it was refused
+pub on_err : {T E : Type 0} (r : Result T E) (A : Type 0) → A → OnErr r A
+on_err (Ok x) A a = tt
+on_err (Err e) A a = a
 
 behind_end : (p : Place) (k n : ℕ) → forks_behind p k n ++ fork_at p (k + n + 1) ∷ [] ≡ forks_behind p k (suc n)
 behind_end p k zero = ap (λ (m : ℕ). fork_at p m ∷ []) (omega arith)

@@ -10,7 +10,7 @@ loop-number-preserved g c =
     let before = c.loop-number.invariant in
     let place = g.N.Naming.place in
     let IsAt = IsKnownBy c.args.state.now place in
-    let number = c.loop-number.shelf.now.forks + 1 in
+    let number = c.loop-number.shelf.forks + 1 in
     record {
       told = forked_then _ _ _ before.told c.new-in-loop-number.ensures.told;
       same = c.new-in-loop-number.ensures.same ∙ before.same;

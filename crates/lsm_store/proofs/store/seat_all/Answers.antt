@@ -1,9 +1,11 @@
-use Rattle.std.proofs.Common.{◌≡◌, List, ◌++◌, ◌∷◌, [], Some, map, ap, ◌∙◌, arith}
-use Rattle.std.proofs.lemmas.List.{map-append}
+use Rattle.std.proofs.Common.{◌≡◌, List, ◌++◌, ◌∷◌, [], Some, map, ap, sym, ◌∙◌, arith}
+use Rattle.std.proofs.lemmas.List.{append-nil, map-append}
+use Rattle.std.proofs.lemmas.List.Elements.{All-pop}
+use Rattle.lsm_shelf.specs.Told.{fork_at}
 use Rattle.std.specs.Vec.Iter.{into_iter_items}
 use Rattle.lsm_pins.specs.Known.{Known}
 use Rattle.lsm_state.specs.Held.{Held}
-use Rattle.lsm_store.specs.Readers.{IsFreeEnd, IsKnownBy, Learnt, known_by, seated, unnumbered}
+use Rattle.lsm_store.specs.Readers.{IsFreeEnd, IsKnownBy, KnownVersion, Learnt, seated, unnumbered}
 use Rattle.lsm_store.proofs.SeatLaws.{all_popped, all_rest, one_more}
 use Rattle.lsm_store.proofs.store.seat_all.Goals as goal
 
@@ -36,3 +38,15 @@ loop-pinner-preserved g c =
       rest = c.seat-reader.ensures.rest ∙ ap (λ (h : Held). record h { slots = record h.slots { board = c.seat-reader.new.state.slots.board } }) before.rest;
       others = λ (p : Known). c.seat-reader.ensures.others p ∙ before.others p;
     }
+
+pub seat-reader-requires-clause-cache : goal.seat-reader-requires-clause-cache
+seat-reader-requires-clause-cache g c κs within =
+    let before = c.loop-pinner.invariant in
+    let known = (All-pop (IsKnownBy c.args.state.now g.N.Naming.place) c.loop-pinner.caches.items c.pop.new.self.items (Some c.in-Some-pop.cache) c.in-Some-pop.ensures.items before.caches).1 in
+    (known.0, known.1 ∙ ap (λ (d : KnownVersion). record d { told = fork_at g.N.Naming.place known.0 }) (sym before.same))
+
+pub returns-clause-readers : goal.returns-clause-readers
+returns-clause-readers g c =
+    let made = map unnumbered c.loop-pinner.readers.items in
+    let seats = map (seated c.args.state.now g.N.Naming.place) in
+    sym (append-nil made) ∙ ap (λ (left : List Known). made ++ seats left) (sym c.in-None.ensures.steps.0) ∙ c.loop-pinner.invariant.readers
