@@ -58,4 +58,4 @@ pub one_more_fork : (p : Place) (k n m : ℕ) (forks more : List Told) (fork : T
     → more ≡ forks_behind p k (n + 1)
 one_more_fork p k n m forks more fork before new number push =
     push ∙ ap (λ (ts : List Told). ts ++ fork ∷ []) before ∙ ap (λ (x : Told). forks_behind p k n ++ x ∷ []) (new ∙ ap (fork_at p) number) ∙ behind_end p k n
-    ∙ ap (forks_behind p k) (omega arith)
+    ∙ ap (λ (j : ℕ). forks_behind p k j) (let e : suc n ≡ n + 1 = omega arith in e)

@@ -1,5 +1,5 @@
 use Rattle.std.proofs.Common.{◌≡◌, List, ◌++◌, ◌∷◌, [], Some, map, ap, sym, ◌∙◌, arith}
-use Rattle.std.proofs.lemmas.List.{append-nil, map-append}
+use Rattle.std.proofs.lemmas.List.{append-nil, map-append, nil_from_length}
 use Rattle.std.proofs.lemmas.List.Elements.{All-pop}
 use Rattle.lsm_shelf.specs.Told.{fork_at}
 use Rattle.std.specs.Vec.Iter.{into_iter_items}
@@ -47,6 +47,7 @@ seat-reader-requires-clause-cache g c κs within =
 
 pub returns-clause-readers : goal.returns-clause-readers
 returns-clause-readers g c =
+    let none = nil_from_length (into_iter_items c.loop-pinner.pinner-iterator) (sym c.loop-pinner.pinner-iterator.rest.ok.0 ∙ c.in-None.ensures.steps.0) in
     let made = map unnumbered c.loop-pinner.readers.items in
     let seats = map (seated c.args.state.now g.N.Naming.place) in
-    sym (append-nil made) ∙ ap (λ (left : List Known). made ++ seats left) (sym c.in-None.ensures.steps.0) ∙ c.loop-pinner.invariant.readers
+    sym (append-nil made) ∙ ap (λ (left : List Known). made ++ seats left) (sym none) ∙ c.loop-pinner.invariant.readers

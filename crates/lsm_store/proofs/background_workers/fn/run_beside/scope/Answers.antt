@@ -17,7 +17,7 @@ returns g c =
     let stays = ap (λ (b : Bool). given_each Joining b lent) c.requires.bell in
     record {
       answer = (search);
-      len = (search);
+      len = c.join_all-returned.ensures.len ∙ c.start_all-threads.ensures.len ∙ c.fork_last-fork.ensures.len ∙ c.fork_last-broom.ensures.len;
       ends = c.join_all-returned.ensures.ends;
       beside = record {
         lent = lent;
