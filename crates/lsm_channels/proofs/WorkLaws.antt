@@ -1,6 +1,6 @@
 -- What workers of a compact request did.
-use Rattle.std.proofs.Common.{◌≡◌, ℕ, zero, suc, true, List, [], ◌∷◌, Option, None, Some, Result}
-use Rattle.std.proofs.Common.{Ok, Err, IfErr, OnOk, refl, sym, subst, inl, inr}
+use Rattle.std.proofs.Common.{◌≡◌, ℕ, zero, suc, ◌+◌, true, List, [], ◌∷◌, Option, None, Some}
+use Rattle.std.proofs.Common.{Result, Ok, Err, IfErr, OnOk, refl, sym, subst, inl, inr}
 use Rattle.lsm_codec.specs.Entries.{Entry}
 use Rattle.lsm_frames.specs.Requests.{Between}
 use Rattle.lsm_shelf.specs.Asked.{Asked}
@@ -15,7 +15,8 @@ use Rattle.lsm_store.specs.declared.picks.Picks.{Picks}
 use Rattle.lsm_store.specs.declared.worker_end.WorkerEnd.{WorkerEnd}
 use Rattle.lsm_store.specs.declared.worker_fault.WorkerFault.{WorkerFault}
 use Rattle.lsm_store.specs.declared.worker_fault.WorkerFault.TheVariants as worker
-use Rattle.lsm_channels.specs.Compacting.{AreWorkedBy, ClearsRange, IsAimed, IsCleared, IsCompactFault, IsLastWorker, IsWorkedBy, StopsRange, StopsWorking, Works}
+use Rattle.lsm_channels.specs.Compacting.{AreWorkedBy, ClearsRange, IsAimed, IsCleared, IsCompactFault}
+use Rattle.lsm_channels.specs.Compacting.{IsLastWorker, IsWorkedBy, StopsRange, StopsWorking, Works}
 
 -- a worker's fault is one by which a compaction is refused
 of_end : (Honest : Type 0) (installed : ℕ) (fault : WorkerFault) → IsEndOf Honest installed (Some fault) → IsCompactFault Honest fault

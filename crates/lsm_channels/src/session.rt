@@ -96,7 +96,7 @@ impl<N: Boarded, S: Shelf> Session<N, S> {
         shelf: NamedShelf<N, S>,
         memory: Memory<N>,
     ) -> Session<N, S>
-        requires { blocks ≡ next_fork shelf }
+        requires fork { blocks ≡ next_fork shelf }
         ensures { result
             ≡ record { reader = reader; shelf = shelf; known = memory; taken = [] } }
     {
