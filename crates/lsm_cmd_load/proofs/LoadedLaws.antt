@@ -1,5 +1,6 @@
 -- What a load leaves, by what each of its steps says.
 use Rattle.std.proofs.Common.{◌≡◌, ◌∙◌, ◌+◌, ℕ, List, [], Option, Some, None, ap, subst, sym}
+use Rattle.std.proofs.lemmas.Bool.{false≢true}
 use Rattle.std.specs.Prelude.{◌-◌, IfSome, IsSome}
 use Rattle.atomic_table.specs.Seated.{TableId}
 use Rattle.lsm_shelf.specs.Asked.{Asked}
@@ -58,7 +59,7 @@ pub record Beside (Refused : Asked → ShelfFault → Type 0) (Honest : Type 0) 
 
 some_told : (T : Told → Type 0) (own : Option Told) → IsSome own → IfSome own T → (t : Told) × T t
 some_told T (Some t) some told = (t, told)
-some_told T None some told = absurd some
+some_told T None some told = absurd (false≢true some)
 
 pub beside : (Refused : Asked → ShelfFault → Type 0) (Honest : Type 0) (pending : Pending) (found : Held) (here place : Place) (workers : ℕ) (own : Option Told) (opened is : Told) → here ≡ place → GivesForks (workers + 1) opened is
     → HaveEndedWell (AreOfLoad Refused Honest pending found place opened.forks workers) → IsSome own → IfSome own (IsOfLoad Refused Honest pending found place (opened.forks + workers + 1))
@@ -70,7 +71,7 @@ beside Refused Honest pending found here place workers own opened is at forked w
 pub loads_all : (Refused : Asked → ShelfFault → Type 0) (Honest : Type 0) (start : Start) (logs : List FolderFile) (workers : ℕ) (pending : Pending) (p : Progress) (found loaded left : Held) (was opened is : Told)
     → IsStarted Honest start logs found was opened → IsLoaded pending (marked_in found) (marked_in loaded) p → Behind Refused Honest pending found loaded left → Beside Refused Honest pending found was.place workers opened is
     → LoadsAll Refused Honest start logs workers pending p left was is
-loads_all Refused Honest start logs workers pending p found loaded left was opened is started all behind beside = record {
+loads_all Refused Honest start logs workers pending p found loaded left was opened is started all behind told = record {
   found = found;
   mid = opened;
   started = started;
@@ -81,19 +82,19 @@ loads_all Refused Honest start logs workers pending p found loaded left was open
   none = reserves_still behind.behind loaded left behind.none behind.rest;
   loaded = subst (λ (m : Marked). IsLoaded pending (marked_in found) m p) (sym behind.same) all;
   idle = behind.idle;
-  forked = beside.forked;
-  worked = beside.worked;
-  own = beside.own;
-  told = beside.told;
+  forked = told.forked;
+  worked = told.worked;
+  own = told.own;
+  told = told.told;
 }
 
 pub loads_whole : (Refused : Asked → ShelfFault → Type 0) (Honest : Type 0) (start : Start) (logs : List FolderFile) (workers : ℕ) (pending : Pending) (p : Progress) (board : TableId) (found loaded left : Held) (was opened mid is : Told)
     → IsStarted Honest start logs found was opened → IsLoaded pending (marked_in found) (marked_in loaded) p → Behind Refused Honest pending found loaded left → Beside Refused Honest pending found was.place workers opened mid
     → IsSwept Honest board left mid is → LoadsWhole Refused Honest start logs workers pending p was is
-loads_whole Refused Honest start logs workers pending p board found loaded left was opened mid is started all behind beside swept = record {
+loads_whole Refused Honest start logs workers pending p board found loaded left was opened mid is started all behind told swept = record {
   left = left;
   mid = mid;
-  loads = loads_all Refused Honest start logs workers pending p found loaded left was opened mid started all behind beside;
+  loads = loads_all Refused Honest start logs workers pending p found loaded left was opened mid started all behind told;
   board = board;
   swept = swept;
 }
@@ -102,11 +103,11 @@ pub unswept : (Refused : Asked → ShelfFault → Type 0) (Honest : Type 0) (sta
     (found loaded left : Held) (was opened mid is : Told) → IsStarted Honest start logs found was opened → IsLoaded pending (marked_in found) (marked_in loaded) p
     → Behind Refused Honest pending found loaded left → Beside Refused Honest pending found was.place workers opened mid
     → Refuses Refused Honest board left fault mid is → IsUnswept Refused Honest start logs workers pending fault was is
-unswept Refused Honest start logs workers pending p fault board found loaded left was opened mid is started all behind beside refuses = record {
+unswept Refused Honest start logs workers pending p fault board found loaded left was opened mid is started all behind told refuses = record {
   p = p;
   left = left;
   mid = mid;
-  loads = loads_all Refused Honest start logs workers pending p found loaded left was opened mid started all behind beside;
+  loads = loads_all Refused Honest start logs workers pending p found loaded left was opened mid started all behind told;
   board = board;
   refuses = refuses;
 }

@@ -42,8 +42,8 @@ type Ended<N, S> = ((Result<(), TalkFault>, NamedShelf<N, S>), Vec<WorkerEnd>);
 
 /// Replies to lines on the state of a store, while a worker for each shelf compacts: how that
 /// ended, with the shelf of the replies, and the workers' ends. None where there was no memory for
-/// the workers; then no line was read. The fact of the lock is one that workers keep, and each reply
-/// to a line of the input.
+/// the workers; then no line was read. The fact of the lock is one that workers keep, and each
+/// reply to a line of the input.
 ///
 /// What is said is said of an output that begins as this one does. The toolchain tells nothing of
 /// what a closure that is handed on leaves of what it borrowed.
