@@ -15,8 +15,8 @@ use lsm_codec::Bytes;
 use lsm_opening::{NewParts, begin};
 use lsm_slots::Boarded;
 use lsm_storage::MemoryShelf;
-use lsm_store::{NoGate, Reader, Store, View, WorkerEnd, WorkerFault, run_workers};
-use lsm_table::{NamedShelf, ReadFault, Shelf, ShelfFault};
+use lsm_store::{NoGate, Reader, Store, View, WorkerEnd, WorkerFault, forks, run_workers};
+use lsm_table::{NamedShelf, ReadFault, Shelf};
 use std::alloc::{AllocError, Global};
 use std::io::Print;
 use std::marker::Brand;
@@ -119,17 +119,6 @@ fn show_both<N: Boarded, S: Shelf>(
     show(rt, alloc, view, "cherry")
 }
 
-/// Two forks of the shelf.
-fn forks<N: Boarded, S: Shelf>(
-    alloc: Global,
-    shelf: &mut NamedShelf<N, S>,
-) -> Result<Vec<NamedShelf<N, S>>, ShelfFault> {
-    let mut forks = Vec::new(alloc);
-    forks.push(shelf.fork(alloc)?)?;
-    forks.push(shelf.fork(alloc)?)?;
-    Ok(forks)
-}
-
 /// How many results workers installed.
 fn installed(ends: &[WorkerEnd]) -> Result<u64, WorkerFault> {
     let mut installed = 0u64;
@@ -149,7 +138,7 @@ fn compact<N: Boarded, S: Shelf, R: Threads + Wait + Print + Sync>(
     store: &Store<N, S>,
     shelf: &mut NamedShelf<N, S>,
 ) -> anyhow::Result<()> {
-    let shelves = forks(alloc, shelf)?;
+    let shelves = forks(alloc, shelf, 2)?;
     let ends = run_workers(rt, alloc, store, shelves, &NoGate)?;
     Ok(println!(rt; "workers installed {}", installed(&ends)?)?)
 }
@@ -237,13 +226,13 @@ fn serve<N: Boarded, S: Shelf, R: Threads + Wait + Print + Sync>(
     requires named { (S.told shelf).place ≡ N.place }
 {
     let mut shelf: NamedShelf<N, S> = NamedShelf::of(shelf);
-    let mut writer = shelf.fork(alloc)?;
     let state = match begin(rt, alloc, &mut shelf, 1, parts) {
         Ok(state) => state,
         Err(fault) => bail!("{fault}"),
     };
-    match Store::new(alloc, state, shelf) {
-        Ok((store, mut readers)) => work(rt, alloc, &store, &mut readers, &mut writer),
+    let reading = shelf.fork(alloc)?;
+    match Store::new(alloc, state, reading) {
+        Ok((store, mut readers)) => work(rt, alloc, &store, &mut readers, &mut shelf),
         Err((_state, _shelf, fault)) => Err(fault.into()),
     }
 }

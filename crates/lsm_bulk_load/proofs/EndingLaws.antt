@@ -1,5 +1,5 @@
 -- What is left behind the lines, and why all is not done.
-use Rattle.std.proofs.Common.{◌≡◌, ◌≢◌, ◌==◌, not, true, Bool, ℕ, ◌+◌, ◌<◌, ◌≤◌, List, [], ◌∷◌, ◌++◌, length, replicate, get_or, take, drop, Some, None, All, refl, sym, ap, ◌∙◌, subst, append_assoc, inl, inr}
+use Rattle.std.proofs.Common.{◌≡◌, ◌≢◌, ◌==◌, not, true, Bool, ℕ, ◌+◌, ◌<◌, ◌≤◌, List, [], ◌∷◌, ◌++◌, length, get_or, take, drop, Some, None, All, refl, sym, ap, ◌∙◌, subst, append_assoc, inl, inr}
 use Rattle.std.proofs.lemmas.Bool.{eq-eqb, false≢true}
 use Rattle.std.proofs.lemmas.List.{drop_more, take-append-drop, take_all}
 use Rattle.std.proofs.lemmas.List.Elements.{All-more}
@@ -15,13 +15,12 @@ use Rattle.lsm_lines.specs.declared.write_line_fault.WriteLineFault.{WriteLineFa
 use Rattle.lsm_lines.specs.declared.write_line_fault.WriteLineFault.TheVariants as lines
 use Rattle.lsm_state.specs.Held.{Held}
 use Rattle.lsm_shelf.specs.Place.{Place}
-use Rattle.lsm_shelf.specs.Told.{Told, fresh}
-use Rattle.lsm_store.specs.Sweeping.{LastForkedTwice}
+use Rattle.lsm_shelf.specs.Told.{Told, forks_behind}
 use Rattle.lsm_store.specs.Working.{HaveEndedBeside}
 use Rattle.lsm_store.specs.declared.worker_end.WorkerEnd.{WorkerEnd}
 use Rattle.lsm_store.specs.declared.worker_fault.WorkerFault.{WorkerFault}
 use Rattle.lsm_bulk_load.specs.Ending.{IsFaultless, IsFirstFault, IsLate, IsLooked, ReservesNone}
-use Rattle.lsm_bulk_load.specs.Loading.{HaveEndedWell, HaveWorkedBeside, IsLoaded, IsStopped, IsUnloaded, SomeAreIn, SomeAreInToo, StopsBehind}
+use Rattle.lsm_bulk_load.specs.Loading.{GivesForks, HaveEndedWell, HaveWorkedBeside, IsForkedFor, IsLoaded, IsStopped, IsUnloaded, SomeAreIn, SomeAreInToo, StopsBehind}
 use Rattle.lsm_bulk_load.specs.Marks.{Marked, marked_in}
 use Rattle.lsm_bulk_load.specs.declared.load_fault.LoadFault.{LoadFault}
 use Rattle.lsm_bulk_load.specs.declared.load_fault.LoadFault.TheVariants.{OutOfMemory, Shelf, Line, Ingest, Other, Worker, Due}
@@ -218,19 +217,76 @@ unbegun {T} Refused Ended keeps old found mark now p (Err e) same held none late
 
 -- ---- who worked
 
-module _ (Honest : Type 0) (Refused : Asked → ShelfFault → Type 0) (keeps : Held → Type 0) (place : Place) (workers : ℕ) where
-  -- the forks of workers are new ones
-  pub worked_beside : (shelves : List Told) (ends items : List WorkerEnd) → shelves ≡ replicate workers (fresh place) → ends ≡ items
-      → (lent : List Told) × LastForkedTwice shelves lent × HaveEndedBeside Honest Refused keeps lent (fresh place) items → HaveWorkedBeside Honest Refused keeps place workers ends
-  worked_beside shelves ends items new same (lent, forked, ended) =
-      (lent, subst (λ (ts : List Told). LastForkedTwice ts lent) new forked, subst (λ (es : List WorkerEnd). HaveEndedBeside Honest Refused keeps lent (fresh place) es) (sym same) ended)
+module _ (Honest : Type 0) (Refused : Asked → ShelfFault → Type 0) (keeps : Held → Type 0) (place : Place) (number workers : ℕ) where
+  -- the shelves of workers are the next forks
+  pub worked_beside : (shelves : List Told) (ends items : List WorkerEnd) → shelves ≡ forks_behind place number workers → ends ≡ items → HaveEndedBeside Honest Refused keeps shelves items
+      → HaveWorkedBeside Honest Refused keeps place number workers ends
+  worked_beside shelves ends items new same ended =
+      subst (λ (ts : List Told). HaveEndedBeside Honest Refused keeps ts ends) new (subst (λ (es : List WorkerEnd). HaveEndedBeside Honest Refused keeps shelves es) (sym same) ended)
 
-  pub ended_well : {T : Type 0} (done : Result T LoadFault) (ends : List WorkerEnd) → OnOk done (All IsFaultless ends) → HaveWorkedBeside Honest Refused keeps place workers ends
-      → OnOk done (HaveEndedWell (HaveWorkedBeside Honest Refused keeps place workers))
+  pub ended_well : {T : Type 0} (done : Result T LoadFault) (ends : List WorkerEnd) → OnOk done (All IsFaultless ends) → HaveWorkedBeside Honest Refused keeps place number workers ends
+      → OnOk done (HaveEndedWell (HaveWorkedBeside Honest Refused keeps place number workers))
   ended_well (Ok x) ends none worked = (ends, none, worked)
   ended_well (Err e) ends none worked = tt
 
   -- where no worker began all is not done
-  pub none_well : {T : Type 0} (done loaded : Result T LoadFault) (e : LoadFault) → loaded ≡ Err e → OnOk done (OnErr loaded ⊥) → OnOk done (HaveEndedWell (HaveWorkedBeside Honest Refused keeps place workers))
+  pub none_well : {T : Type 0} (done loaded : Result T LoadFault) (e : LoadFault) → loaded ≡ Err e → OnOk done (OnErr loaded ⊥) → OnOk done (HaveEndedWell (HaveWorkedBeside Honest Refused keeps place number workers))
   none_well {T} (Ok x) loaded e is none = let here : ⊥ = subst (λ (r : Result T LoadFault). OnErr r ⊥) is none in absurd here
   none_well (Err f) loaded e is none = tt
+
+-- ---- what the shelf was told, where it gave all forks
+
+abbrev not_of_forks : LoadFault → Type 0
+not_of_forks (Shelf fault) = ⊥
+not_of_forks OutOfMemory = Unit {0}
+not_of_forks (Line fault) = Unit {0}
+not_of_forks (Ingest fault) = Unit {0}
+not_of_forks Other = Unit {0}
+not_of_forks (Worker fault) = Unit {0}
+not_of_forks Due = Unit {0}
+
+stopped_behind : (Refused : Asked → ShelfFault → Type 0) (keeps : Held → Type 0) (old : Pending) (found mark : Marked) (p : Progress) (e : LoadFault) → IsStopped Refused keeps old found mark p e → not_of_forks e
+stopped_behind Refused keeps old found mark p (Shelf fault) s = absurd s
+stopped_behind Refused keeps old found mark p OutOfMemory s = tt
+stopped_behind Refused keeps old found mark p (Line fault) s = tt
+stopped_behind Refused keeps old found mark p (Ingest fault) s = tt
+stopped_behind Refused keeps old found mark p Other s = tt
+stopped_behind Refused keeps old found mark p (Worker fault) s = tt
+stopped_behind Refused keeps old found mark p Due s = tt
+
+late_behind : {T : Type 0} (mark now : Marked) (loaded : Result T LoadFault) (ends : List WorkerEnd) (e : LoadFault) → IfErr loaded not_of_forks → IsLate mark now loaded ends e → not_of_forks e
+late_behind mark now loaded ends e stopped (inl k) = rw k.0 tt
+late_behind mark now (Err f) ends e stopped (inr k) = rw k.1 stopped
+late_behind mark now (Ok x) ends (Shelf fault) stopped (inr k) = absurd k.1
+late_behind mark now (Ok x) ends OutOfMemory stopped (inr k) = tt
+late_behind mark now (Ok x) ends (Line fault) stopped (inr k) = tt
+late_behind mark now (Ok x) ends (Ingest fault) stopped (inr k) = tt
+late_behind mark now (Ok x) ends Other stopped (inr k) = tt
+late_behind mark now (Ok x) ends (Worker fault) stopped (inr k) = tt
+late_behind mark now (Ok x) ends Due stopped (inr k) = tt
+
+forked_for : (count : ℕ) (e : LoadFault) (old new : Told) → not_of_forks e → GivesForks count old new → IsForkedFor count e old new
+forked_for count (Shelf fault) old new other gives = absurd other
+forked_for count OutOfMemory old new other gives = gives
+forked_for count (Line fault) old new other gives = gives
+forked_for count (Ingest fault) old new other gives = gives
+forked_for count Other old new other gives = gives
+forked_for count (Worker fault) old new other gives = gives
+forked_for count Due old new other gives = gives
+
+pub forks_given : {T : Type 0} (done : Result T LoadFault) (count : ℕ) (old new : Told) → GivesForks count old new → OnOk done (GivesForks count old new)
+forks_given (Ok x) count old new gives = gives
+forks_given (Err e) count old new gives = tt
+
+pub forks_late : {T : Type 0} (Refused : Asked → ShelfFault → Type 0) (keeps : Held → Type 0) (old : Pending) (found mark now : Marked) (p : Progress) (ends : List WorkerEnd) (loaded done : Result T LoadFault) (count : ℕ) (was is : Told)
+    → IfErr loaded (λ e. IsStopped Refused keeps old found mark p e) → IfErr done (λ e. IsLate mark now loaded ends e) → GivesForks count was is → IfErr done (λ e. IsForkedFor count e was is)
+forks_late Refused keeps old found mark now p ends loaded (Ok x) count was is stopped late gives = tt
+forks_late Refused keeps old found mark now p ends (Ok y) (Err e) count was is stopped late gives = forked_for count e was is (late_behind mark now (Ok y) ends e tt late) gives
+forks_late {T} Refused keeps old found mark now p ends (Err f) (Err e) count was is stopped late gives =
+    forked_for count e was is (late_behind {T = T} mark now (Err f) ends e (stopped_behind Refused keeps old found mark p f stopped) late) gives
+
+-- no worker began
+pub forks_unused : {T : Type 0} (mark now : Marked) (done : Result T LoadFault) (count : ℕ) (was is : Told) → IfErr done (λ e. IsLate {T = T} mark now (Err OutOfMemory) [] e) → GivesForks count was is
+    → IfErr done (λ e. IsForkedFor count e was is)
+forks_unused mark now (Ok x) count was is late gives = tt
+forks_unused {T} mark now (Err e) count was is late gives = forked_for count e was is (late_behind {T = T} mark now (Err OutOfMemory) [] e tt late) gives

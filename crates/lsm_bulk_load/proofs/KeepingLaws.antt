@@ -100,8 +100,7 @@ grown_more may found was now b g asked comes = record {
 
 taken_mark : (found h : Held) → IsTaken found h → marked_in h ≡ marked_in found
 taken_mark found h (inl same) = ap marked_in same
-taken_mark found h (inr (inl taken)) = ap marked_in taken
-taken_mark found h (inr (inr seated)) = ap marked_in seated.1
+taken_mark found h (inr seated) = ap marked_in seated.1
 
 comes_next : (was is : Held) (b : List Write) (r : Ingested) (t u : Told) → BringsIn was is b r t u → ComesNext b (marked_in was) (marked_in is)
 comes_next was is b r t u i = record { history = i.history; last = ingested_last was is b r t u i.ingests }

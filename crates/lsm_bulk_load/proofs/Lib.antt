@@ -1,4 +1,3 @@
-pub mod ForkLaws
 pub mod MarkLaws
 pub mod LoadLaws
 pub mod KeepingLaws

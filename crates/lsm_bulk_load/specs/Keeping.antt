@@ -27,9 +27,9 @@ abbrev pub IsStepOf : (Asked → ShelfFault → Type 0) → Type 0 → (List Wri
 IsStepOf Refused honest may was is = IsCompactingStep honest was is
     ⊎ (IsLearnt was is ⊎ ((b : List Write) × may b × IsIngestStep Refused b was is))
 
--- The state that was found; or its pinners were taken; or it was put behind the lock.
+-- The state that was found; or it was put behind the lock.
 abbrev pub IsTaken : (found h : Held) → Type 0
-IsTaken found h = (h ≡ found) ⊎ ((h ≡ record found { pinners = [] }) ⊎ IsSeated found h)
+IsTaken found h = (h ≡ found) ⊎ IsSeated found h
 
 -- So many steps, one after another, from the state that was found.
 abbrev pub AreStepsOf : (Asked → ShelfFault → Type 0) → Type 0 → (List Write → Type 0) → ℕ

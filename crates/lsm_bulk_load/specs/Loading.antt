@@ -1,9 +1,10 @@
 -- What lines that are loaded leave of a store, and why they stop (this project's rule).
-use Rattle.std.specs.Prelude.{◌≡◌, ◌⊎◌, ℕ, zero, suc, ◌+◌, ◌<◌, ◌^◌, List, [], length, replicate}
-use Rattle.std.specs.Prelude.{All, Option}
+use Rattle.std.specs.Prelude.{◌≡◌, ◌⊎◌, ℕ, zero, suc, ◌+◌, ◌<◌, ◌^◌, List, [], length, All, Option}
+use Rattle.std.specs.Prelude.{Result, Ok, Err}
 use Rattle.std.specs.Io.KnownBytes.{IsAtEnd}
 use Rattle.lsm_shelf.specs.Asked.{Asked}
-use Rattle.lsm_shelf.specs.Told.{Becomes, NotNamed, Place, Told, forking, fresh}
+use Rattle.lsm_shelf.specs.Told.{CountedBy, ForkedAtMost, ForkedTimes, NotNamed, Place, Told}
+use Rattle.lsm_shelf.specs.Told.{forks_behind}
 use Rattle.lsm_shelf.specs.declared.shelf_fault.ShelfFault.{ShelfFault}
 use Rattle.lsm_codec.specs.Entries.{Entry}
 use Rattle.lsm_history.specs.History.{IsLater}
@@ -19,7 +20,6 @@ use Rattle.lsm_state.specs.Held.{Held}
 use Rattle.lsm_state.specs.declared.ingest.Ingested.{Ingested}
 use Rattle.lsm_state.specs.declared.state_fault.StateFault.{StateFault}
 use Rattle.lsm_store.specs.Background.{IsBroughtIn, IsKeptOut}
-use Rattle.lsm_store.specs.Sweeping.{LastForkedTwice}
 use Rattle.lsm_store.specs.Working.{HaveEndedBeside}
 use Rattle.lsm_store.specs.declared.worker_end.WorkerEnd.{WorkerEnd}
 use Rattle.lsm_store.specs.declared.worker_fault.WorkerFault.{WorkerFault}
@@ -74,17 +74,22 @@ pub record TakesBatch (old new : Pending) (was now : Marked) (p q : Progress) (e
 
 -- ---- what shelves were told
 
--- It gave just so many forks, and nothing else was told but counts.
-abbrev pub ForkedTimes : ℕ → Told → Told → Type 0
-ForkedTimes n old new = Becomes (forking n old) new
+-- It gave just so many forks, none was refused, and nothing else was told.
+abbrev pub GivesForks : ℕ → Told → Told → Type 0
+GivesForks count old new = ForkedTimes count old new × CountedBy {T = Unit {0}} (Ok tt) old new
 
--- So many workers ended so, each by a shelf to which nothing was told before, and the one that only
--- gathered by a fork of the last of these; and each was told just what its worker did.
+-- It gave so many at most, the next was refused with this, and nothing else was told.
+abbrev pub RefusesFork : (most : ℕ) → ShelfFault → Told → Told → Type 0
+RefusesFork most fault old new =
+    ForkedAtMost most old new × CountedBy {T = Unit {0}} (Err fault) old new
+
+-- So many workers ended so, each over a fork of these contents, the next ones behind this number,
+-- and the one that only gathered over a fork of the last of these; and each was told just what its
+-- worker did.
 abbrev pub HaveWorkedBeside : Type 0 → (Asked → ShelfFault → Type 0) → (Held → Type 0) → Place
-    → (workers : ℕ) → List WorkerEnd → Type 0
-HaveWorkedBeside Honest Refused keeps place workers ends = (lent : List Told)
-    × LastForkedTwice (replicate workers (fresh place)) lent
-    × HaveEndedBeside Honest Refused keeps lent (fresh place) ends
+    → (number workers : ℕ) → List WorkerEnd → Type 0
+HaveWorkedBeside Honest Refused keeps place number workers ends =
+    HaveEndedBeside Honest Refused keeps (forks_behind place number workers) ends
 
 -- So the workers ended, and none of them early.
 abbrev pub HaveEndedWell : (List WorkerEnd → Type 0) → Type 0
@@ -194,3 +199,13 @@ IsUnloaded Refused Ended keeps old found now p OutOfMemory =
     IsStopped Refused keeps old found now p OutOfMemory
 IsUnloaded Refused Ended keeps old found now p Other =
     IsStopped Refused keeps old found now p Other
+
+-- What its shelf was told then: a fork was refused, and no other was asked for; or none was.
+abbrev pub IsForkedFor : (count : ℕ) → LoadFault → Told → Told → Type 0
+IsForkedFor count (Shelf fault) old new = RefusesFork count fault old new
+IsForkedFor count OutOfMemory old new = GivesForks count old new
+IsForkedFor count (Line fault) old new = GivesForks count old new
+IsForkedFor count (Ingest fault) old new = GivesForks count old new
+IsForkedFor count Other old new = GivesForks count old new
+IsForkedFor count (Worker fault) old new = GivesForks count old new
+IsForkedFor count Due old new = GivesForks count old new

@@ -1,40 +1,41 @@
 //! Lines come into a state while workers compact beside.
 
-ghost use Rattle.std.specs.Prelude.{◌≡◌, ◌+◌, [], List, IfErr, IfSome, OnOk};
-ghost use Rattle.lsm_shelf.specs.Told.{Forked, Told, fresh};
+ghost use Rattle.std.specs.Prelude.{◌≡◌, ◌+◌, [], IfErr, IfSome, IsSome, OnOk};
+ghost use Rattle.lsm_shelf.specs.Told.{fork_at};
 ghost use Rattle.lsm_state.specs.Held.{Held};
 ghost use Rattle.lsm_store.specs.Compacting.{IsKeptByCompaction};
-ghost use Rattle.lsm_store.specs.Sweeping.{LastForkedTwice};
 ghost use Rattle.lsm_store.specs.Working.{HaveEndedBeside};
 ghost use Rattle.lsm_bulk_load.specs.Ending.{IsIdle, IsLooked, ReservesNone};
 ghost use Rattle.lsm_bulk_load.specs.Keeping.{IsKeptByAll, IsKeptSince, IsOfLines, IsTaken};
-ghost use Rattle.lsm_bulk_load.specs.Loading.{ForkedTimes, HaveEndedWell, HaveWorkedBeside};
-ghost use Rattle.lsm_bulk_load.specs.Loading.{IsLoaded, IsStopped, IsUnloaded};
+ghost use Rattle.lsm_bulk_load.specs.Loading.{GivesForks, HaveEndedWell, HaveWorkedBeside};
+ghost use Rattle.lsm_bulk_load.specs.Loading.{IsForkedFor, IsLoaded, IsStopped, IsToldOfBatches};
+ghost use Rattle.lsm_bulk_load.specs.Loading.{IsUnloaded};
 ghost use Rattle.lsm_bulk_load.specs.Marks.{IsEven, marked_in};
 
-use crate::crew::Crew;
 use crate::ending::finish;
 use crate::load_fault::LoadFault;
 use crate::loading::load;
 use crate::mark::Mark;
-use crate::origin::Origin;
+use crate::origin::{Grown, Origin};
 use crate::progress::Progress;
 use crate::teller::Teller;
 use lsm_lines::BatchReader;
 use lsm_slots::Boarded;
 use lsm_state::State;
-use lsm_store::{Background, NoGate, WorkerEnd, with_workers};
+use lsm_store::{Background, NoGate, Shelves, Store, WorkerEnd, with_workers};
 use lsm_table::{NamedShelf, Shelf};
 use std::alloc::Global;
 use std::io::Read;
 use std::sync::Wait;
 use std::thread::Threads;
 
-/// What lines came to, the mark behind those that came in, and how much that is; and the workers'
-/// ends.
-type Answer<N, O> = (
-    (Result<(), LoadFault>, Mark<N, O>, Progress),
-    Vec<WorkerEnd>,
+/// What lines came to, the mark behind those that came in, how much that is, and the shelf by which
+/// they came in.
+type Came<N, S, O> = (
+    Result<(), LoadFault>,
+    Mark<N, O>,
+    Progress,
+    NamedShelf<N, S>,
 );
 
 /// What a load comes to.
@@ -46,6 +47,8 @@ pub struct Loaded<N: Boarded, S: Shelf> {
     pub progress: Progress,
     /// The state behind that.
     pub state: State<N, S>,
+    /// The shelf by which it came in. None where no worker began.
+    pub own: Option<NamedShelf<N, S>>,
 }
 
 /// Loads the lines of an input into a store, while its workers compact until nothing is due. None
@@ -54,11 +57,12 @@ pub struct Loaded<N: Boarded, S: Shelf> {
 fn load_all<N: Boarded, S: Shelf, O: Origin, R: Threads + Wait + Sync, I: Read + Drop, T: Teller>(
     rt: &R,
     alloc: Global,
-    crew: Crew<N, S, O>,
+    store: Store<N, S, Grown<O>>,
+    shelves: Shelves<N, S>,
     mark: Mark<N, O>,
     lines: BatchReader<I>,
     teller: &mut T,
-) -> (Option<Answer<N, O>>, State<N, S>)
+) -> (Option<(Came<N, S, O>, Vec<WorkerEnd>)>, State<N, S>)
     requires held { lines.held ≡ [] }
     requires asked { IsKeptByAll (S.refuses N.place) (IsOfLines lines) O.keeps }
     requires workers { IsKeptByCompaction S.honest O.keeps }
@@ -66,17 +70,14 @@ fn load_all<N: Boarded, S: Shelf, O: Origin, R: Threads + Wait + Sync, I: Read +
         OnOk a.0.0 (IsLoaded lines mark a.0.1 a.0.2)) }
     ensures refused { IfSome result.0 (λ a. IfErr a.0.0 (λ e.
         IsStopped (S.refuses N.place) O.keeps lines mark a.0.1 a.0.2 e)) }
-    ensures ended { IfSome result.0 (λ a. (lent : List Told)
-        × LastForkedTwice crew.shelves.items lent × HaveEndedBeside S.honest (S.refuses N.place)
-        (IsKeptSince O.keeps O.found) lent (fresh N.place) a.1.items) }
+    ensures told { IfSome result.0 (λ a. IsToldOfBatches (S.refuses N.place) O.keeps
+        (IsOfLines lines) shelves.own a.0.3) }
+    ensures ended { IfSome result.0 (λ a. HaveEndedBeside S.honest (S.refuses N.place)
+        (IsKeptSince O.keeps O.found) shelves.shelves.items a.1.items) }
     ensures kept { ∥ O.keeps result.1 ∥₁ }
     ensures even { IsEven O.found (marked_in result.1) }
 {
-    let Crew {
-        store,
-        shelves,
-        own,
-    } = crew;
+    let Shelves { shelves, own } = shelves;
     let lent = &store;
     let told = &mut *teller;
     let run = with_workers(
@@ -85,24 +86,26 @@ fn load_all<N: Boarded, S: Shelf, O: Origin, R: Threads + Wait + Sync, I: Read +
         &store,
         shelves,
         &NoGate,
-        move |background: &Background| -> (Result<(), LoadFault>, Mark<N, O>, Progress)
+        move |background: &Background| -> Came<N, S, O>
             requires held { lines.held ≡ [] }
             requires asked { IsKeptByAll (S.refuses N.place) (IsOfLines lines) O.keeps }
             ensures loaded { OnOk result.0 (IsLoaded lines mark result.1 result.2) }
             ensures refused { IfErr result.0 (λ e.
                 IsStopped (S.refuses N.place) O.keeps lines mark result.1 result.2 e) }
+            ensures told { IsToldOfBatches (S.refuses N.place) O.keeps (IsOfLines lines)
+                own result.3 }
         {
             let mut own = own;
             let mut lines = lines;
-            let loaded = load(
+            let (loaded, mark, progress) = load(
                 rt, alloc, lent, background, &mut own, &mut lines, mark, told,
             );
             background.wait_until_idle(rt);
-            loaded
+            (loaded, mark, progress, own)
         },
     );
     match run {
-        Ok(answer) => (Some(answer), store.into_state()),
+        Ok(run) => (Some(run), store.into_state()),
         Err(refused) => {
             drop(refused);
             (None, store.into_state())
@@ -112,8 +115,9 @@ fn load_all<N: Boarded, S: Shelf, O: Origin, R: Threads + Wait + Sync, I: Read +
 
 /// Loads the lines of an input, of which none was gathered yet, into a state, while so many workers
 /// compact beside, until all lines are in and nothing is due. The shelf is asked for forks alone:
-/// one for each worker, one for the batches and one for the store. Each worker was told of its own
-/// just what it did.
+/// one for each worker, and one for the batches; once one is refused, for no other. Each worker's
+/// was told just what it did, and that of the batches, which comes back, just what their ingests
+/// tell it.
 ///
 /// The state comes back. It is just as far as the lines made it that are counted; only behind
 /// `Other` it goes on from there. All of them are lines before the first one that is no write of a
@@ -148,36 +152,44 @@ where
         (IsLoaded lines (marked_in state) (marked_in result.state) result.progress) }
     ensures idle { OnOk result.done (S.honest → IsIdle result.state) }
     ensures worked { OnOk result.done (HaveEndedWell (HaveWorkedBeside S.honest
-        (S.refuses N.place) (IsKeptSince O.keeps O.found) N.place workers)) }
+        (S.refuses N.place) (IsKeptSince O.keeps O.found) N.place shelf.old.forks workers)) }
     ensures refused { IfErr result.done (λ e. IsUnloaded (S.refuses N.place)
         (HaveWorkedBeside S.honest (S.refuses N.place) (IsKeptSince O.keeps O.found) N.place
-        workers) O.keeps lines (marked_in state) (marked_in result.state) result.progress e) }
-    ensures told { Forked shelf.old shelf.new }
-    ensures just { OnOk result.done (ForkedTimes (workers + 2) shelf.old shelf.new) }
+        shelf.old.forks workers) O.keeps lines (marked_in state) (marked_in result.state)
+        result.progress e) }
+    ensures told { IfSome result.own (IsToldOfBatches (S.refuses N.place) O.keeps
+        (IsOfLines lines) (fork_at N.place (shelf.old.forks + workers + 1))) }
+    ensures own { OnOk result.done (IsSome result.own) }
+    ensures just { OnOk result.done (GivesForks (workers + 1) shelf.old shelf.new) }
+    ensures forked { IfErr result.done (λ e.
+        IsForkedFor (workers + 1) e shelf.old shelf.new) }
 {
     let mut state = state;
     let before: Mark<N, O> = Mark::of(&mut state);
     let mark: Mark<N, O> = Mark::of(&mut state);
-    let crew = match Crew::new(alloc, state, shelf, workers) {
-        Ok(crew) => crew,
-        Err((state, fault)) => {
+    let shelves = match Shelves::of(alloc, shelf, workers) {
+        Ok(shelves) => shelves,
+        Err(fault) => {
             return Loaded {
                 done: Err(LoadFault::Shelf(fault)),
                 progress: Progress::none(),
                 state,
+                own: None,
             };
         }
     };
-    let (answer, mut state) = load_all(rt, alloc, crew, mark, lines, teller);
+    let store: Store<N, S, Grown<O>> = Store::of(alloc, state);
+    let (answer, mut state) = load_all(rt, alloc, store, shelves, mark, lines, teller);
     match answer {
         Some(answer) => {
             let (came, ends) = answer;
-            let (loaded, mark, progress) = came;
+            let (loaded, mark, progress, own) = came;
             let done = finish(alloc, mark, &mut state, loaded, &ends);
             Loaded {
                 done,
                 progress,
                 state,
+                own: Some(own),
             }
         }
         None => {
@@ -187,6 +199,7 @@ where
                 done,
                 progress: Progress::none(),
                 state,
+                own: None,
             }
         }
     }

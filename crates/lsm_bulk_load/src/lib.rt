@@ -16,7 +16,6 @@ mod loading;
 
 // The workers beside, and what is left behind them.
 mod beside;
-mod crew;
 mod ending;
 
 // What holds of it.
@@ -24,7 +23,6 @@ mod laws;
 
 pub use beside::{Loaded, load_beside};
 pub use bringing::bring_in;
-pub use crew::{Shelves, forks, forks_for};
 pub use laws::{each_key_shows_its_last_line, what_came_is_of_lines};
 pub use load_fault::LoadFault;
 pub use loading::load;

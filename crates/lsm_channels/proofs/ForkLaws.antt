@@ -1,44 +1,31 @@
--- Forks of a shelf, counted.
-use Rattle.std.proofs.Common.{◌≡◌, ℕ, zero, suc, ◌+◌, List, [], ◌∷◌, ◌++◌, replicate, refl, sym, ap}
-use Rattle.std.proofs.Common.{◌∙◌, subst, arith}
+-- Forks of a shelf, in their order.
+use Rattle.std.proofs.Common.{◌≡◌, ℕ, zero, suc, ◌+◌, ◌*◌, List, [], ◌∷◌, ◌++◌, map, refl, sym}
+use Rattle.std.proofs.Common.{ap, ◌∙◌, subst, arith}
 use Rattle.lsm_shelf.specs.Place.{Place}
-use Rattle.lsm_shelf.specs.Told.{Becomes, Forked, Told, forking, fresh}
+use Rattle.lsm_shelf.specs.Told.{Told, fork_at, next_fork}
+use Rattle.lsm_channels.specs.Served.{Served}
+use Rattle.lsm_channels.specs.Serving.{IsUntoldFork, own_forks}
 
--- these, and then those
-pub forking_then : (n m : ℕ) (a b c : Told) → Becomes (forking n a) b → Becomes (forking m b) c → Becomes (forking (n + m) a) c
-forking_then n m a b c p q = record {
-  place = q.place ∙ p.place;
-  faults = (let x = p.faults in let y = q.faults in omega arith);
-  misses = (let x = p.misses in let y = q.misses in omega arith);
-  puts = q.puts ∙ p.puts;
-  gone = q.gone ∙ p.gone;
-  listed = q.listed ∙ p.listed;
-  manifest = q.manifest ∙ p.manifest;
-  sent = q.sent ∙ p.sent;
-  found = q.found ∙ p.found;
-  starts = q.starts ∙ p.starts;
-  written = q.written ∙ p.written;
-  forks = (let x = p.forks in let y = q.forks in omega arith);
-  made = q.made ∙ p.made;
-}
+pub untold_of : (t : Told) (p : Place) (number : ℕ) → t ≡ fork_at p number → IsUntoldFork t
+untold_of t p number e = subst IsUntoldFork (sym e) refl
 
-pub forking_as : (n m : ℕ) (a b : Told) → n ≡ m → Becomes (forking n a) b → Becomes (forking m a) b
-forking_as n m a b same p = subst (λ (k : ℕ). Becomes (forking k a) b) same p
+-- the fork behind one
+pub fork_next : (p : Place) (number after : ℕ) (own fork : Told) → own ≡ fork_at p number → fork ≡ fork_at p after → after ≡ number + 1 → fork ≡ next_fork own
+fork_next p number after own fork own_is fork_is next = fork_is ∙ ap (λ (i : ℕ). fork_at p i) next ∙ sym (ap (λ (t : Told). next_fork t) own_is)
 
-pub forking_none : (a : Told) → Becomes (forking 0 a) a
-forking_none a = record { place = refl; faults = omega arith; misses = omega arith; puts = refl; gone = refl; listed = refl; manifest = refl; sent = refl; found = refl; starts = refl; written = refl; forks = omega arith; made = refl }
+own_end : (p : Place) (k n : ℕ) → own_forks p k n ++ fork_at p (k + 2 * n + 1) ∷ [] ≡ own_forks p k (suc n)
+own_end p k zero = ap (λ (m : ℕ). fork_at p m ∷ []) (omega arith)
+own_end p k (suc n) = ap (λ (m : ℕ). fork_at p (k + 1) ∷ own_forks p (k + 2) n ++ fork_at p m ∷ []) (omega arith) ∙ ap (λ (ts : List Told). fork_at p (k + 1) ∷ ts) (own_end p (k + 2) n)
 
-pub forked_by : (n : ℕ) (a b : Told) → Becomes (forking n a) b → Forked a b
-forked_by n a b p = (n, p)
+shelves_end : (before : List Served) (session : Served) → map (λ s. s.shelf) (before ++ session ∷ []) ≡ map (λ s. s.shelf) before ++ session.shelf ∷ []
+shelves_end [] session = refl
+shelves_end (s ∷ before) session = ap (λ (ts : List Told). s.shelf ∷ ts) (shelves_end before session)
 
-replicate_end : (t : Told) (n : ℕ) → replicate n t ++ t ∷ [] ≡ t ∷ replicate n t
-replicate_end t zero = refl
-replicate_end t (suc n) = ap (λ (ts : List Told). t ∷ ts) (replicate_end t n)
-
-pub one_more_fork : (t : Told) (n : ℕ) (forks forks' : List Told) (fork : Told) → forks ≡ replicate n t → fork ≡ t → forks' ≡ forks ++ fork ∷ [] → forks' ≡ replicate (n + 1) t
-one_more_fork t n forks forks' fork before new push =
-    push ∙ ap (λ (ts : List Told). ts ++ fork ∷ []) before ∙ ap (λ (x : Told). replicate n t ++ x ∷ []) new ∙ replicate_end t n
-    ∙ ap (λ (m : ℕ). replicate m t) (let e : suc n ≡ n + 1 = omega arith in e)
-
-pub untold_of : (t : Told) (p : Place) → t ≡ fresh p → t ≡ fresh t.place
-untold_of t p e = e ∙ ap (λ (q : Place). fresh q) (sym (ap (λ (u : Told). u.place) e))
+-- the session behind these
+pub one_more_session : (p : Place) (k n m after : ℕ) (before more : List Served) (session : Served) → map (λ s. s.shelf) before ≡ own_forks p k n → session.shelf ≡ fork_at p (m + 1)
+    → m ≡ k + 2 * n → after ≡ n + 1 → more ≡ before ++ session ∷ [] → map (λ s. s.shelf) more ≡ own_forks p k after
+one_more_session p k n m after before more session so own number longer push =
+    let last : m + 1 ≡ k + 2 * n + 1 = omega (arith, number) in
+    let all : suc n ≡ after = omega (arith, longer) in
+    ap (λ (ss : List Served). map (λ s. s.shelf) ss) push ∙ shelves_end before session ∙ ap (λ (ts : List Told). ts ++ session.shelf ∷ []) so
+    ∙ ap (λ (t : Told). own_forks p k n ++ t ∷ []) (own ∙ ap (λ (i : ℕ). fork_at p i) last) ∙ own_end p k n ∙ ap (λ (i : ℕ). own_forks p k i) all

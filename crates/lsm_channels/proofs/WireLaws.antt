@@ -8,7 +8,7 @@ use Rattle.std.proofs.lemmas.List.Elements.{All-cons, All-head, All-nil, All-tai
 use Rattle.std.proofs.lemmas.List.{append-nil, append_assoc, length-map, map-append, nil_from_length, reverse-append}
 use Rattle.std.proofs.lemmas.List.Folds.{list_all-append}
 use Rattle.lsm_wire.specs.Happenings.{Happening}
-use Rattle.lsm_shelf.specs.Told.{Becomes, Told, forking}
+use Rattle.lsm_shelf.specs.Told.{ForkedTimes, Told}
 use Rattle.lsm_channels.specs.Serving.{AreBack, AreServedBy, End, IsBack, end, ends_from, forks_for, opened_from}
 
 abbrev pub Relates : Type 1
@@ -163,6 +163,6 @@ all_first {X} P xs ys x first all = All-head P x ys (subst (λ (zs : List X). Al
 
 -- ---- forks for them
 
-pub told_for : {W : Type 0} (seen : W → End) (wires : List W) (workers : ℕ) (was is : Told) → Becomes (forking (forks_for (length wires) workers) was) is
-    → Becomes (forking (forks_for (length (map seen wires)) workers) was) is
-told_for seen wires workers was is p = subst (λ (n : ℕ). Becomes (forking (forks_for n workers) was) is) (sym (length-map wires seen)) p
+pub told_for : {W : Type 0} (seen : W → End) (wires : List W) (workers : ℕ) (was is : Told) → ForkedTimes (forks_for (length wires) workers) was is
+    → ForkedTimes (forks_for (length (map seen wires)) workers) was is
+told_for seen wires workers was is p = subst (λ (n : ℕ). ForkedTimes (forks_for n workers) was is) (sym (length-map wires seen)) p

@@ -1,22 +1,22 @@
 -- What workers of a compact request did.
-use Rattle.std.proofs.Common.{◌≡◌, ℕ, zero, suc, true, List, [], ◌∷◌, Option, None, Some, Result}
-use Rattle.std.proofs.Common.{Ok, Err, IfErr, OnOk, refl, sym, subst, inl, inr}
+use Rattle.std.proofs.Common.{◌≡◌, ℕ, zero, suc, ◌+◌, true, List, [], ◌∷◌, Option, None, Some}
+use Rattle.std.proofs.Common.{Result, Ok, Err, IfErr, OnOk, refl, sym, subst, inl, inr}
 use Rattle.lsm_codec.specs.Entries.{Entry}
 use Rattle.lsm_frames.specs.Requests.{Between}
 use Rattle.lsm_shelf.specs.Asked.{Asked}
-use Rattle.lsm_shelf.specs.Place.{Place}
-use Rattle.lsm_shelf.specs.Told.{Becomes, Counted, NotNamed, Told, forking, fresh}
+use Rattle.lsm_shelf.specs.Told.{Becomes, Counted, ForkedTimes, NotNamed, Place, Told, fork_at}
 use Rattle.lsm_shelf.specs.declared.shelf_fault.ShelfFault.{ShelfFault}
 use Rattle.lsm_state.specs.Held.{Held}
 use Rattle.lsm_state.specs.declared.state_fault.StateFault.{StateFault}
 use Rattle.lsm_state.specs.declared.state_fault.StateFault.TheVariants as state
 use Rattle.lsm_store.specs.Workers.{IsEndOf, IsOfReserving, IsWorkersEnd}
-use Rattle.lsm_store.specs.Working.{AreReturned, given_each}
+use Rattle.lsm_store.specs.Working.{HaveEnded, given_each}
 use Rattle.lsm_store.specs.declared.picks.Picks.{Picks}
 use Rattle.lsm_store.specs.declared.worker_end.WorkerEnd.{WorkerEnd}
 use Rattle.lsm_store.specs.declared.worker_fault.WorkerFault.{WorkerFault}
 use Rattle.lsm_store.specs.declared.worker_fault.WorkerFault.TheVariants as worker
-use Rattle.lsm_channels.specs.Compacting.{AreWorkedBy, ClearsRange, IsAimed, IsCleared, IsCompactFault, IsLastWorker, IsWorkedBy, StopsRange, StopsWorking, Works}
+use Rattle.lsm_channels.specs.Compacting.{AreWorkedBy, ClearsRange, IsAimed, IsCleared, IsCompactFault}
+use Rattle.lsm_channels.specs.Compacting.{IsLastWorker, IsWorkedBy, StopsRange, StopsWorking, Works}
 
 -- a worker's fault is one by which a compaction is refused
 of_end : (Honest : Type 0) (installed : ℕ) (fault : WorkerFault) → IsEndOf Honest installed (Some fault) → IsCompactFault Honest fault
@@ -29,13 +29,14 @@ fault_met Honest e fault end is = of_end Honest e.installed fault (subst (λ (f 
 
 module _ (Honest : Type 0) (Refused : Asked → ShelfFault → Type 0) (keeps : Held → Type 0) (picks : Picks) where
   -- the only worker had the fork
-  pub worked_by : (was is : Told) (p : Place) (given : List Told) (rs : List (WorkerEnd × Option Told)) (e : WorkerEnd) (back : Option Told) → Becomes (forking 1 was) is
-      → given ≡ fresh p ∷ [] → rs ≡ (e, back) ∷ [] → AreReturned Honest Refused keeps (given_each picks true given) rs → IsWorkedBy Honest Refused keeps picks e was is
-  worked_by was is p given rs e back forked new only all =
-      let here : AreReturned Honest Refused keeps (given_each picks true (fresh p ∷ [])) ((e, back) ∷ []) =
-      subst (λ (ts : List Told). AreReturned Honest Refused keeps (given_each picks true ts) ((e, back) ∷ [])) new
-      (subst (λ (bs : List (WorkerEnd × Option Told)). AreReturned Honest Refused keeps (given_each picks true given) bs) only all) in
-      record { forked = forked; lent = fresh p; untold = refl; back = back; returned = here.0 }
+  pub worked_by : (was is : Told) (p : Place) (given : List Told) (ends : List WorkerEnd) (e : WorkerEnd) → ForkedTimes 1 was is → given ≡ fork_at p (was.forks + 1) ∷ [] → ends ≡ e ∷ []
+      → HaveEnded Honest Refused keeps (given_each picks true given) ends → IsWorkedBy Honest Refused keeps picks e was is
+  worked_by was is p given ends e forked new only all = record {
+    forked = forked;
+    place = p;
+    ended = subst (λ (ts : List Told). HaveEnded Honest Refused keeps (given_each picks true ts) (e ∷ [])) new
+        (subst (λ (es : List WorkerEnd). HaveEnded Honest Refused keeps (given_each picks true given) es) only all);
+  }
 
   pub one_worked : (was is : Told) (e : WorkerEnd) → e.fault ≡ None → IsWorkedBy Honest Refused keeps picks e was is → AreWorkedBy Honest Refused keeps picks 1 was is
   one_worked was is e none by = (was, refl, (e, none, by))

@@ -1,18 +1,18 @@
 -- What a compaction comes to (this project's rule).
-use Rattle.std.specs.Prelude.{◌≡◌, ⊤, ◌⊎◌, ℕ, zero, suc, true, List, Option, None, Some}
+use Rattle.std.specs.Prelude.{◌≡◌, ⊤, ◌⊎◌, ℕ, zero, suc, ◌+◌, true, List, [], ◌∷◌, None, Some}
 use Rattle.lsm_codec.specs.Entries.{Entry}
 use Rattle.lsm_frames.specs.Requests.{Between}
 use Rattle.lsm_live.specs.Reserving.{reserved_jobs}
 use Rattle.lsm_picker.specs.Choice.{HasNoChoice}
 use Rattle.lsm_picker.specs.Manual as manual
 use Rattle.lsm_shelf.specs.Asked.{Asked}
-use Rattle.lsm_shelf.specs.Told.{Becomes, Counted, NotNamed, Told, forking, fresh}
+use Rattle.lsm_shelf.specs.Told.{Becomes, Counted, ForkedTimes, NotNamed, Place, Told, fork_at}
 use Rattle.lsm_shelf.specs.declared.shelf_fault.ShelfFault.{ShelfFault}
 use Rattle.lsm_state.specs.Held.{Held}
 use Rattle.lsm_state.specs.declared.state_fault.StateFault.{StateFault}
 use Rattle.lsm_state.specs.declared.state_fault.StateFault.TheVariants.{OutOfMemory, Shelf}
 use Rattle.lsm_store.specs.Workers.{IsOfReserving, IsOfTurn}
-use Rattle.lsm_store.specs.Working.{IsReturned, given_one}
+use Rattle.lsm_store.specs.Working.{HaveEnded, given_one}
 use Rattle.lsm_channels.specs.Served.{IsLent}
 use Rattle.lsm_store.specs.declared.picks.Picks.{Picks}
 use Rattle.lsm_store.specs.declared.picks.Picks.TheVariants.{Choice, Gathering, Joining}
@@ -70,15 +70,14 @@ IsCleared keeps picks knew knows =
 
 -- ---- by whom
 
--- One worker more compacted what is picked until it found nothing, or ended by a fault. It had a
--- fork of the shelf, to which nothing was told before: this is what it did with it.
+-- One worker more compacted what is picked until it found nothing, or ended by a fault. It had the
+-- next fork of the shelf, to which nothing was told before, and did just that with it.
 pub record IsWorkedBy (Honest : Type 0) (Refused : Asked → ShelfFault → Type 0) (keeps : Held
     → Type 0) (picks : Picks) (e : WorkerEnd) (was is : Told) : Type 0 where
-  pub forked : Becomes (forking 1 was) is
-  pub lent : Told
-  pub untold : lent ≡ fresh lent.place
-  pub back : Option Told
-  pub returned : IsReturned Honest Refused keeps (given_one picks true lent) e back
+  pub forked : ForkedTimes 1 was is
+  pub place : Place
+  pub ended : HaveEnded Honest Refused keeps
+      (given_one picks true (fork_at place (was.forks + 1)) ∷ []) (e ∷ [])
 
 -- so many, one after another, each of which ended without a fault
 abbrev pub AreWorkedBy : Type 0 → (Asked → ShelfFault → Type 0) → (Held → Type 0) → Picks → ℕ
@@ -96,7 +95,7 @@ IsLastWorker Honest Refused keeps picks fault was is =
     ((e : WorkerEnd) × (e.fault ≡ Some fault) × IsWorkedBy Honest Refused keeps picks e was is)
     ⊎ (((why : ShelfFault) × (fault ≡ State (Shelf why)) × NotNamed why × Counted why was is
     × Becomes was is)
-    ⊎ (((fault ≡ State OutOfMemory) × Becomes (forking 1 was) is)
+    ⊎ (((fault ≡ State OutOfMemory) × ForkedTimes 1 was is)
     ⊎ ((why : StateFault) × (fault ≡ State why) × IsOfReserving why × (is ≡ was))))
 
 -- All that the shelf was told by a compaction that is done.

@@ -7,7 +7,7 @@ use Rattle.lsm_frames.specs.Answers.{Nothing}
 use Rattle.lsm_frames.specs.Requests.{Asked}
 use Rattle.lsm_shelf.specs.Asked as shelf
 use Rattle.lsm_shelf.specs.declared.shelf_fault.ShelfFault.{ShelfFault}
-use Rattle.lsm_shelf.specs.Told.{Becomes, Forked, NotNamed, Told, forking, fresh}
+use Rattle.lsm_shelf.specs.Told.{Forked, ForkedTimes, NotNamed, Place, Told, fork_at}
 use Rattle.lsm_state.specs.Held.{Held}
 use Rattle.lsm_state.specs.declared.options.Options.{Options}
 use Rattle.lsm_state.specs.declared.state_fault.StateFault.TheVariants as state
@@ -33,12 +33,16 @@ Answers Honest Refused keeps asked before after frame =
 
 -- ---- one channel
 
--- A session that took no snapshot, to whose shelf nothing was told yet, and which knows what had
--- come in in a state of which the lock's fact held.
+-- a fork, to which nothing was told yet
+abbrev pub IsUntoldFork : Told → Type 0
+IsUntoldFork t = t ≡ fork_at t.place t.forks
+
+-- A session that took no snapshot, whose shelf is a fork to which nothing was told yet, and which
+-- knows what had come in in a state of which the lock's fact held.
 pub record IsFresh (keeps : Held → Type 0) (session : Served) : Type 0 where
   pub known : IsKnown keeps session.known
   pub none : session.taken ≡ []
-  pub untold : session.shelf ≡ fresh session.shelf.place
+  pub untold : IsUntoldFork session.shelf
 
 -- By a fresh session the channel conversed, and that is all that happened behind this.
 pub record IsServed (Honest : Type 0) (Refused : shelf.Asked → ShelfFault → Type 0) (keeps : Held
@@ -133,6 +137,12 @@ AreServed Honest Refused keeps ws rs =
 abbrev pub forks_for : (channels workers : ℕ) → ℕ
 forks_for channels workers = 1 + 2 * channels + workers
 
+-- the own shelves of so many sessions, in their order: of each two forks behind that of this number
+-- the first
+abbrev pub own_forks : Place → (number count : ℕ) → List Told
+own_forks p number zero = []
+own_forks p number (suc count) = fork_at p (number + 1) ∷ own_forks p (number + 2) count
+
 -- A state was started, and served over these wires. All that came in on it was asked for over such
 -- wires: the lock kept that all the while. Once it was started its shelf was asked for forks alone.
 pub record IsDatabaseServed (Honest : Type 0) (Refused : shelf.Asked → ShelfFault → Type 0)
@@ -141,7 +151,7 @@ pub record IsDatabaseServed (Honest : Type 0) (Refused : shelf.Asked → ShelfFa
   pub found : Held
   pub told : Told
   pub started : IsStartedWith Honest o start logs found was told
-  pub forked : Becomes (forking (forks_for (length ws) workers) told) is
+  pub forked : ForkedTimes (forks_for (length ws) workers) told is
   pub served : AreServed Honest Refused (HasComeTo Honest gives found) ws rs
 
 -- memory ran out, or there was no thread; or a shelf was not forked

@@ -1,6 +1,6 @@
 //! Compaction until there is nothing to compact, or nothing is left of a range.
 
-ghost use Rattle.std.specs.Prelude.{◌≡◌, [], ◌∷◌, IfErr, IfOk, IsTrue, OnErr, OnOk, Option, Some};
+ghost use Rattle.std.specs.Prelude.{◌≡◌, ◌+◌, [], ◌∷◌, IfErr, IfOk, IsTrue, OnErr, OnOk, Some};
 ghost use Rattle.std.specs.Prelude.{vec_len};
 ghost use Rattle.lsm_history.specs.History.{IsLater};
 ghost use Rattle.lsm_channels.specs.Compacting.{AimsAt, AreWorkedBy, ClearsRange, HasNoneOf};
@@ -10,7 +10,7 @@ ghost use Rattle.lsm_channels.specs.Compacting.{Works};
 ghost use Rattle.lsm_channels.specs.Keeping.{IsKeptQuietly, IsKnown, IsQuietStep};
 ghost use Rattle.lsm_channels.specs.Served.{IsToldBy};
 ghost use Rattle.lsm_frames.specs.Views.{between_of};
-ghost use Rattle.lsm_shelf.specs.Told.{Becomes, Counted, NotNamed, Told, forking, fresh};
+ghost use Rattle.lsm_shelf.specs.Told.{Becomes, Counted, ForkedTimes, NotNamed, fork_at};
 ghost use Rattle.lsm_store.specs.Workers.{IsOfReserving};
 ghost use Rattle.lsm_store.specs.declared.picks.Picks.TheVariants.{Choice};
 
@@ -20,22 +20,20 @@ use lsm_frames::Bounds;
 use lsm_history::Memory;
 use lsm_slots::Boarded;
 use lsm_state::{State, StateFault};
-use lsm_store::{
-    Background, Invariant, ManualCompaction, Picks, Returned, Store, WorkerEnd, WorkerFault,
-};
+use lsm_store::{Background, Invariant, ManualCompaction, Picks, Store, WorkerEnd, WorkerFault};
 use lsm_table::{NamedShelf, Shelf, ShelfFault};
 use std::alloc::{AllocError, Global};
 use std::sync::Wait;
 use std::thread::Threads;
 
-/// A fork of a shelf, for one worker. There is room for it before it is asked for.
+/// The next fork of a shelf, for one worker. There is room for it before it is asked for.
 fn fork_for_one<N: Boarded, S: Shelf>(
     alloc: Global,
     shelf: &mut NamedShelf<N, S>,
 ) -> Result<Vec<NamedShelf<N, S>>, ShelfFault>
-    ensures new { IfOk result (λ v. v.items ≡ fresh N.place ∷ []) }
+    ensures new { IfOk result (λ v. v.items ≡ fork_at N.place (shelf.old.forks + 1) ∷ []) }
     ensures one { IfOk result (λ v. vec_len v ≡ 1) }
-    ensures ok { OnOk result (Becomes (forking 1 shelf.old) shelf.new) }
+    ensures ok { OnOk result (ForkedTimes 1 shelf.old shelf.new) }
     ensures err { OnErr result (Becomes shelf.old shelf.new) }
     ensures cause { IfErr result (λ e. NotNamed e × Counted e shelf.old shelf.new) }
 {
@@ -49,19 +47,19 @@ fn fork_for_one<N: Boarded, S: Shelf>(
     Ok(shelves)
 }
 
-/// What the only worker has done, whose shelf is let go.
-fn end_of<N: Boarded, S: Shelf>(returned: Vec<Returned<N, S>>) -> WorkerEnd
-    requires { vec_len returned ≡ 1 }
-    ensures { (back : Option Told) × (returned.items ≡ (result, back) ∷ []) }
+/// What the only worker has done.
+fn end_of(ends: Vec<WorkerEnd>) -> WorkerEnd
+    requires { vec_len ends ≡ 1 }
+    ensures { ends.items ≡ result ∷ [] }
 {
-    let mut returned = returned;
-    let Some((end, _shelf)) = returned.pop() else {
+    let mut ends = ends;
+    let Some(end) = ends.pop() else {
         unreachable!()
     };
     end
 }
 
-/// One more worker compacts what is picked, with a fork of the shelf, beside those of the
+/// One more worker compacts what is picked, with the next fork of the shelf, beside those of the
 /// background. Ok where it has no fault.
 fn work<N: Boarded, S: Shelf, K: Invariant, R: Threads + Wait + Sync>(
     rt: &R,
@@ -82,11 +80,11 @@ fn work<N: Boarded, S: Shelf, K: Invariant, R: Threads + Wait + Sync>(
         Ok(shelves) => shelves,
         Err(fault) => return Err(WorkerFault::State(StateFault::Shelf(fault))),
     };
-    let returned = match background.compact(rt, alloc, store, shelves, picks) {
-        Ok(returned) => returned,
+    let ends = match background.compact(rt, alloc, store, shelves, picks) {
+        Ok(ends) => ends,
         Err(_) => return Err(WorkerFault::State(StateFault::OutOfMemory)),
     };
-    match end_of(returned).fault {
+    match end_of(ends).fault {
         Some(fault) => Err(fault),
         None => Ok(()),
     }

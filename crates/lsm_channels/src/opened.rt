@@ -1,9 +1,9 @@
 //! A database that is open.
 
-ghost use Rattle.std.specs.Prelude.{◌≡◌, ◌+◌, ◌*◌, All, IfErr, IfOk, OnOk, replicate, vec_len};
+ghost use Rattle.std.specs.Prelude.{◌≡◌, ◌+◌, ◌*◌, All, IfErr, IfOk, OnOk, map, vec_len};
 ghost use Rattle.lsm_channels.specs.Keeping.{IsKeptByLooks};
-ghost use Rattle.lsm_channels.specs.Serving.{IsFresh, forks_for};
-ghost use Rattle.lsm_shelf.specs.Told.{Becomes, Forked, NotNamed, forking, fresh};
+ghost use Rattle.lsm_channels.specs.Serving.{IsFresh, forks_for, own_forks};
+ghost use Rattle.lsm_shelf.specs.Told.{Forked, ForkedTimes, NotNamed, fork_at, forks_behind};
 ghost use Rattle.lsm_state.specs.Held.{Held};
 ghost use Rattle.lsm_store.specs.Compacting.{IsSeated};
 ghost use Rattle.lsm_store.specs.Readers.{SeatsPinners};
@@ -13,7 +13,7 @@ use crate::session::Session;
 use lsm_reader::Cached;
 use lsm_slots::Boarded;
 use lsm_state::{Options, State};
-use lsm_store::{Invariant, Reader, Store};
+use lsm_store::{Invariant, Reader, Store, forks};
 use lsm_table::{NamedShelf, Shelf, ShelfFault};
 use std::alloc::{AllocError, Global};
 use std::num::NonZeroUsize;
@@ -25,8 +25,7 @@ fn blocks_over<N: Boarded, S: Shelf>(
     alloc: Global,
     shelf: NamedShelf<N, S>,
 ) -> Result<Cached<N, S>, AllocError>
-    requires { shelf ≡ fresh N.place }
-    ensures { IfOk result (λ c. c ≡ fresh N.place) }
+    ensures { IfOk result (λ c. c ≡ shelf) }
 {
     let Some(blocks) = NonZeroUsize::new(Options::usual().cache_blocks) else {
         unreachable!()
@@ -34,27 +33,8 @@ fn blocks_over<N: Boarded, S: Shelf>(
     Cached::new(alloc, shelf, blocks)
 }
 
-/// So many forks of a shelf, to which nothing was told. The shelf is asked for forks alone.
-fn fork_all<N: Boarded, S: Shelf>(
-    alloc: Global,
-    shelf: &mut NamedShelf<N, S>,
-    count: usize,
-) -> Result<Vec<NamedShelf<N, S>>, ShelfFault>
-    ensures told { OnOk result (Becomes (forking count shelf.old) shelf.new) }
-    ensures count { IfOk result (λ v. vec_len v ≡ count) }
-    ensures new { IfOk result (λ v. v.items ≡ replicate count (fresh N.place)) }
-    ensures forked { Forked shelf.old shelf.new }
-    ensures cause { IfErr result NotNamed }
-{
-    let mut forks = Vec::new(alloc);
-    for _ in 0..count {
-        let fork = shelf.fork(alloc)?;
-        forks.push(fork)?;
-    }
-    Ok(forks)
-}
-
-/// A session for a reader, by forks of the shelf. It knows what had come in by then.
+/// A session for a reader, by the next two forks of the shelf: its own, and that of its blocks. It
+/// knows what had come in by then.
 fn man_one<N: Boarded, S: Shelf, K: Invariant, R: Wait>(
     rt: &R,
     alloc: Global,
@@ -64,17 +44,19 @@ fn man_one<N: Boarded, S: Shelf, K: Invariant, R: Wait>(
 ) -> Result<Session<N, S>, ShelfFault>
     requires looks { IsKeptByLooks K.keeps }
     ensures fresh { IfOk result (λ s. IsFresh K.keeps s) }
-    ensures told { OnOk result (Becomes (forking 2 shelf.old) shelf.new) }
+    ensures own { IfOk result (λ s. s.shelf ≡ fork_at N.place (shelf.old.forks + 1)) }
+    ensures told { OnOk result (ForkedTimes 2 shelf.old shelf.new) }
     ensures forked { Forked shelf.old shelf.new }
     ensures cause { IfErr result NotNamed }
 {
+    let own = shelf.fork(alloc)?;
     let reading = shelf.fork(alloc)?;
     let blocks = blocks_over(alloc, reading)?;
-    let own = shelf.fork(alloc)?;
     Ok(Session::new(alloc, reader, blocks, own, remember(rt, store)))
 }
 
-/// A session for each reader, by forks of the shelf. Each knows what had come in by then.
+/// A session for each reader, by two forks of the shelf for each. Each knows what had come in by
+/// then.
 fn man<N: Boarded, S: Shelf, K: Invariant, R: Wait>(
     rt: &R,
     alloc: Global,
@@ -84,7 +66,9 @@ fn man<N: Boarded, S: Shelf, K: Invariant, R: Wait>(
 ) -> Result<Vec<Session<N, S>>, ShelfFault>
     requires looks { IsKeptByLooks K.keeps }
     ensures fresh { IfOk result (λ v. All (IsFresh K.keeps) v.items) }
-    ensures told { IfOk result (λ v. Becomes (forking (2 * vec_len v) shelf.old) shelf.new) }
+    ensures own { IfOk result (λ v.
+        map (λ s. s.shelf) v.items ≡ own_forks N.place shelf.old.forks (vec_len v)) }
+    ensures told { IfOk result (λ v. ForkedTimes (2 * vec_len v) shelf.old shelf.new) }
     ensures forked { Forked shelf.old shelf.new }
     ensures cause { IfErr result NotNamed }
 {
@@ -104,7 +88,7 @@ pub(crate) struct Opened<N: Boarded, S: Shelf, K: Invariant> {
     pub(crate) shelves: Vec<NamedShelf<N, S>>,
 }
 
-/// The store of a state, and its sessions.
+/// The store of a state, by the next fork of the shelf, and its sessions, by those behind it.
 fn open_store<N: Boarded, S: Shelf, K: Invariant, R: Wait>(
     rt: &R,
     alloc: Global,
@@ -115,8 +99,9 @@ fn open_store<N: Boarded, S: Shelf, K: Invariant, R: Wait>(
     requires kept { (h : Held) → IsSeated state h → K.keeps h }
     requires looks { IsKeptByLooks K.keeps }
     ensures fresh { IfOk result (λ r. All (IsFresh K.keeps) r.1.items) }
-    ensures told { IfOk result (λ r.
-        Becomes (forking (1 + 2 * vec_len r.1) shelf.old) shelf.new) }
+    ensures own { IfOk result (λ r.
+        map (λ s. s.shelf) r.1.items ≡ own_forks N.place (shelf.old.forks + 1) (vec_len r.1)) }
+    ensures told { IfOk result (λ r. ForkedTimes (1 + 2 * vec_len r.1) shelf.old shelf.new) }
     ensures forked { Forked shelf.old shelf.new }
     ensures cause { IfErr result NotNamed }
 {
@@ -130,7 +115,8 @@ fn open_store<N: Boarded, S: Shelf, K: Invariant, R: Wait>(
     }
 }
 
-/// The store of a state, its sessions, and a shelf for each worker.
+/// The store of a state, its sessions, and a shelf for each worker: the next forks of the shelf,
+/// and no more.
 pub(crate) fn open_state<N: Boarded, S: Shelf, K: Invariant, R: Wait>(
     rt: &R,
     alloc: Global,
@@ -142,14 +128,17 @@ pub(crate) fn open_state<N: Boarded, S: Shelf, K: Invariant, R: Wait>(
     requires kept { (h : Held) → IsSeated state h → K.keeps h }
     requires looks { IsKeptByLooks K.keeps }
     ensures fresh { IfOk result (λ o. All (IsFresh K.keeps) o.sessions.items) }
-    ensures told { IfOk result (λ o. Becomes (forking (forks_for (vec_len o.sessions) workers)
-        shelf.old) shelf.new) }
+    ensures own { IfOk result (λ o. map (λ s. s.shelf) o.sessions.items
+        ≡ own_forks N.place (shelf.old.forks + 1) (vec_len o.sessions)) }
+    ensures shelves { IfOk result (λ o. o.shelves.items
+        ≡ forks_behind N.place (shelf.old.forks + (1 + 2 * vec_len o.sessions)) workers) }
+    ensures told { IfOk result (λ o.
+        ForkedTimes (forks_for (vec_len o.sessions) workers) shelf.old shelf.new) }
     ensures forked { Forked shelf.old shelf.new }
-    ensures shelves { IfOk result (λ o. o.shelves.items ≡ replicate workers (fresh N.place)) }
     ensures cause { IfErr result NotNamed }
 {
     let (store, sessions) = open_store(rt, alloc, state, shelf)?;
-    let shelves = fork_all(alloc, shelf, workers)?;
+    let shelves = forks(alloc, shelf, workers)?;
     Ok(Opened {
         store,
         sessions,

@@ -12,7 +12,7 @@ ghost use Rattle.lsm_channels.specs.Starting.{options_for};
 ghost use Rattle.lsm_opening.specs.Parts.{AreOf};
 ghost use Rattle.lsm_opening.specs.declared.faults.writer_fault.WriterFault.TheVariants.{OutOfMemory};
 ghost use Rattle.lsm_shelf.specs.Stored.{Stored};
-ghost use Rattle.lsm_shelf.specs.Told.{Becomes, Forked, forking};
+ghost use Rattle.lsm_shelf.specs.Told.{Forked, ForkedTimes};
 ghost use Rattle.lsm_state.specs.Held.{Held};
 ghost use Rattle.lsm_store.specs.Compacting.{IsSeated};
 ghost use Rattle.lsm_store.specs.Readers.{SeatsPinners};
@@ -431,8 +431,8 @@ fn serve_state<N: Boarded, S: Shelf, K: Invariant, W: Wire + Send, R: Threads + 
     ensures served { IfOk result (λ v. AreServed S.honest (S.refuses N.place) K.keeps
         (map (λ w. end (W.descriptor w) (W.happened w)) wires.items)
         (map (option_map (λ w. end (W.descriptor w) (W.happened w))) v.items)) }
-    ensures told { OnOk result (Becomes (forking (forks_for (length wires.items) workers)
-        shelf.old) shelf.new) }
+    ensures told { OnOk result
+        (ForkedTimes (forks_for (length wires.items) workers) shelf.old shelf.new) }
     ensures forked { Forked shelf.old shelf.new }
     ensures fault { IfErr result (λ u. IsUnforked u.fault) }
     ensures back { IfErr result (λ u.

@@ -6,7 +6,7 @@ ghost use Rattle.lsm_frames.specs.Requests.{Scans, Snapshots, Statistics};
 ghost use Rattle.lsm_frames.specs.Requests.{Writes as AskedWrites};
 ghost use Rattle.lsm_frames.specs.Views.{asked_of, between_of, stretch_of};
 ghost use Rattle.lsm_history.specs.History.{IsLater};
-ghost use Rattle.lsm_shelf.specs.Told.{fresh};
+ghost use Rattle.lsm_shelf.specs.Told.{next_fork};
 ghost use Rattle.lsm_channels.specs.Answering.{AnswersStatistics, IsAnswered};
 ghost use Rattle.lsm_channels.specs.Keeping.{IsKeptByAsked, IsKeptByLooks, IsKeptByRelease};
 ghost use Rattle.lsm_channels.specs.Keeping.{IsKeptByTakes, IsKeptByWrites, IsKeptQuietly, IsKnown};
@@ -87,8 +87,8 @@ impl<N: Boarded, S: Shelf> Model for Session<N, S> {
 
 impl<N: Boarded, S: Shelf> Session<N, S> {
     /// A session with this reader and this shelf, and with these blocks for reads of a version of
-    /// which the reader has made all its pins: to their shelf nothing was told yet. It knows what is
-    /// remembered here, and took no snapshot.
+    /// which the reader has made all its pins: their shelf is the fork behind this one, and nothing
+    /// was told to it yet. It knows what is remembered here, and took no snapshot.
     pub fn new(
         alloc: Global,
         reader: Reader<N, S>,
@@ -96,7 +96,7 @@ impl<N: Boarded, S: Shelf> Session<N, S> {
         shelf: NamedShelf<N, S>,
         memory: Memory<N>,
     ) -> Session<N, S>
-        requires { blocks ≡ fresh N.place }
+        requires fork { blocks ≡ next_fork shelf }
         ensures { result
             ≡ record { reader = reader; shelf = shelf; known = memory; taken = [] } }
     {

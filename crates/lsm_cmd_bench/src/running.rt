@@ -1,11 +1,11 @@
 //! Benchmarks on a new database, beside workers.
 
-ghost use Rattle.std.specs.Prelude.{◌≡◌, ◌≤◌, IfErr, IfOk, Ok, OnErr, OnOk, vec_len};
+ghost use Rattle.std.specs.Prelude.{◌≡◌, ◌≤◌, ℕ, IfErr, IfOk, Ok, OnErr, OnOk, vec_len};
 ghost use Rattle.lsm_cmd_bench.specs.Benched.{IsBenchedOn, IsUnbenched, Leaves};
 ghost use Rattle.lsm_cmd_bench.specs.Filled.{IsKeptByPairs, RunsAll};
 ghost use Rattle.lsm_bulk_load.specs.Keeping.{IsKeptByLearning, IsTaken};
 ghost use Rattle.lsm_bulk_load.specs.Marks.{IsEven, marked_in};
-ghost use Rattle.lsm_shelf.specs.Told.{Forked};
+ghost use Rattle.lsm_shelf.specs.Told.{Forked, fork_at};
 ghost use Rattle.lsm_state.specs.Held.{Held};
 ghost use Rattle.lsm_store.specs.Compacting.{IsKeptByCompaction};
 ghost use Rattle.lsm_store.specs.Readers.{SeatsPinners};
@@ -16,12 +16,12 @@ use crate::bench_fault::BenchFault;
 use crate::draws::Draws;
 use crate::report::write_head;
 use lsm_bulk_load::{Grown, Mark, Origin};
-use lsm_opening::{NewParts, begin, forks};
+use lsm_opening::{NewParts, begin};
 use lsm_requests::BenchOptions;
 use lsm_slots::Boarded;
 use lsm_state::State;
-use lsm_store::{Background, NoGate, Reader, Store, WorkerEnd, with_workers};
-use lsm_table::{NamedShelf, Shelf};
+use lsm_store::{Background, NoGate, Reader, Store, WorkerEnd, forks, with_workers};
+use lsm_table::{NamedShelf, Shelf, ShelfFault};
 use std::alloc::{AllocError, Global};
 use std::io::Write;
 use std::marker::Brand;
@@ -220,6 +220,7 @@ fn store_of<N: Boarded, S: Shelf, O: Origin>(
     reading: NamedShelf<N, S>,
 ) -> Result<(Store<N, S, Grown<O>>, Vec<Reader<N, S>>), BenchFault>
     requires seats { SeatsPinners state }
+    requires fork { (number : ℕ) × (reading ≡ fork_at N.place number) }
     requires found { O.found ≡ marked_in state }
     requires first { (h : Held) → IsTaken state h → O.keeps h }
 {
@@ -233,7 +234,23 @@ fn store_of<N: Boarded, S: Shelf, O: Origin>(
     }
 }
 
-/// Runs the benchmarks on a state, with a shelf for each worker, one for batches, and one for the
+/// A shelf for each worker and one for batches; and one for the store's readers.
+#[tactic(auto, using(lsm_shelf::proofs::CallerLemmas::forked_then, lsm_shelf::proofs::CallerLemmas::forked_once, lsm_shelf::proofs::CallerLemmas::forked_same, lsm_store::proofs::ForkLaws::forked_times, lsm_store::proofs::ForkLaws::forked_at_most))]
+fn shelves_for<N: Boarded, S: Shelf>(
+    alloc: Global,
+    shelf: &mut NamedShelf<N, S>,
+    workers: usize,
+) -> Result<(Vec<NamedShelf<N, S>>, NamedShelf<N, S>), ShelfFault>
+    ensures shelves { IfOk result (λ r. 1 ≤ vec_len r.0) }
+    ensures fork { IfOk result (λ r. (number : ℕ) × (r.1 ≡ fork_at N.place number)) }
+    ensures told { Forked shelf.old shelf.new }
+{
+    let shelves = forks(alloc, shelf, workers.saturating_add(1))?;
+    let reading = shelf.fork(alloc)?;
+    Ok((shelves, reading))
+}
+
+/// Runs the benchmarks on a state, with a shelf for each worker and one for batches, and one for the
 /// store's readers. A lawful state is behind them, and is let go.
 #[tactic(auto, using(lsm_bulk_load::proofs::CallerLemmas::even_first))]
 fn run_shelves<N, S, O, R, W>(
@@ -241,6 +258,7 @@ fn run_shelves<N, S, O, R, W>(
     alloc: Global,
     state: State<N, S>,
     shelves: Vec<NamedShelf<N, S>>,
+    reading: NamedShelf<N, S>,
     options: &BenchOptions,
     out: &mut W,
 ) -> Result<(), BenchFault>
@@ -252,7 +270,8 @@ where
     W: Write,
     requires seats { SeatsPinners state }
     requires found { O.found ≡ marked_in state }
-    requires shelves { 2 ≤ vec_len shelves }
+    requires shelves { 1 ≤ vec_len shelves }
+    requires fork { (number : ℕ) × (reading ≡ fork_at N.place number) }
     requires first { (h : Held) → IsTaken state h → O.keeps h }
     requires kept { IsKeptByPairs (S.refuses N.place) options.now.num options.now.value_size
         O.keeps }
@@ -262,12 +281,9 @@ where
         options.now.value_size options.now.benchmarks.items (marked_in state) (marked_in h))) }
     ensures stopped { OnErr result (Leaves S.honest N.board O.keeps (λ _. Unit {0})) }
 {
-    let (mut state, mut shelves) = (state, shelves);
+    let mut state = state;
     // The law of the state is told by this call.
     let _options = state.options();
-    let Some(reading) = shelves.pop() else {
-        unreachable!()
-    };
     let mark: Mark<N, O> = Mark::of(&mut state);
     match store_of::<N, S, O>(alloc, state, reading) {
         Ok((store, readers)) => run_store(rt, alloc, store, readers, shelves, mark, options, out),
@@ -305,8 +321,10 @@ where
 {
     // The law of the state is told by this call.
     let _options = state.options();
-    match forks::<N, S>(alloc, shelf, options.workers.saturating_add(2)) {
-        Ok(shelves) => run_shelves::<N, S, O, R, W>(rt, alloc, state, shelves, options, out),
+    match shelves_for::<N, S>(alloc, shelf, options.workers) {
+        Ok((shelves, reading)) => {
+            run_shelves::<N, S, O, R, W>(rt, alloc, state, shelves, reading, options, out)
+        }
         Err(fault) => {
             drop(state);
             Err(BenchFault::of_shelf(fault))

@@ -1,85 +1,98 @@
 -- Rounds of workers, one after another.
-use Rattle.std.proofs.Common.{◌≡◌, ℕ, suc, List, All, length, replicate, refl, sym, subst, inl, inr}
+use Rattle.std.proofs.Common.{◌≡◌, ℕ, suc, List, All, length, subst, inr, arith}
 use Rattle.std.proofs.Common.{true}
-use Rattle.std.specs.Prelude.{◌⊎◌}
+use Rattle.std.specs.Prelude.{◌⊎◌, Result, Err}
 use Rattle.lsm_shelf.specs.Asked.{Asked}
 use Rattle.lsm_shelf.specs.Place.{Place}
-use Rattle.lsm_shelf.specs.Told.{Becomes, Forked, Told, forking, fresh}
+use Rattle.lsm_shelf.specs.Told.{CountedBy, ForkedAtMost, ForkedTimes, NotNamed, Told, forks_behind}
 use Rattle.lsm_shelf.specs.declared.shelf_fault.ShelfFault.{ShelfFault}
+use Rattle.lsm_shelf.specs.declared.shelf_fault.ShelfFault.TheVariants as shelf_faults
+use Rattle.lsm_state.specs.Collecting.{SameCounts}
 use Rattle.lsm_state.specs.Held.{Held}
 use Rattle.lsm_store.specs.Workers.{IsWorkersEnd}
-use Rattle.lsm_store.specs.Working.{AreReturned, given_each}
+use Rattle.lsm_store.specs.Working.{HaveEnded, given_each}
 use Rattle.lsm_store.specs.declared.picks.Picks.{Picks}
+use Rattle.lsm_store.specs.declared.worker_end.WorkerEnd.{WorkerEnd}
 use Rattle.lsm_store.specs.declared.worker_fault.WorkerFault.{WorkerFault}
+use Rattle.lsm_opening.specs.WriterFault.{of_shelf}
 use Rattle.lsm_opening.specs.declared.faults.compact_fault.CompactFault.{CompactFault}
-use Rattle.lsm_opening.specs.declared.faults.compact_fault.CompactFault.TheVariants.{Worker}
+use Rattle.lsm_opening.specs.declared.faults.compact_fault.CompactFault.TheVariants.{Worker, Writer}
 use Rattle.lsm_requests.specs.declared.compact_options.CompactOptions.{CompactOptions}
-use Rattle.lsm_cmd_compact.specs.Compacting.{AreEnds, AreFaultless, AreRounds, IsAimed}
+use Rattle.lsm_cmd_compact.specs.Compacting.{AreEnds, AreFaultless, AreRounds, EndsRounds, IsAimed}
 use Rattle.lsm_cmd_compact.specs.Compacting.{IsFaultlessRound, IsFaultyRound, IsFirstFault}
-use Rattle.lsm_cmd_compact.specs.Compacting.{IsOfManning, IsRound, StopsBehindRounds, StopsWorking}
-use Rattle.lsm_cmd_compact.specs.Compacting.{Works}
-use Rattle.lsm_cmd_compact.proofs.Ends.{End}
+use Rattle.lsm_cmd_compact.specs.Compacting.{IsLeftOver, IsRound, IsUnmanned, StopsBehindRounds}
+use Rattle.lsm_cmd_compact.specs.Compacting.{StopsWorking, Works}
+
+-- a fork was refused
+pub unmanned : (workers : ℕ) (e : CompactFault) (fault : ShelfFault) (was is : Told) → e ≡ Writer (of_shelf fault) → NotNamed fault → ForkedAtMost workers was is
+    → CountedBy {T = Unit {0}} (Err fault) was is → IsUnmanned workers e was is
+unmanned workers e fault was is its cause forked counts = record { fault = fault; its = its; cause = cause; forked = forked; counts = counts }
+
+-- all were given, and memory ran out
+pub unmanned_of_memory : (workers : ℕ) (e : CompactFault) (was is : Told) → e ≡ Writer (of_shelf shelf_faults.OutOfMemory) → ForkedTimes workers was is → SameCounts was is
+    → IsUnmanned workers e was is
+unmanned_of_memory workers e was is its forked counts = record { fault = shelf_faults.OutOfMemory; its = its; cause = tt; forked = (workers, omega arith, forked); counts = counts }
 
 module _ (Refused : Asked → ShelfFault → Type 0) (Honest : Type 0) (keeps : Held → Type 0) (place : Place) (workers : ℕ) (picks : Picks) where
   -- workers ended over new forks
-  pub round_of : (was is : Told) (shelves : List Told) (ends : List End)
-      → Becomes (forking workers was) is → shelves ≡ replicate workers (fresh place)
-      → length ends ≡ workers → All (λ (r : End). IsWorkersEnd Honest r.0) ends
-      → AreReturned Honest Refused keeps (given_each picks true shelves) ends
+  pub round_of : (was is : Told) (shelves : List Told) (ends : List WorkerEnd)
+      → ForkedTimes workers was is → SameCounts was is → shelves ≡ forks_behind place was.forks workers
+      → length ends ≡ workers → All (λ (e : WorkerEnd). IsWorkersEnd Honest e) ends
+      → HaveEnded Honest Refused keeps (given_each picks true shelves) ends
       → IsRound Refused Honest keeps place workers picks ends was is
-  round_of was is shelves ends forked new count each returned = record {
+  round_of was is shelves ends forked counts new count each ended = record {
     forked = forked;
+    counts = counts;
     ends_are = record {
       count = count;
       each = each;
-      shelves = subst (λ (ts : List Told). AreReturned Honest Refused keeps (given_each picks true ts) ends) new returned;
+      ended = subst (λ (ts : List Told). HaveEnded Honest Refused keeps (given_each picks true ts) ends) new ended;
     };
   }
 
   -- none with a fault
-  pub faultless_round : (was is : Told) (ends judged : List End) → judged ≡ ends
+  pub faultless_round : (was is : Told) (ends judged : List WorkerEnd) → judged ≡ ends
       → IsRound Refused Honest keeps place workers picks ends was is → AreFaultless judged
       → IsFaultlessRound Refused Honest keeps place workers picks was is
   faultless_round was is ends judged same round none = (ends, subst AreFaultless same none, round)
 
   -- or one with this fault
-  pub faulty_round : (was is : Told) (ends judged : List End) (e : CompactFault) (fault : WorkerFault)
+  pub faulty_round : (was is : Told) (ends judged : List WorkerEnd) (e : CompactFault) (fault : WorkerFault)
       → judged ≡ ends → IsRound Refused Honest keeps place workers picks ends was is
       → e ≡ Worker fault → IsFirstFault fault judged
       → IsFaultyRound Refused Honest keeps place workers picks e was is
-  faulty_round was is ends judged e fault same round its first = (fault, its, (ends, subst (λ (es : List End). IsFirstFault fault es) same first, round))
+  faulty_round was is ends judged e fault same round its first = (fault, its, (ends, subst (λ (es : List WorkerEnd). IsFirstFault fault es) same first, round))
 
   -- ---- one more
 
   pub rounds_more : (a b c : Told)
       → (count : ℕ) × AreRounds Refused Honest keeps place workers picks count a b
-      → IsFaultlessRound Refused Honest keeps place workers picks b c
+      → IsFaultlessRound Refused Honest keeps place workers picks b c → IsLeftOver keeps picks
       → (count : ℕ) × AreRounds Refused Honest keeps place workers picks count a c
-  rounds_more a b c some round = (suc some.0, (b, some.1, round))
+  rounds_more a b c some round left = (suc some.0, (b, some.1, round, left))
 
   -- the last one
   pub rounds_done : (a b c : Told)
       → (count : ℕ) × AreRounds Refused Honest keeps place workers picks count a b
       → IsFaultlessRound Refused Honest keeps place workers picks b c
-      → (more : ℕ) × AreRounds Refused Honest keeps place workers picks (suc more) a c
-  rounds_done a b c some round = (some.0, (b, some.1, round))
+      → EndsRounds Refused Honest keeps place workers picks a c
+  rounds_done a b c some round = (some.0, b, some.1, round)
 
   pub rounds_stop : (e : CompactFault) (a b c : Told)
       → (count : ℕ) × AreRounds Refused Honest keeps place workers picks count a b
-      → (IsOfManning e × Forked b c) ⊎ IsFaultyRound Refused Honest keeps place workers picks e b c
+      → IsUnmanned workers e b c ⊎ IsFaultyRound Refused Honest keeps place workers picks e b c
       → StopsBehindRounds Refused Honest keeps place workers picks e a c
   rounds_stop e a b c some stop = (some.0, b, some.1, stop)
 
 module _ (Refused : Asked → ShelfFault → Type 0) (Honest : Type 0) (keeps : Held → Type 0) (place : Place) (found : Held) (options : CompactOptions) where
-  -- behind the fork of the store
-  pub works : (picks : Picks) (was mid is : Told) → IsAimed found.slots.version options.range picks
-      → Becomes (forking 1 was) mid
-      → (more : ℕ) × AreRounds Refused Honest keeps place options.workers picks (suc more) mid is
+  -- for what options ask
+  pub works : (picks : Picks) (was is : Told) → IsAimed found.slots.version options.range picks
+      → EndsRounds Refused Honest keeps place options.workers picks was is
       → Works Refused Honest keeps place found options was is
-  works picks was mid is aimed forked rounds = (picks, aimed, (mid, forked, rounds))
+  works picks was is aimed rounds = (picks, aimed, rounds)
 
-  pub stops_working : (picks : Picks) (e : CompactFault) (was mid is : Told)
-      → IsAimed found.slots.version options.range picks → Becomes (forking 1 was) mid
-      → StopsBehindRounds Refused Honest keeps place options.workers picks e mid is
+  pub stops_working : (picks : Picks) (e : CompactFault) (was is : Told)
+      → IsAimed found.slots.version options.range picks
+      → StopsBehindRounds Refused Honest keeps place options.workers picks e was is
       → StopsWorking Refused Honest keeps place found options e was is
-  stops_working picks e was mid is aimed forked stops = inr (picks, aimed, (mid, forked, stops))
+  stops_working picks e was is aimed stops = inr (picks, aimed, stops)

@@ -1,6 +1,6 @@
 -- What a `compact` leaves, and why it is refused (this project's rule).
 use Rattle.std.specs.Prelude.{◌≡◌, ◌≢◌, ◌<◌, ℕ, zero, suc, ◌-◌, ◌⊎◌, Bool, List, ◌∷◌, ◌++◌}
-use Rattle.std.specs.Prelude.{length, replicate, All, IsFalse, IsTrue, Option, None, Some, Err}
+use Rattle.std.specs.Prelude.{length, All, IsFalse, IsTrue, Option, None, Some, Err}
 use Rattle.std.specs.Prelude.{true}
 use Rattle.std.specs.Io.KnownBytes.{Appends, Keeps}
 use Rattle.atomic_table.specs.Seated.{TableId}
@@ -8,8 +8,9 @@ use Rattle.lsm_codec.specs.Entries.{answer}
 use Rattle.lsm_codec.specs.Keys.{UserKey}
 use Rattle.lsm_shelf.specs.Asked.{Asked, ReadManifest}
 use Rattle.lsm_shelf.specs.declared.shelf_fault.ShelfFault.{ShelfFault}
-use Rattle.lsm_shelf.specs.Told.{Place, Told, Becomes, CountedBy, Forked, NotNamed, NotTaken}
-use Rattle.lsm_shelf.specs.Told.{finding, forking, fresh}
+use Rattle.lsm_shelf.specs.declared.shelf_fault.ShelfFault.TheVariants as shelf_faults
+use Rattle.lsm_shelf.specs.Told.{Place, Told, Becomes, CountedBy, ForkedAtMost, ForkedTimes}
+use Rattle.lsm_shelf.specs.Told.{NotNamed, NotTaken, finding, forks_behind}
 use Rattle.lsm_manifest.specs.Shape.{Form}
 use Rattle.lsm_journal.specs.HeldManifest.{HeldManifest}
 use Rattle.lsm_journal.specs.Recovering.{IsRecovered, IsRecoverRefusal, RecoverCounted}
@@ -25,7 +26,7 @@ use Rattle.lsm_state.specs.Held.{Held}
 use Rattle.lsm_state.specs.declared.state_fault.StateFault.{StateFault}
 use Rattle.lsm_store.specs.Compacting.{IsLeftByWorkers}
 use Rattle.lsm_store.specs.Workers.{IsWorkersEnd}
-use Rattle.lsm_store.specs.Working.{AreReturned, given_each}
+use Rattle.lsm_store.specs.Working.{HaveEnded, given_each}
 use Rattle.lsm_requests.specs.declared.compact_options.CompactOptions.{CompactOptions}
 use Rattle.lsm_requests.specs.declared.compact_range.CompactRange.{CompactRange}
 use Rattle.lsm_store.specs.declared.picks.Picks.{Picks}
@@ -76,72 +77,97 @@ abbrev pub IsFaultless : WorkerEnd → Type 0
 IsFaultless e = e.fault ≡ None
 
 -- none of the workers has a fault
-abbrev pub AreFaultless : List (WorkerEnd × Option Told) → Type 0
-AreFaultless returned = All (λ r. IsFaultless r.0) returned
+abbrev pub AreFaultless : List WorkerEnd → Type 0
+AreFaultless ends = All (λ e. IsFaultless e) ends
 
 -- the fault of the first worker that has one
-pub record IsFirstFault (fault : WorkerFault) (returned : List (WorkerEnd × Option Told))
-    : Type 0 where
-  pub front : List (WorkerEnd × Option Told)
-  pub first : WorkerEnd × Option Told
-  pub back : List (WorkerEnd × Option Told)
-  pub parts : returned ≡ front ++ first ∷ back
+pub record IsFirstFault (fault : WorkerFault) (ends : List WorkerEnd) : Type 0 where
+  pub front : List WorkerEnd
+  pub first : WorkerEnd
+  pub back : List WorkerEnd
+  pub parts : ends ≡ front ++ first ∷ back
   pub faultless : AreFaultless front
-  pub its : first.0.fault ≡ Some fault
+  pub its : first.fault ≡ Some fault
 
--- So many workers ended, each as workers do that pick so and go on to the end. Each had a fork of
--- the shelf, and this was told just what its worker did: jobs that it finished, each with its
--- outputs, and the installs of their results, in states of which the fact held.
+-- So many workers ended, each as workers do that pick so and go on to the end. They had the next
+-- forks of a shelf whose last one had this number, one each; and to its fork nothing was told but
+-- what this worker did: jobs that it finished, each with its outputs, and the installs of their
+-- results, in states of which the fact held.
 pub record AreEnds (Refused : Asked → ShelfFault → Type 0) (Honest : Type 0) (keeps : Held
-    → Type 0) (place : Place) (workers : ℕ) (picks : Picks) (returned
-    : List (WorkerEnd × Option Told)) : Type 0 where
-  pub count : length returned ≡ workers
-  pub each : All (λ r. IsWorkersEnd Honest r.0) returned
-  pub shelves : AreReturned Honest Refused keeps
-      (given_each picks true (replicate workers (fresh place))) returned
+    → Type 0) (place : Place) (number workers : ℕ) (picks : Picks) (ends : List WorkerEnd)
+    : Type 0 where
+  pub count : length ends ≡ workers
+  pub each : All (λ e. IsWorkersEnd Honest e) ends
+  pub ended : HaveEnded Honest Refused keeps
+      (given_each picks true (forks_behind place number workers)) ends
 
--- One round: the shelf gave so many forks, and was told nothing else. So many workers ended, each
--- by a shelf that was told nothing before.
+-- One round: the shelf gave so many forks, refused nothing, and was told nothing else; and so many
+-- workers ended that had these forks.
 pub record IsRound (Refused : Asked → ShelfFault → Type 0) (Honest : Type 0) (keeps : Held
-    → Type 0) (place : Place) (workers : ℕ) (picks : Picks) (returned
-    : List (WorkerEnd × Option Told)) (was is : Told) : Type 0 where
-  pub forked : Becomes (forking workers was) is
-  pub ends_are : AreEnds Refused Honest keeps place workers picks returned
+    → Type 0) (place : Place) (workers : ℕ) (picks : Picks) (ends : List WorkerEnd) (was is : Told)
+    : Type 0 where
+  pub forked : ForkedTimes workers was is
+  pub counts : SameCounts was is
+  pub ends_are : AreEnds Refused Honest keeps place was.forks workers picks ends
 
 -- one in which none of them has a fault
 abbrev pub IsFaultlessRound : (Asked → ShelfFault → Type 0) → Type 0 → (Held → Type 0) → Place
     → (workers : ℕ) → Picks → (was is : Told) → Type 0
 IsFaultlessRound Refused Honest keeps place workers picks was is =
-    (returned : List (WorkerEnd × Option Told)) × AreFaultless returned
-    × IsRound Refused Honest keeps place workers picks returned was is
+    (ends : List WorkerEnd) × AreFaultless ends
+    × IsRound Refused Honest keeps place workers picks ends was is
 
 -- one in which the first of them that has a fault has this one
 abbrev pub IsFaultyRound : (Asked → ShelfFault → Type 0) → Type 0 → (Held → Type 0) → Place
     → (workers : ℕ) → Picks → CompactFault → (was is : Told) → Type 0
 IsFaultyRound Refused Honest keeps place workers picks e was is = (fault : WorkerFault)
-    × (e ≡ Worker fault) × ((returned : List (WorkerEnd × Option Told))
-    × IsFirstFault fault returned
-    × IsRound Refused Honest keeps place workers picks returned was is)
+    × (e ≡ Worker fault) × ((ends : List WorkerEnd) × IsFirstFault fault ends
+    × IsRound Refused Honest keeps place workers picks ends was is)
 
--- so many faultless ones, one after another
+-- at one moment, in a state of which the fact held, files were left of the range at its levels
+abbrev pub IsUnclearedUnder : (Held → Type 0) → Span → Type 0
+IsUnclearedUnder keeps s =
+    (h : Held) × ∥ keeps h ∥₁ × (IsCleared h.slots.version s → ⊥)
+
+-- Why there is one more round: files were left of a range that is picked. Where none is there is no
+-- other round.
+abbrev pub IsLeftOver : (Held → Type 0) → Picks → Type 0
+IsLeftOver keeps Choice = ⊥
+IsLeftOver keeps Joining = ⊥
+IsLeftOver keeps Gathering = ⊥
+IsLeftOver keeps (Manual s) = IsUnclearedUnder keeps s
+
+-- so many faultless ones, one after another, behind each of which there is one more
 abbrev pub AreRounds : (Asked → ShelfFault → Type 0) → Type 0 → (Held → Type 0) → Place
     → (workers : ℕ) → Picks → (count : ℕ) → (was is : Told) → Type 0
 AreRounds Refused Honest keeps place workers picks zero was is = is ≡ was
 AreRounds Refused Honest keeps place workers picks (suc count) was is =
     (mid : Told) × AreRounds Refused Honest keeps place workers picks count was mid
+    × IsFaultlessRound Refused Honest keeps place workers picks mid is × IsLeftOver keeps picks
+
+-- Behind so many rounds there was a last one, faultless too.
+abbrev pub EndsRounds : (Asked → ShelfFault → Type 0) → Type 0 → (Held → Type 0) → Place
+    → (workers : ℕ) → Picks → (was is : Told) → Type 0
+EndsRounds Refused Honest keeps place workers picks was is = (count : ℕ)
+    × (mid : Told) × AreRounds Refused Honest keeps place workers picks count was mid
     × IsFaultlessRound Refused Honest keeps place workers picks mid is
 
--- Memory ran out for workers, or for what they pick; or a shelf failed to fork.
-abbrev pub IsOfManning : CompactFault → Type 0
-IsOfManning e = (fault : ShelfFault) × (e ≡ Writer (of_shelf fault)) × NotNamed fault
+-- There were no workers for a round: the shelf refused a fork, and counted a fault of the device
+-- once; or memory ran out for what comes of them, and it counted none. It gave as many forks as
+-- there are workers at most, and was told nothing else.
+pub record IsUnmanned (workers : ℕ) (e : CompactFault) (was is : Told) : Type 0 where
+  pub fault : ShelfFault
+  pub its : e ≡ Writer (of_shelf fault)
+  pub cause : NotNamed fault
+  pub forked : ForkedAtMost workers was is
+  pub counts : CountedBy {T = Unit {0}} (Err fault) was is
 
--- Behind so many rounds there was no next one, for want of workers, and the shelf was asked for
--- forks alone; or it was the last, for a fault.
+-- Behind so many rounds there were no workers for one more; or it was the last, for a fault.
 abbrev pub StopsBehindRounds : (Asked → ShelfFault → Type 0) → Type 0 → (Held → Type 0) → Place
     → (workers : ℕ) → Picks → CompactFault → (was is : Told) → Type 0
 StopsBehindRounds Refused Honest keeps place workers picks e was is =
     (count : ℕ) × (mid : Told) × AreRounds Refused Honest keeps place workers picks count was mid
-    × ((IsOfManning e × Forked mid is)
+    × (IsUnmanned workers e mid is
     ⊎ IsFaultyRound Refused Honest keeps place workers picks e mid is)
 
 -- how many versions were made current between two states of a database: where workers alone changed
@@ -185,25 +211,28 @@ IsAimed v (Some r) Joining = ⊥
 IsAimed v (Some r) Gathering = ⊥
 IsAimed v (Some r) (Manual s) = IsToClear v r.from r.to s
 
--- All that the shelf was told by workers that are done: it gave a fork for the store; then there
--- was at least one round of as many workers as options say, which picked what these ask for.
+-- All that the shelf was told by workers that are done: rounds of as many as options say, which
+-- picked what these ask for.
 abbrev pub Works : (Asked → ShelfFault → Type 0) → Type 0 → (Held → Type 0) → Place → Held
     → CompactOptions → (was is : Told) → Type 0
 Works Refused Honest keeps place found options was is = (picks : Picks)
     × IsAimed found.slots.version options.range picks
-    × ((mid : Told) × Becomes (forking 1 was) mid
-    × ((more : ℕ)
-    × AreRounds Refused Honest keeps place options.workers picks (suc more) mid is))
+    × EndsRounds Refused Honest keeps place options.workers picks was is
 
--- And where they are not: there was no memory for what they pick, or no store, and it was asked for
--- forks alone; or it gave that fork, and behind rounds was no next one, or a worker had a fault.
+-- No memory for the range that was asked for: the shelf was told nothing.
+pub record IsUnaimed (options : CompactOptions) (e : CompactFault) (was is : Told) : Type 0 where
+  pub its : e ≡ Writer (of_shelf shelf_faults.OutOfMemory)
+  pub ranged : options.range ≢ None
+  pub told : is ≡ was
+
+-- And where they are not: there was no memory for what they pick; or behind rounds was no next one,
+-- or a worker had a fault.
 abbrev pub StopsWorking : (Asked → ShelfFault → Type 0) → Type 0 → (Held → Type 0) → Place → Held
     → CompactOptions → CompactFault → (was is : Told) → Type 0
 StopsWorking Refused Honest keeps place found options e was is =
-    (IsOfManning e × Forked was is)
+    IsUnaimed options e was is
     ⊎ ((picks : Picks) × IsAimed found.slots.version options.range picks
-    × ((mid : Told) × Becomes (forking 1 was) mid
-    × StopsBehindRounds Refused Honest keeps place options.workers picks e mid is))
+    × StopsBehindRounds Refused Honest keeps place options.workers picks e was is)
 
 -- no file was left of a range that is picked
 abbrev pub IsClearedBy : (Held → Type 0) → Picks → Type 0
@@ -226,8 +255,8 @@ pub record IsNamed (left : Held) (was is : Told) : Type 0 where
   pub told : Becomes (finding left.journal.number left.journal.bytes was) is
   pub counts : SameCounts was is
 
--- The directory was opened. Workers took what is chosen, or what a range asks for, round by round,
--- and none ended with a fault; the shelf gave forks for them and for the store, and no other. Of a
+-- The directory was opened. Workers took what is chosen, in one round, or what a range asks for,
+-- round by round, and none ended with a fault; the shelf gave forks for them, and no other. Of a
 -- range that was asked for no file was left at its levels. The state left has the board of the one
 -- opened, of which all is left, and so many results were installed between both. The manifest that
 -- was read then is the one that it holds, and what nothing names was removed.
@@ -317,8 +346,8 @@ StopsSweeping Refused Honest board left e was is =
     ⊎ ((fault : StateFault) × (read : Told) × (e ≡ Writer (State fault)) × IsNamed left was read
     × Refuses Refused Honest board left fault read is)
 
--- Workers were done, and nothing or not all was removed, by a state with the board of the one
--- opened, of which all is left.
+-- Workers were done, and of a range that was asked for no file was left at its levels. Nothing or
+-- not all was removed, by a state with the board of the one opened, of which all is left.
 pub record IsUnswept (Refused : Asked → ShelfFault
     → Type 0) (Honest : Type 0) (options : CompactOptions) (e : CompactFault) (was is : Told)
     : Type 0 where
@@ -330,6 +359,7 @@ pub record IsUnswept (Refused : Asked → ShelfFault
   pub ended : Told
   pub worked : Works Refused Honest (IsLeftByWorkers Honest found) was.place found options
       begun ended
+  pub cleared : Clears (IsLeftByWorkers Honest found) found options.range
   pub leaves : LeavesAll Honest found left
   pub stops : StopsSweeping Refused Honest board left e ended is
 

@@ -7,23 +7,21 @@ pub(crate) mod progress;
 pub(crate) mod tally;
 pub(crate) mod torn;
 
-ghost use Rattle.std.specs.Prelude.{◌≡◌, ◌≢◌, ◌⊎◌, ℕ, suc, All, IfErr, IfOk, IsFalse, IsTrue, OnOk};
-ghost use Rattle.std.specs.Prelude.{true, vec_len};
+ghost use Rattle.std.specs.Prelude.{◌≡◌, ◌≢◌, ◌⊎◌, All, IfErr, IfOk, IsFalse, IsTrue, None, OnErr};
+ghost use Rattle.std.specs.Prelude.{OnOk, true, vec_len};
 ghost use Rattle.std.specs.Io.KnownBytes.{Appends, Keeps};
 ghost use Rattle.lsm_shelf.specs.Stored.{Stored};
-ghost use Rattle.lsm_shelf.specs.Told.{Becomes, Forked, NotNamed, forking};
 ghost use Rattle.lsm_slots.specs.Slots.{Looked};
 ghost use Rattle.lsm_state.specs.Held.{Held};
 ghost use Rattle.lsm_store.specs.Compacting.{IsKeptByCompaction, IsSeated};
-ghost use Rattle.lsm_store.specs.Readers.{SeatsPinners};
 ghost use Rattle.lsm_store.specs.Workers.{IsWorkersEnd};
-ghost use Rattle.lsm_store.specs.Working.{AreReturned, given_each};
+ghost use Rattle.lsm_store.specs.Working.{HaveEnded, given_each};
 ghost use Rattle.lsm_opening.specs.Parts.{AreOf, usual};
 ghost use Rattle.lsm_opening.specs.declared.faults.writer_fault.WriterFault.TheVariants.{Write as WriteFault};
-ghost use Rattle.lsm_cmd_compact.specs.Compacting.{AreRounds, Clears, DoesCompact, IsAimed};
+ghost use Rattle.lsm_cmd_compact.specs.Compacting.{Clears, DoesCompact, EndsRounds, IsAimed};
 ghost use Rattle.lsm_cmd_compact.specs.Compacting.{IsClearedBy, IsCompactFault, IsCompacted};
-ghost use Rattle.lsm_cmd_compact.specs.Compacting.{IsFaultlessRound, IsFaultyRound, IsOfManning};
-ghost use Rattle.lsm_cmd_compact.specs.Compacting.{StopsBehindRounds, StopsCompacting};
+ghost use Rattle.lsm_cmd_compact.specs.Compacting.{IsFaultlessRound, IsFaultyRound, IsLeftOver};
+ghost use Rattle.lsm_cmd_compact.specs.Compacting.{IsUnmanned, StopsBehindRounds, StopsCompacting};
 ghost use Rattle.lsm_cmd_compact.specs.Compacting.{StopsWorking, Works};
 ghost use Rattle.lsm_opening.specs.Compactions.{IsSwept, Refuses, installed_text};
 ghost use Rattle.lsm_opening.specs.declared.faults.compact_fault.CompactFault.TheVariants.{Writer as WriterVariant};
@@ -33,12 +31,14 @@ use crate::compacting::job_teller::JobTeller;
 use crate::compacting::progress::{tell_installed, tell_opened, tell_removed};
 use crate::compacting::tally::judge;
 use crate::compacting::torn::refuse_torn;
-use lsm_opening::{CompactFault, NewParts, WriterFault, forks, open, sweep};
+use lsm_opening::{CompactFault, NewParts, WriterFault, open, sweep};
 use lsm_requests::CompactOptions;
 use lsm_slots::Boarded;
 use lsm_state::{State, StateFault};
 use lsm_store::laws::what_was_found_is_kept;
-use lsm_store::{Invariant, ManualCompaction, NoGate, Picks, Returned, Store, run_workers_by};
+use lsm_store::{
+    Invariant, ManualCompaction, NoGate, Picks, Store, WorkerEnd, forks, run_workers_by,
+};
 use lsm_table::{NamedShelf, Shelf, ShelfFault};
 use std::alloc::{AllocError, AllocFailed, Global};
 use std::io::{self, Write};
@@ -57,13 +57,12 @@ fn run_all<N: Boarded, S: Shelf, K: Invariant, R: Threads + Wait + Sync, E: Writ
     picks: &Picks,
     progress: bool,
     err: &mut E,
-) -> Result<Vec<Returned<N, S>>, AllocFailed<Vec<NamedShelf<N, S>>>>
+) -> Result<Vec<WorkerEnd>, AllocFailed<Vec<NamedShelf<N, S>>>>
     requires kept { IsKeptByCompaction S.honest K.keeps }
     ensures len { IfOk result (λ v. vec_len v ≡ vec_len shelves) }
-    ensures ends { IfOk result (λ v. All (λ r. IsWorkersEnd S.honest r.0) v.items) }
-    ensures returned { IfOk result (λ v.
-        AreReturned S.honest (S.refuses N.place) K.keeps (given_each picks.now true shelves.items)
-        v.items) }
+    ensures ends { IfOk result (λ v. All (IsWorkersEnd S.honest) v.items) }
+    ensures ended { IfOk result (λ v. HaveEnded S.honest (S.refuses N.place) K.keeps
+        (given_each picks.now true shelves.items) v.items) }
     ensures quiet { IsFalse progress → Keeps (E.contents err.old) (E.contents err.new) }
 {
     if progress {
@@ -87,7 +86,7 @@ fn take_round<N: Boarded, S: Shelf, K: Invariant, R: Threads + Wait + Sync, E: W
     requires kept { IsKeptByCompaction S.honest K.keeps }
     ensures round { OnOk result (IsFaultlessRound (S.refuses N.place) S.honest K.keeps N.place
         options.now.workers picks.now shelf.old shelf.new) }
-    ensures refused { IfErr result (λ e. (IsOfManning e × Forked shelf.old shelf.new)
+    ensures refused { IfErr result (λ e. IsUnmanned options.now.workers e shelf.old shelf.new
         ⊎ IsFaultyRound (S.refuses N.place) S.honest K.keeps N.place options.now.workers picks.now
         e shelf.old shelf.new) }
     ensures quiet { IsFalse options.now.progress → Keeps (E.contents err.old) (E.contents err.new) }
@@ -96,10 +95,10 @@ fn take_round<N: Boarded, S: Shelf, K: Invariant, R: Threads + Wait + Sync, E: W
         Ok(shelves) => shelves,
         Err(fault) => return Err(CompactFault::of_shelf(fault)),
     };
-    let Ok(returned) = run_all(rt, alloc, store, shelves, picks, options.progress, err) else {
+    let Ok(ends) = run_all(rt, alloc, store, shelves, picks, options.progress, err) else {
         return Err(CompactFault::of_shelf(ShelfFault::OutOfMemory));
     };
-    judge(&returned)?;
+    judge(&ends)?;
     Ok(())
 }
 
@@ -110,7 +109,8 @@ fn is_cleared<N: Boarded, S: Shelf, K: Invariant, R: Wait>(
     store: &Store<N, S, K>,
     picks: &Picks,
 ) -> bool
-    ensures { IsTrue result → IsClearedBy K.keeps picks.now }
+    ensures cleared { IsTrue result → IsClearedBy K.keeps picks.now }
+    ensures more { IsFalse result → IsLeftOver K.keeps picks.now }
 {
     match picks {
         Picks::Manual(manual) => manual.is_done(&store.lock(rt).state),
@@ -119,7 +119,8 @@ fn is_cleared<N: Boarded, S: Shelf, K: Invariant, R: Wait>(
 }
 
 /// Rounds of workers of a store, in none of which one ends with a fault, until no file of a range
-/// that is picked is left at its levels: one round at least, each with new forks of the shelf.
+/// that is picked is left at its levels: one round at least, and just one where no range is; each
+/// with new forks of the shelf.
 fn clear<N: Boarded, S: Shelf, K: Invariant, R: Threads + Wait + Sync, E: Write + Send>(
     rt: &R,
     alloc: Global,
@@ -130,8 +131,8 @@ fn clear<N: Boarded, S: Shelf, K: Invariant, R: Threads + Wait + Sync, E: Write 
     err: &mut E,
 ) -> Result<(), CompactFault>
     requires kept { IsKeptByCompaction S.honest K.keeps }
-    ensures rounds { OnOk result ((more : ℕ) × AreRounds (S.refuses N.place) S.honest K.keeps
-        N.place options.now.workers picks.now (suc more) shelf.old shelf.new) }
+    ensures rounds { OnOk result (EndsRounds (S.refuses N.place) S.honest K.keeps N.place
+        options.now.workers picks.now shelf.old shelf.new) }
     ensures cleared { OnOk result (IsClearedBy K.keeps picks.now) }
     ensures refused { IfErr result (λ e. StopsBehindRounds (S.refuses N.place) S.honest K.keeps
         N.place options.now.workers picks.now e shelf.old shelf.new) }
@@ -154,7 +155,8 @@ fn aim_of<N: Boarded, S: Shelf>(
     state: &State<N, S>,
     options: &CompactOptions,
 ) -> Result<Picks, AllocError>
-    ensures { IfOk result (IsAimed state.now.slots.version options.now.range) }
+    ensures aimed { IfOk result (IsAimed state.now.slots.version options.now.range) }
+    ensures ranged { OnErr result (options.now.range ≢ None) }
 {
     match &options.range {
         Some(range) => Ok(Picks::Manual(ManualCompaction::of(
@@ -167,31 +169,9 @@ fn aim_of<N: Boarded, S: Shelf>(
     }
 }
 
-/// The store of a state, whose readers are let go, over a fork of the shelf.
-#[tactic(auto, using(lsm_shelf::proofs::CallerLemmas::forked_once, lsm_shelf::proofs::CallerLemmas::forked_same))]
-fn store_of<N: Boarded, S: Shelf, K: Invariant>(
-    alloc: Global,
-    state: State<N, S>,
-    shelf: &mut NamedShelf<N, S>,
-) -> Result<Store<N, S, K>, ShelfFault>
-    requires seats { SeatsPinners state }
-    requires kept { (h : Held) → IsSeated state h → K.keeps h }
-    ensures just { OnOk result (Becomes (forking 1 shelf.old) shelf.new) }
-    ensures told { Forked shelf.old shelf.new }
-    ensures cause { IfErr result NotNamed }
-{
-    let reading = shelf.fork(alloc)?;
-    match Store::new(alloc, state, reading) {
-        Ok((store, _readers)) => Ok(store),
-        Err((_state, _shelf, fault)) => Err(fault),
-    }
-}
-
 /// Lets so many workers compact a state, beside which a lock keeps a fact, until nothing of the
 /// range that is asked for is left, or nothing is due: the state, of which the fact holds, when none
-/// of them ends with a fault. The shelf is asked for a fork for the store, and for one for each
-/// worker of each round.
-#[tactic(auto, using(lsm_shelf::proofs::CallerLemmas::forked_none))]
+/// of them ends with a fault. The shelf is asked for a fork for each worker of each round.
 fn compact_state<N: Boarded, S: Shelf, K: Invariant, R: Threads + Wait + Sync, E: Write + Send>(
     rt: &R,
     alloc: Global,
@@ -200,7 +180,6 @@ fn compact_state<N: Boarded, S: Shelf, K: Invariant, R: Threads + Wait + Sync, E
     options: &CompactOptions,
     err: &mut E,
 ) -> Result<State<N, S>, CompactFault>
-    requires seats { SeatsPinners state }
     requires kept { (h : Held) → IsSeated state h → K.keeps h }
     requires steps { IsKeptByCompaction S.honest K.keeps }
     ensures kept { IfOk result (λ left. ∥ K.keeps left ∥₁) }
@@ -214,10 +193,7 @@ fn compact_state<N: Boarded, S: Shelf, K: Invariant, R: Threads + Wait + Sync, E
     let Ok(picks) = aim_of(alloc, &state, options) else {
         return Err(CompactFault::of_shelf(ShelfFault::OutOfMemory));
     };
-    let store: Store<N, S, K> = match store_of(alloc, state, shelf) {
-        Ok(store) => store,
-        Err(fault) => return Err(CompactFault::of_shelf(fault)),
-    };
+    let store: Store<N, S, K> = Store::of(alloc, state);
     match clear(rt, alloc, &store, shelf, options, &picks, err) {
         Ok(()) => Ok(store.into_state()),
         Err(fault) => Err(fault),

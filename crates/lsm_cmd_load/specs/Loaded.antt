@@ -1,10 +1,10 @@
 -- What a `load` leaves of a database, and why it ends early (this project's rule).
 use Rattle.std.specs.Prelude.{◌≡◌, ◌≢◌, ◌⊎◌, ℕ, ◌+◌, ◌-◌, ◌<◌, ◌^◌, List, [], ◌∷◌, ◌++◌, codes}
-use Rattle.std.specs.Prelude.{decimal, Option}
+use Rattle.std.specs.Prelude.{decimal, IfSome, Option}
 use Rattle.std.specs.Io.KnownBytes.{Appends, Keeps}
 use Rattle.atomic_table.specs.Seated.{TableId}
 use Rattle.lsm_shelf.specs.Asked.{Asked}
-use Rattle.lsm_shelf.specs.Told.{Forked, Place, Told}
+use Rattle.lsm_shelf.specs.Told.{Place, Told, fork_at}
 use Rattle.lsm_shelf.specs.declared.shelf_fault.ShelfFault.{ShelfFault}
 use Rattle.lsm_slots.specs.Slots.{Looked}
 use Rattle.lsm_state.specs.Held.{Held, IsLawfulState}
@@ -21,8 +21,8 @@ use Rattle.lsm_opening.specs.declared.prepared.Start.{Start}
 use Rattle.lsm_store.specs.declared.worker_end.WorkerEnd.{WorkerEnd}
 use Rattle.lsm_bulk_load.specs.Ending.{IsIdle, IsLooked, ReservesNone}
 use Rattle.lsm_bulk_load.specs.Keeping.{HasComeTo, IsKeptSince, IsOfLines}
-use Rattle.lsm_bulk_load.specs.Loading.{ForkedTimes, HaveEndedWell, HaveWorkedBeside, IsLoaded}
-use Rattle.lsm_bulk_load.specs.Loading.{IsUnloaded}
+use Rattle.lsm_bulk_load.specs.Loading.{GivesForks, HaveEndedWell, HaveWorkedBeside, IsForkedFor}
+use Rattle.lsm_bulk_load.specs.Loading.{IsLoaded, IsToldOfBatches, IsUnloaded}
 use Rattle.lsm_bulk_load.specs.Marks.{marked_in}
 use Rattle.lsm_bulk_load.specs.declared.load_fault.LoadFault.{LoadFault}
 use Rattle.lsm_bulk_load.specs.declared.progress.Progress.{Progress}
@@ -40,17 +40,26 @@ loaded_text p = codes "loaded "
 abbrev pub HasComeBy : (Asked → ShelfFault → Type 0) → Type 0 → Pending → (found h : Held) → Type 0
 HasComeBy Refused Honest pending found h = HasComeTo Refused Honest (IsOfLines pending) found h
 
--- So many workers ended so, beside which the lock kept since the state was found that it came from
--- this by steps of workers and by ingests of lines that were to come.
+-- So many workers ended so, each over a fork of these contents, the next ones behind this number.
+-- The lock kept beside them that since the state was found it came from this by steps of workers
+-- and by ingests of lines that were to come.
 abbrev pub AreOfLoad : (Asked → ShelfFault → Type 0) → Type 0 → Pending → (found : Held) → Place
-    → (workers : ℕ) → List WorkerEnd → Type 0
-AreOfLoad Refused Honest pending found place workers ends = HaveWorkedBeside Honest Refused
-    (IsKeptSince (HasComeBy Refused Honest pending found) (marked_in found)) place workers ends
+    → (number workers : ℕ) → List WorkerEnd → Type 0
+AreOfLoad Refused Honest pending found place number workers ends = HaveWorkedBeside Honest Refused
+    (IsKeptSince (HasComeBy Refused Honest pending found) (marked_in found)) place number workers
+    ends
+
+-- The fork of these contents with this number was told just what ingests of batches of lines that
+-- were to come tell it, each where the state came so.
+abbrev pub IsOfLoad : (Asked → ShelfFault → Type 0) → Type 0 → Pending → (found : Held) → Place
+    → (number : ℕ) → Told → Type 0
+IsOfLoad Refused Honest pending found place number own = IsToldOfBatches Refused
+    (HasComeBy Refused Honest pending found) (IsOfLines pending) (fork_at place number) own
 
 -- The directory was begun or opened, and all lines that were to come came into it, so many; over an
--- honest shelf nothing was due behind them. After the opening the shelf was asked for forks alone:
--- one for each of so many workers, of which none ended early, one for the batches, and one for the
--- store. Of the state behind the lines no more changed then than slots that were looked at, live
+-- honest shelf nothing was due behind them. After the opening the shelf gave forks, and nothing
+-- else was asked of it: one for each of so many workers, of which none ended early, and one for the
+-- batches. Of the state behind the lines no more changed then than slots that were looked at, live
 -- jobs, of which none is new, and the next ticket.
 pub record LoadsAll (Refused : Asked → ShelfFault
     → Type 0) (Honest : Type 0) (start : Start) (logs : List FolderFile) (workers : ℕ) (pending
@@ -66,8 +75,10 @@ pub record LoadsAll (Refused : Asked → ShelfFault
   pub none : ReservesNone behind left
   pub loaded : IsLoaded pending (marked_in found) (marked_in left) p
   pub idle : Honest → IsIdle left
-  pub forked : ForkedTimes (workers + 2) mid is
-  pub worked : HaveEndedWell (AreOfLoad Refused Honest pending found was.place workers)
+  pub forked : GivesForks (workers + 1) mid is
+  pub worked : HaveEndedWell (AreOfLoad Refused Honest pending found was.place mid.forks workers)
+  pub own : Told
+  pub told : IsOfLoad Refused Honest pending found was.place (mid.forks + workers + 1) own
 
 -- ... and what the state behind them does not keep was removed.
 pub record LoadsWhole (Refused : Asked → ShelfFault
@@ -90,7 +101,8 @@ IsLoadDone Refused Honest start logs workers pending was is old new =
 
 -- The directory was begun or opened; just so much came into it, which is in the lawful state that
 -- was left, and this fault kept the others out, or what was due from being compacted. Whatever the
--- fault is, nothing came in that no line spells.
+-- fault is, nothing came in that no line spells. The fork for the batches is gone where no worker
+-- began.
 pub record StopsLoading (Refused : Asked → ShelfFault
     → Type 0) (Honest : Type 0) (start : Start) (logs : List FolderFile) (workers : ℕ) (pending
     : Pending) (p : Progress) (fault : LoadFault) (was is : Told) : Type 0 where
@@ -104,9 +116,13 @@ pub record StopsLoading (Refused : Asked → ShelfFault
   pub come : ∥ HasComeBy Refused Honest pending found behind ∥₁
   pub looked : IsLooked behind left
   pub none : ReservesNone behind left
-  pub unloaded : IsUnloaded Refused (AreOfLoad Refused Honest pending found was.place workers)
+  pub unloaded : IsUnloaded Refused
+      (AreOfLoad Refused Honest pending found was.place mid.forks workers)
       (HasComeBy Refused Honest pending found) pending (marked_in found) (marked_in left) p fault
-  pub forked : Forked mid is
+  pub forked : IsForkedFor (workers + 1) fault mid is
+  pub own : Option Told
+  pub told : IfSome own
+      (IsOfLoad Refused Honest pending found was.place (mid.forks + workers + 1))
 
 -- All lines came in, and the collect behind them was refused.
 pub record IsUnswept (Refused : Asked → ShelfFault

@@ -81,6 +81,7 @@ where
         done,
         progress,
         state,
+        ..
     } = load_beside::<N, S, Brand, R, I, T>(
         rt,
         alloc,

@@ -1,10 +1,10 @@
 -- A conversation beside workers.
-use Rattle.std.proofs.Common.{◌≡◌, ◌≤◌, ◌+◌, ℕ, Bool, List, All, length, replicate, Option, None, IfErr, OnOk, sym, subst, inl, inr}
+use Rattle.std.proofs.Common.{◌≡◌, ◌≤◌, ◌+◌, ℕ, Bool, List, All, length, Option, None, IfErr, OnOk, sym, subst, inl, inr}
 use Rattle.std.specs.Prelude.{Result, Ok, Err}
 use Rattle.lsm_codec.specs.Entries.{Entry}
 use Rattle.lsm_shelf.specs.Asked.{Asked}
 use Rattle.lsm_shelf.specs.Place.{Place}
-use Rattle.lsm_shelf.specs.Told.{Told, fresh}
+use Rattle.lsm_shelf.specs.Told.{Told, fork_at, forks_behind}
 use Rattle.lsm_shelf.specs.declared.shelf_fault.ShelfFault.{ShelfFault}
 use Rattle.lsm_history.specs.History.{IsLater}
 use Rattle.lsm_model.specs.Runs.{ReadsAs}
@@ -12,16 +12,15 @@ use Rattle.lsm_state.specs.Held.{Held, plain}
 use Rattle.lsm_text.specs.declared.form.Form.{Form}
 use Rattle.lsm_directory.specs.declared.folder.folder_file.FolderFile.{FolderFile}
 use Rattle.lsm_script.specs.Steps.{OnDesk, clear}
-use Rattle.lsm_store.specs.Sweeping.{LastForkedTwice}
 use Rattle.lsm_store.specs.Workers.{IsWorkersEnd}
 use Rattle.lsm_store.specs.Working.{HaveEndedBeside}
 use Rattle.lsm_store.specs.declared.worker_end.WorkerEnd.{WorkerEnd}
 use Rattle.lsm_bulk_load.specs.Ending.{IsFaultless}
-use Rattle.lsm_bulk_load.specs.Loading.{ForkedTimes, HaveWorkedBeside}
+use Rattle.lsm_bulk_load.specs.Loading.{GivesForks, HaveWorkedBeside}
 use Rattle.lsm_opening.specs.Starting.{IsStarted}
 use Rattle.lsm_opening.specs.declared.prepared.Start.{Start}
 use Rattle.lsm_cmd_shell.specs.Beside.{IsLent, IsTalkedBeside, waiting}
-use Rattle.lsm_cmd_shell.specs.Conversing.{ConversesBeside, IsBesideFault, IsConversedBeside, IsForking, IsOfEnds, IsUnmanned}
+use Rattle.lsm_cmd_shell.specs.Conversing.{ConversesBeside, IsBesideFault, IsConversedBeside, IsOfEnds}
 use Rattle.lsm_cmd_shell.specs.Keeping.{HasComeTo}
 use Rattle.lsm_cmd_shell.specs.declared.shell_fault.ShellFault.{ShellFault}
 use Rattle.lsm_cmd_shell.specs.declared.talk_fault.TalkFault.{TalkFault}
@@ -30,31 +29,32 @@ use Rattle.lsm_cmd_shell.specs.declared.talk_fault.TalkFault.{TalkFault}
 pub lent : (honest : Type 0) (known : List Entry) (h k : Held) → k ≡ h → IsLater h.history known → (honest → ReadsAs (plain k) k.history) → IsLent honest known h
 lent honest known h k same later reads = record { later = later; reads = subst (λ (x : Held). honest → ReadsAs (plain x) x.history) same reads }
 
--- the forks of workers are new ones
-pub worked_beside : (honest : Type 0) (Refused : Asked → ShelfFault → Type 0) (keeps : Held → Type 0) (place : Place) (workers : ℕ) (shelves : List Told) (ends : List WorkerEnd) → shelves ≡ replicate workers (fresh place)
-    → (lent : List Told) × LastForkedTwice shelves lent × HaveEndedBeside honest Refused keeps lent (fresh place) ends → HaveWorkedBeside honest Refused keeps place workers ends
-worked_beside honest Refused keeps place workers shelves ends new (lent, forked, ended) = (lent, subst (λ (ts : List Told). LastForkedTwice ts lent) new forked, ended)
+-- the shelves of workers are the next forks
+pub worked_beside : (honest : Type 0) (Refused : Asked → ShelfFault → Type 0) (keeps : Held → Type 0) (place : Place) (number workers : ℕ) (shelves : List Told) (ends : List WorkerEnd) → shelves ≡ forks_behind place number workers
+    → HaveEndedBeside honest Refused keeps shelves ends → HaveWorkedBeside honest Refused keeps place number workers ends
+worked_beside honest Refused keeps place number workers shelves ends new ended = subst (λ (ts : List Told). HaveEndedBeside honest Refused keeps ts ends) new ended
 
 pub conversed : (Refused : Asked → ShelfFault → Type 0) (honest : Type 0) (start : Start) (logs : List FolderFile) (form : Form) (bails : Bool) (workers : ℕ) (input : Option (List ℕ)) (r : Result (Unit {0}) TalkFault) (ends items : List WorkerEnd)
-    (was mid is : Told) (old : Option (List ℕ)) (state left : Held) (desk : OnDesk) (place : Place) → was.place ≡ place → IsStarted honest start logs state was mid → ForkedTimes (workers + 2) mid is → desk ≡ clear
-    → IsTalkedBeside honest (HasComeTo honest form input state) form bails input r (waiting state.history (fresh place) desk None) old → ∥ HasComeTo honest form input state left ∥₁ → ends ≡ items → (workers ≤ length ends) × (length ends ≤ workers + 1)
-    → All (IsWorkersEnd honest) items → HaveWorkedBeside honest Refused (HasComeTo honest form input state) place workers items
+    (was mid is own : Told) (old : Option (List ℕ)) (state left : Held) (desk : OnDesk) (place : Place) → was.place ≡ place → IsStarted honest start logs state was mid → GivesForks (workers + 1) mid is → desk ≡ clear
+    → IsTalkedBeside honest (HasComeTo honest form input state) form bails input r (waiting state.history (fork_at place (mid.forks + workers + 1)) desk None) own old → ∥ HasComeTo honest form input state left ∥₁ → ends ≡ items → (workers ≤ length ends) × (length ends ≤ workers + 1)
+    → All (IsWorkersEnd honest) items → HaveWorkedBeside honest Refused (HasComeTo honest form input state) place mid.forks workers items
     → ConversesBeside Refused honest start logs form bails workers input r ends was is old
-conversed Refused honest start logs form bails workers input r ends items was mid is old state left desk place here started forked desk_is talk come same count each worked = record {
+conversed Refused honest start logs form bails workers input r ends items was mid is own old state left desk place here started forked desk_is talk come same count each worked = record {
   state = state;
   mid = mid;
   started = started;
   forked = forked;
+  own = own;
   talk =
-      subst (λ (p : Place). IsTalkedBeside honest (HasComeTo honest form input state) form bails input r (waiting state.history (fresh p) clear None) old) (sym here)
-      (subst (λ (d : OnDesk). IsTalkedBeside honest (HasComeTo honest form input state) form bails input r (waiting state.history (fresh place) d None) old) desk_is talk);
+      subst (λ (p : Place). IsTalkedBeside honest (HasComeTo honest form input state) form bails input r (waiting state.history (fork_at p (mid.forks + workers + 1)) clear None) own old) (sym here)
+      (subst (λ (d : OnDesk). IsTalkedBeside honest (HasComeTo honest form input state) form bails input r (waiting state.history (fork_at place (mid.forks + workers + 1)) d None) own old) desk_is talk);
   left = left;
   come = come;
   count = count;
   each = subst (λ (es : List WorkerEnd). All (IsWorkersEnd honest) es) (sym same) each;
   worked =
-      subst (λ (p : Place). HaveWorkedBeside honest Refused (HasComeTo honest form input state) p workers ends) (sym here)
-      (subst (λ (es : List WorkerEnd). HaveWorkedBeside honest Refused (HasComeTo honest form input state) place workers es) (sym same) worked);
+      subst (λ (p : Place). HaveWorkedBeside honest Refused (HasComeTo honest form input state) p mid.forks workers ends) (sym here)
+      (subst (λ (es : List WorkerEnd). HaveWorkedBeside honest Refused (HasComeTo honest form input state) place mid.forks workers es) (sym same) worked);
 }
 
 -- how that is judged
@@ -70,12 +70,6 @@ pub judged_fault : (Stored : ℕ → List ℕ → Type 0) (Refused : Asked → S
     → IfErr done (IsOfEnds r ends) → IfErr done (λ e. IsBesideFault Stored Refused honest start logs form bails workers input e was is old new)
 judged_fault Stored Refused honest start logs form bails workers input r ends was is old new (Ok x) c judged = tt
 judged_fault Stored Refused honest start logs form bails workers input r ends was is old new (Err e) c judged = inr (inr (inr (r, ends, judged, c)))
-
--- no worker began
-pub unmanned : (Stored : ℕ → List ℕ → Type 0) (Refused : Asked → ShelfFault → Type 0) (honest : Type 0) (start : Start) (logs : List FolderFile) (form : Form) (bails : Bool) (workers : ℕ) (input : Option (List ℕ))
-    (e : ShellFault) (was is : Told) (old new : Option (List ℕ)) → IsForking honest start logs was is → IsUnmanned e old new → IsBesideFault Stored Refused honest start logs form bails workers input e was is old new
-unmanned Stored Refused honest start logs form bails workers input e was is old new forking (inl (fault, cause, named, kept)) = inl (inr (fault, cause, named, forking), kept)
-unmanned Stored Refused honest start logs form bails workers input e was is old new forking (inr spent) = inr (inr (inl (spent, forking)))
 
 -- the same said of equal things
 pub fault_same : (Stored : ℕ → List ℕ → Type 0) (Refused : Asked → ShelfFault → Type 0) (honest : Type 0) (start : Start) (logs : List FolderFile) (form : Form) (bails : Bool) (workers : ℕ) (i j : Option (List ℕ))

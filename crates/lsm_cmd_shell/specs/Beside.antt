@@ -1,6 +1,6 @@
 -- A conversation beside workers (this project's rule): a store lends its state for each turn, and
 -- workers compact between two of them.
-use Rattle.std.specs.Prelude.{◌≡◌, ℕ, Bool, List, Option, Result}
+use Rattle.std.specs.Prelude.{◌≡◌, ℕ, Bool, List, Option, None, Result}
 use Rattle.lsm_codec.specs.Entries.{Entry}
 use Rattle.lsm_history.specs.History.{IsLater}
 use Rattle.lsm_model.specs.Runs.{ReadsAs}
@@ -54,9 +54,9 @@ IsTalkBeside honest keeps form bails input r s t old new =
     × IsTalkOf (IsRepliedBeside honest keeps form) bails input r begun s
     (record t { begun = begun }) old new
 
--- So it was, and it was said of an output that had this much.
+-- So it was; in the end its shelf was told this; and it was said of an output that had this much.
 abbrev pub IsTalkedBeside : Type 0 → (Held → Type 0) → Form → (bails : Bool) → Option (List ℕ)
-    → Result (Unit {0}) TalkFault → Waiting → Option (List ℕ) → Type 0
-IsTalkedBeside honest keeps form bails input r s old =
-    (t : Waiting) × (new : Option (List ℕ))
-    × IsTalkBeside honest keeps form bails input r s t old new
+    → Result (Unit {0}) TalkFault → Waiting → Told → Option (List ℕ) → Type 0
+IsTalkedBeside honest keeps form bails input r s is old =
+    (known : List Entry) × (desk : OnDesk) × (new : Option (List ℕ))
+    × IsTalkBeside honest keeps form bails input r s (waiting known is desk None) old new

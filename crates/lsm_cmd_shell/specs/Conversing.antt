@@ -3,7 +3,7 @@ use Rattle.std.specs.Prelude.{◌≡◌, ◌≤◌, ◌⊎◌, ℕ, ◌+◌, Boo
 use Rattle.std.specs.Prelude.{Result, Ok, Err}
 use Rattle.std.specs.Io.KnownBytes.{Keeps}
 use Rattle.lsm_shelf.specs.Asked.{Asked}
-use Rattle.lsm_shelf.specs.Told.{Forked, NotNamed, Told, fresh}
+use Rattle.lsm_shelf.specs.Told.{NotNamed, Told, fork_at}
 use Rattle.lsm_shelf.specs.declared.shelf_fault.ShelfFault.{ShelfFault}
 use Rattle.lsm_state.specs.Held.{Held}
 use Rattle.lsm_text.specs.declared.form.Form.{Form}
@@ -13,7 +13,7 @@ use Rattle.lsm_store.specs.Workers.{IsWorkersEnd}
 use Rattle.lsm_store.specs.declared.worker_end.WorkerEnd.{WorkerEnd}
 use Rattle.lsm_store.specs.declared.worker_fault.WorkerFault.{WorkerFault}
 use Rattle.lsm_bulk_load.specs.Ending.{IsFaultless, IsFirstFault}
-use Rattle.lsm_bulk_load.specs.Loading.{ForkedTimes, HaveWorkedBeside}
+use Rattle.lsm_bulk_load.specs.Loading.{GivesForks, HaveWorkedBeside, RefusesFork}
 use Rattle.lsm_opening.specs.Starting.{IsStartRefusal, IsStarted}
 use Rattle.lsm_opening.specs.WriterFault.{of_shelf}
 use Rattle.lsm_opening.specs.declared.faults.compact_fault.CompactFault.TheVariants.{Writer, Worker}
@@ -72,13 +72,14 @@ IsConverseFault Stored Refused honest start logs form bails input e was is old n
 
 -- ---- beside workers
 
--- The directory was begun or opened, and its shelf gave forks: one for each worker, one for the
--- conversation and one for the store. By one of them, to which nothing was told before, a
--- conversation went on with its state, and ended so, while so many workers compacted, and one more
--- gathered where it could be had, which ended so. Whenever the state was lent, and when it was
--- left, it had come from the one that was begun or opened by steps of workers and by replies to
--- lines of the input alone. It was said of an output that had this much; that it is the caller's is
--- to be read.
+-- The directory was begun or opened, and its shelf gave forks: one for each worker, and one for the
+-- conversation. By this one, which was told no more, a conversation went on with its state, and
+-- ended so, while so many workers compacted by the others, and one more gathered where it could be
+-- had, which ended so.
+-- Whenever the state was lent, it had come from the one that was begun or opened by steps of
+-- workers and by replies to lines of the input alone; and so had the one that the store had in the
+-- end, of which no more is said. It was said of an output that had this much; that it is the
+-- caller's is to be read.
 pub record ConversesBeside (Refused : Asked → ShelfFault
     → Type 0) (honest : Type 0) (start : Start) (logs : List FolderFile) (form : Form)
     (bails : Bool) (workers : ℕ) (input : Option (List ℕ)) (r : Result (Unit {0}) TalkFault)
@@ -86,15 +87,16 @@ pub record ConversesBeside (Refused : Asked → ShelfFault
   pub state : Held
   pub mid : Told
   pub started : IsStarted honest start logs state was mid
-  pub forked : ForkedTimes (workers + 2) mid is
+  pub forked : GivesForks (workers + 1) mid is
+  pub own : Told
   pub talk : IsTalkedBeside honest (HasComeTo honest form input state) form bails input r
-      (waiting state.history (fresh was.place) clear None) old
+      (waiting state.history (fork_at was.place (mid.forks + workers + 1)) clear None) own old
   pub left : Held
   pub come : ∥ HasComeTo honest form input state left ∥₁
   pub count : (workers ≤ length ends) × (length ends ≤ workers + 1)
   pub each : All (IsWorkersEnd honest) ends
   pub worked : HaveWorkedBeside honest Refused (HasComeTo honest form input state) was.place
-      workers ends
+      mid.forks workers ends
 
 -- It ended well, and no worker ended early.
 abbrev pub IsConversedBeside : (Asked → ShelfFault → Type 0) → Type 0 → Start → List FolderFile
@@ -121,37 +123,28 @@ IsOfEnds (Err talk.Write) ends e = e ≡ of_talk talk.Write
 IsOfEnds (Err talk.LineFailed) ends e = IsWorkerOr LineFailed ends e
 IsOfEnds (Err talk.BatchOpen) ends e = IsWorkerOr BatchOpen ends e
 
--- the directory was begun or opened, and then its shelf was asked for forks alone
-abbrev pub IsForking : Type 0 → Start → List FolderFile → Told → Told → Type 0
-IsForking honest start logs was is =
-    (h : Held) × (mid : Told) × IsStarted honest start logs h was mid × Forked mid is
+-- No worker began: the shelf refused a fork with this, was asked for no other, and nothing was
+-- said; or it gave all of them, and there was no memory for workers.
+abbrev pub IsUnmanned : (workers : ℕ) → ShellFault → Told → Told → Option (List ℕ)
+    → Option (List ℕ) → Type 0
+IsUnmanned workers e was is old new =
+    ((fault : ShelfFault) × NotNamed fault × (e ≡ Run (Writer (of_shelf fault)))
+    × RefusesFork (workers + 1) fault was is × Keeps old new)
+    ⊎ ((e ≡ spent) × GivesForks (workers + 1) was is)
 
--- Memory ran out before that or behind it; or behind it the shelf gave no fork, or a store could
--- not be made.
-abbrev pub IsUnforked : Type 0 → Start → List FolderFile → ShellFault → Told → Told → Type 0
-IsUnforked honest start logs e was is =
-    ((e ≡ spent) × ((is ≡ was) ⊎ IsForking honest start logs was is))
-    ⊎ ((fault : ShelfFault) × NotNamed fault × (e ≡ Run (Writer (of_shelf fault)))
-    × IsForking honest start logs was is)
-
--- No worker began: the shelf gave no fork, or a store could not be made, and nothing was said; or
--- there was no memory for workers.
-abbrev pub IsUnmanned : ShellFault → Option (List ℕ) → Option (List ℕ) → Type 0
-IsUnmanned e old new =
-    ((fault : ShelfFault) × NotNamed fault × (e ≡ Run (Writer (of_shelf fault))) × Keeps old new)
-    ⊎ (e ≡ spent)
-
--- Why a conversation beside workers did not come to such an end. Nothing was said: memory ran out,
--- or the shelf gave no fork; or the directory was not begun or opened. Or there was no memory for
--- workers. Or it ended so.
+-- Why a conversation beside workers did not come to such an end. Memory ran out before the shelf
+-- was asked for a fork, and nothing was said; the directory was not begun or opened; it was, and no
+-- worker began; or it ended so.
 abbrev pub IsBesideFault : (ℕ → List ℕ → Type 0) → (Asked → ShelfFault → Type 0) → Type 0 → Start
     → List FolderFile → Form → (bails : Bool) → (workers : ℕ) → Option (List ℕ) → ShellFault → Told
     → Told → Option (List ℕ) → Option (List ℕ) → Type 0
 IsBesideFault Stored Refused honest start logs form bails workers input e was is old new =
-    (IsUnforked honest start logs e was is × Keeps old new)
+    ((e ≡ spent) × Keeps old new
+    × ((is ≡ was) ⊎ ((h : Held) × IsStarted honest start logs h was is)))
     ⊎ (((fault : WriterFault) × (e ≡ Run (Writer fault))
     × IsStartRefusal Stored Refused honest start logs fault was is × Keeps old new)
-    ⊎ (((e ≡ spent) × IsForking honest start logs was is)
+    ⊎ (((h : Held) × (mid : Told) × IsStarted honest start logs h was mid
+    × IsUnmanned workers e mid is old new)
     ⊎ ((r : Result (Unit {0}) TalkFault) × (ends : List WorkerEnd) × IsOfEnds r ends e
     × ConversesBeside Refused honest start logs form bails workers input r ends was is old)))
 

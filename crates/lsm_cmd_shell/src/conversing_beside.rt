@@ -1,25 +1,22 @@
 //! A conversation with the database on a shelf, while workers compact beside.
 
-ghost use Rattle.std.specs.Prelude.{◌≡◌, ◌+◌, ◌≤◌, All, List, IfErr, IfNone, IfOk, IfSome, None};
-ghost use Rattle.std.specs.Prelude.{Ok, OnOk, replicate, vec_len};
+ghost use Rattle.std.specs.Prelude.{◌≡◌, ◌+◌, ◌≤◌, All, IfErr, IfNone, IfOk, IfSome, None, Ok};
+ghost use Rattle.std.specs.Prelude.{OnOk, vec_len};
 ghost use Rattle.lsm_shelf.specs.Stored.{Stored};
-ghost use Rattle.lsm_shelf.specs.Told.{Forked, Told, fresh};
+ghost use Rattle.lsm_shelf.specs.Told.{fork_at};
 ghost use Rattle.lsm_state.specs.Held.{Held};
 ghost use Rattle.lsm_store.specs.Compacting.{IsKeptByCompaction, IsSeated};
-ghost use Rattle.lsm_store.specs.Readers.{SeatsPinners};
-ghost use Rattle.lsm_store.specs.Sweeping.{LastForkedTwice};
 ghost use Rattle.lsm_store.specs.Workers.{IsWorkersEnd};
 ghost use Rattle.lsm_store.specs.Working.{HaveEndedBeside};
 ghost use Rattle.lsm_opening.specs.Parts.{AreOf, usual};
 ghost use Rattle.lsm_cmd_shell.specs.Beside.{IsTalkedBeside, waiting};
 ghost use Rattle.lsm_bulk_load.specs.Ending.{IsFaultless, IsFirstFault};
-ghost use Rattle.lsm_bulk_load.specs.Loading.{ForkedTimes, HaveWorkedBeside};
+ghost use Rattle.lsm_bulk_load.specs.Loading.{GivesForks, HaveWorkedBeside};
 ghost use Rattle.lsm_cmd_shell.specs.Conversing.{IsBesideFault, IsConversedBeside, IsOfEnds};
 ghost use Rattle.lsm_cmd_shell.specs.Conversing.{IsUnmanned, IsWorkerOr};
 ghost use Rattle.lsm_cmd_shell.specs.Keeping.{IsKeptByReplies};
 
 use crate::beside::talk_beside;
-use crate::crew::Crew;
 use crate::shell_fault::ShellFault;
 use crate::talk_fault::TalkFault;
 use lsm_folder::Reasons;
@@ -29,7 +26,9 @@ use lsm_opening::{CompactFault, NewParts, Prepared, WriterFault, start};
 use lsm_script::Desk;
 use lsm_slots::Boarded;
 use lsm_state::State;
-use lsm_store::{Background, Invariant, NoGate, Store, WorkerEnd, WorkerFault, with_workers};
+use lsm_store::{
+    Background, Invariant, NoGate, Shelves, Store, WorkerEnd, WorkerFault, with_workers,
+};
 use lsm_table::{NamedShelf, Shelf};
 use lsm_text::Form;
 use std::alloc::Global;
@@ -38,12 +37,13 @@ use std::marker::Brand;
 use std::sync::Wait;
 use std::thread::Threads;
 
-/// How a conversation ended, and how its workers did.
-type Ended = (Result<(), TalkFault>, Vec<WorkerEnd>);
+/// How a conversation ended, and its shelf; and how its workers did.
+type Ended<N, S> = ((Result<(), TalkFault>, NamedShelf<N, S>), Vec<WorkerEnd>);
 
 /// Replies to lines on the state of a store, while a worker for each shelf compacts: how that
-/// ended, and the workers' ends. None where there was no memory for the workers; then no line was
-/// read. The fact of the lock is one that workers keep, and each reply to a line of the input.
+/// ended, with the shelf of the replies, and the workers' ends. None where there was no memory for
+/// the workers; then no line was read. The fact of the lock is one that workers keep, and each
+/// reply to a line of the input.
 ///
 /// What is said is said of an output that begins as this one does. The toolchain tells nothing of
 /// what a closure that is handed on leaves of what it borrowed.
@@ -60,7 +60,7 @@ fn talk_in_store<N, S, K, R, I, O>(
     reasons: Option<&Reasons>,
     lines: LineReader<I>,
     out: &mut O,
-) -> Option<Ended>
+) -> Option<Ended<N, S>>
 where
     N: Boarded,
     S: Shelf,
@@ -70,13 +70,13 @@ where
     O: Write,
     requires workers { IsKeptByCompaction S.honest K.keeps }
     requires asked { IsKeptByReplies S.honest form lines.left K.keeps }
-    ensures talked { IfSome result (λ r. IsTalkedBeside S.honest K.keeps form bails lines.left r.0
-        (waiting memory own desk None) (O.contents out.old)) }
+    ensures talked { IfSome result (λ r. IsTalkedBeside S.honest K.keeps form bails lines.left
+        r.0.0 (waiting memory own desk None) r.0.1 (O.contents out.old)) }
     ensures count { IfSome result (λ r. (vec_len shelves ≤ vec_len r.1)
         × (vec_len r.1 ≤ vec_len shelves + 1)) }
     ensures ends { IfSome result (λ r. All (IsWorkersEnd S.honest) r.1.items) }
-    ensures ended { IfSome result (λ r. (lent : List Told) × LastForkedTwice shelves.items lent
-        × HaveEndedBeside S.honest (S.refuses N.place) K.keeps lent (fresh N.place) r.1.items) }
+    ensures ended { IfSome result (λ r. HaveEndedBeside S.honest (S.refuses N.place) K.keeps
+        shelves.items r.1.items) }
 {
     let told = &mut *out;
     let run = with_workers(
@@ -85,16 +85,16 @@ where
         store,
         shelves,
         &NoGate,
-        move |background: &Background| -> Result<(), TalkFault>
+        move |background: &Background| -> (Result<(), TalkFault>, NamedShelf<N, S>)
             requires asked { IsKeptByReplies S.honest form lines.left K.keeps }
-            ensures { IsTalkedBeside S.honest K.keeps form bails lines.left result
-                (waiting memory own desk None) (O.contents told.entry.now) }
+            ensures { IsTalkedBeside S.honest K.keeps form bails lines.left result.0
+                (waiting memory own desk None) result.1 (O.contents told.entry.now) }
         {
             let mut memory = memory;
             let mut desk = desk;
             let mut own = own;
             let mut lines = lines;
-            talk_beside(
+            let talked = talk_beside(
                 rt,
                 alloc,
                 store,
@@ -107,7 +107,8 @@ where
                 reasons,
                 &mut lines,
                 told,
-            )
+            );
+            (talked, own)
         },
     );
     match run {
@@ -167,8 +168,9 @@ fn judge(talked: Result<(), TalkFault>, ends: &[WorkerEnd]) -> Result<(), ShellF
 }
 
 /// Puts a state behind a lock that keeps a fact, and replies to lines on it while so many workers
-/// compact: how that ended, and the state, of which the fact holds. The shelf is asked for forks
-/// alone: one for each worker, one for the conversation and one for the store.
+/// compact: how that ended, with the shelf of the replies, and the state, of which the fact holds.
+/// The shelf is asked for forks alone: one for each worker, and one for the conversation; once one
+/// is refused, for no other.
 fn converse_on<N, S, K, R, I, O>(
     rt: &R,
     alloc: Global,
@@ -181,7 +183,7 @@ fn converse_on<N, S, K, R, I, O>(
     reasons: Option<&Reasons>,
     lines: LineReader<I>,
     out: &mut O,
-) -> Result<(Ended, State<N, S>), ShellFault>
+) -> Result<(Ended<N, S>, State<N, S>), ShellFault>
 where
     N: Boarded,
     S: Shelf,
@@ -189,34 +191,30 @@ where
     R: Threads + Wait + Sync,
     I: Read + Drop,
     O: Write,
-    requires seats { SeatsPinners state }
     requires found { (h : Held) → IsSeated state h → K.keeps h }
     requires workers { IsKeptByCompaction S.honest K.keeps }
     requires asked { IsKeptByReplies S.honest form lines.left K.keeps }
-    ensures talked { IfOk result (λ r. IsTalkedBeside S.honest K.keeps form bails lines.left r.0.0
-        (waiting state.history (fresh N.place) desk None) (O.contents out.old)) }
+    ensures talked { IfOk result (λ r. IsTalkedBeside S.honest K.keeps form bails lines.left
+        r.0.0.0
+        (waiting state.history (fork_at N.place (shelf.old.forks + workers + 1)) desk None)
+        r.0.0.1 (O.contents out.old)) }
     ensures count { IfOk result (λ r. (workers ≤ vec_len r.0.1)
         × (vec_len r.0.1 ≤ workers + 1)) }
     ensures ends { IfOk result (λ r. All (IsWorkersEnd S.honest) r.0.1.items) }
     ensures ended { IfOk result (λ r. HaveWorkedBeside S.honest (S.refuses N.place) K.keeps
-        N.place workers r.0.1.items) }
+        N.place shelf.old.forks workers r.0.1.items) }
     ensures kept { IfOk result (λ r. ∥ K.keeps r.1 ∥₁) }
-    ensures refused { IfErr result (λ e.
-        IsUnmanned e (O.contents out.old) (O.contents out.new)) }
-    ensures just { OnOk result (ForkedTimes (workers + 2) shelf.old shelf.new) }
-    ensures told { Forked shelf.old shelf.new }
+    ensures just { OnOk result (GivesForks (workers + 1) shelf.old shelf.new) }
+    ensures refused { IfErr result (λ e. IsUnmanned workers e shelf.old shelf.new
+        (O.contents out.old) (O.contents out.new)) }
 {
     let mut state = state;
     let memory = state.remember();
-    let made: Crew<N, S, K> = match Crew::new(alloc, state, shelf, workers) {
-        Ok(crew) => crew,
+    let Shelves { shelves, own } = match Shelves::of(alloc, shelf, workers) {
+        Ok(made) => made,
         Err(fault) => return Err(ShellFault::Run(CompactFault::of_shelf(fault))),
     };
-    let Crew {
-        store,
-        shelves,
-        own,
-    } = made;
+    let store: Store<N, S, K> = Store::of(alloc, state);
     match talk_in_store(
         rt, alloc, &store, shelves, memory, desk, own, form, bails, reasons, lines, out,
     ) {
@@ -268,7 +266,8 @@ where
         rt, alloc, state, desk, shelf, form, bails, workers, reasons, lines, out,
     ) {
         Ok((ended, _left)) => {
-            let (talked, ends) = ended;
+            let (talk, ends) = ended;
+            let (talked, _own) = talk;
             judge(talked, &ends)
         }
         Err(fault) => Err(fault),

@@ -45,7 +45,6 @@ mod laws;
 // The conversation with the database of a folder.
 mod conversing;
 mod conversing_beside;
-mod crew;
 mod program;
 mod shell_fault;
 

@@ -5,7 +5,6 @@ ghost use Rattle.std.specs.Prelude.{vec_len};
 ghost use Rattle.lsm_batch.specs.declared.write.Write.{Write};
 ghost use Rattle.lsm_shelf.specs.Stored.{Stored};
 ghost use Rattle.lsm_shelf.specs.Told.{Forked, NotNamed};
-ghost use Rattle.lsm_store.specs.Readers.{SeatsPinners};
 ghost use Rattle.lsm_store.specs.Workers.{IsWorkersEnd};
 ghost use Rattle.lsm_opening.specs.Parts.{AreOf, usual};
 ghost use Rattle.lsm_database.specs.Calls.{AnswersRead, AnswersWrite};
@@ -21,11 +20,11 @@ use crate::served::run_served;
 use crate::wanted::Wanted;
 use lsm_batch::Batch;
 use lsm_history::Memory;
-use lsm_opening::{Crew, NewParts, Prepared, WriterFault, start};
+use lsm_opening::{NewParts, Prepared, WriterFault, start};
 use lsm_reader::Cached;
 use lsm_slots::Boarded;
 use lsm_state::{Ingested, State, StateFault};
-use lsm_store::{Background, NoGate, Store, WorkerEnd, with_workers};
+use lsm_store::{Background, NoGate, Shelves, Store, WorkerEnd, with_workers};
 use lsm_table::{NamedShelf, ReadFault, Shelf, ShelfFault};
 use std::alloc::Global;
 use std::marker::Brand;
@@ -147,7 +146,6 @@ fn run_state<N: Boarded, S: Shelf, A: Asking, R: Threads + Wait + Sync, P: Progr
     workers: usize,
     program: P,
 ) -> Result<(P::Answer, Vec<WorkerEnd>), WriterFault>
-    requires seats { SeatsPinners state }
     requires known { memory ≡ state.history }
     requires asks { (ws : List Write) → P.asks program S.honest state.history ws → A.asks ws }
     requires found { A.found ≡ state }
@@ -162,14 +160,11 @@ fn run_state<N: Boarded, S: Shelf, A: Asking, R: Threads + Wait + Sync, P: Progr
         Ok(blocks) => blocks,
         Err(fault) => return Err(WriterFault::of_shelf(fault)),
     };
-    let Crew {
-        store,
-        shelves,
-        own,
-    } = match Crew::new(alloc, state, shelf, workers) {
-        Ok(crew) => crew,
-        Err((_state, fault)) => return Err(WriterFault::of_shelf(fault)),
+    let Shelves { shelves, own } = match Shelves::of(alloc, shelf, workers) {
+        Ok(shelves) => shelves,
+        Err(fault) => return Err(WriterFault::of_shelf(fault)),
     };
+    let store = Store::of(alloc, state);
     let run = run_in_store::<N, S, A, R, P>(
         rt, alloc, &store, shelves, own, blocks, memory, program,
     );

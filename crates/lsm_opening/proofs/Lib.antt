@@ -4,6 +4,5 @@ mod Looked
 mod TidyLaws
 mod PartsLaws
 mod StartLaws
-mod ForkLaws
 mod SweepLaws
 pub mod CallerLemmas

@@ -1,5 +1,5 @@
 //! How the database in a folder is opened: the folder is held and looked at, and its database is
-//! begun, or opened where it is there; and how a store stands beside its workers then.
+//! begun, or opened where it is there.
 //!
 //! Stands on `lsm_directory` for the folder, its lock and its logs, on `lsm_state` and `lsm_store`
 //! for the database, and on `lsm_refusals` for the texts of refusals. Commands and the server stand
@@ -22,18 +22,14 @@ mod tidying;
 // A database is begun or opened.
 mod starting;
 
-// A store beside its workers, and what is removed behind them.
-mod crew;
-mod forking;
+// What is removed behind workers.
 mod sweeping;
 
 // Why not, and what is told of that.
 mod faults;
 
-pub use crew::Crew;
 pub use faults::compact_fault::CompactFault;
 pub use faults::writer_fault::WriterFault;
-pub use forking::forks;
 pub use holding::held_shelf;
 pub use names::{is_temporary, manifest_in, table_in};
 pub use obsolete::is_obsolete;

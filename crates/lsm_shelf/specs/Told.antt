@@ -1,5 +1,5 @@
 -- What contracts see of a shelf's value, and what a call leaves of it (this project's rule).
-use Rattle.std.specs.Prelude.{◌≡◌, ℕ, ◌+◌, ◌-◌, ◌^◌, ◌≤◌, min, List, [], ◌∷◌, ◌++◌, Option, None}
+use Rattle.std.specs.Prelude.{◌≡◌, ℕ, zero, suc, ◌+◌, ◌-◌, ◌^◌, ◌≤◌, min, List, [], ◌∷◌, ◌++◌, Option, None}
 use Rattle.std.specs.Prelude.{Some, Result, Ok, Err}
 pub use Rattle.lsm_shelf.specs.Place.{Place, in_memory, at_path}
 use Rattle.lsm_shelf.specs.Asked.{Asked, Put, Remove, StartManifest, AppendManifest}
@@ -31,13 +31,13 @@ pub record Told : Type 0 where
   pub starts : List ℕ
   -- all bytes that it wrote to manifests, at their start or behind it
   pub written : List ℕ
-  -- how many forks it gave
+  -- the number of the last fork that it gave; before that 0, and of a fork its own number
   pub forks : ℕ
   -- the calls by which it changed what lies there, the last first: puts, starts and appends that
   -- were answered Ok, and removals that were asked of the device
   pub made : List Asked
 
--- a value to which nothing was told yet
+-- a value that was opened, and to which nothing was told yet
 abbrev pub fresh : Place → Told
 fresh p = record {
   place = p;
@@ -54,6 +54,21 @@ fresh p = record {
   forks = 0;
   made = [];
 }
+
+-- A fork of this number, to which nothing was told yet. Forks are numbered in the order in which a
+-- value gives them. One of another fork begins above the number of that; so what has the numbers of
+-- a value's next forks, none left out, is these forks
+abbrev pub fork_at : Place → ℕ → Told
+fork_at p number = record (fresh p) { forks = number }
+
+-- the fork that it gives next
+abbrev pub next_fork : Told → Told
+next_fork t = fork_at t.place (t.forks + 1)
+
+-- so many forks of these contents, in their order, which were given behind that of this number
+abbrev pub forks_behind : Place → ℕ → ℕ → List Told
+forks_behind p number zero = []
+forks_behind p number (suc count) = fork_at p (number + 1) ∷ forks_behind p (number + 1) count
 
 -- the second is the first, but for counts, which do not fall
 pub record Becomes (old new : Told) : Type 0 where
@@ -110,9 +125,17 @@ finding number bytes t = record t
 abbrev pub forking : ℕ → Told → Told
 forking count t = record t { forks = t.forks + count }
 
--- it gave forks, and nothing else was told but counts
+-- it gave just so many forks, and nothing else was told but counts
+abbrev pub ForkedTimes : ℕ → Told → Told → Type 0
+ForkedTimes count old new = Becomes (forking count old) new
+
+-- so many at most
+abbrev pub ForkedAtMost : ℕ → Told → Told → Type 0
+ForkedAtMost most old new = (count : ℕ) × (count ≤ most) × ForkedTimes count old new
+
+-- any number of them
 abbrev pub Forked : Told → Told → Type 0
-Forked old new = (count : ℕ) × Becomes (forking count old) new
+Forked old new = (count : ℕ) × ForkedTimes count old new
 
 -- What a removal leaves: where memory was refused, nothing was asked yet
 abbrev pub removed_by : {T : Type 0} → Result T ShelfFault → ℕ → Told → Told

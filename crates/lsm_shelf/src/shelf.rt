@@ -21,7 +21,7 @@ pub trait Shelf: Drop + Send + Sync {
     ghost use Rattle.lsm_shelf.specs.Asked.{ReadManifest, StartManifest, AppendManifest};
     ghost use Rattle.lsm_shelf.specs.Told.{Place, Told, Becomes, Counted, CountedBy, NotTaken};
     ghost use Rattle.lsm_shelf.specs.Told.{NotNamed, TakenIs, putting, removed_by, listing};
-    ghost use Rattle.lsm_shelf.specs.Told.{sending, appending, finding, forking, fresh};
+    ghost use Rattle.lsm_shelf.specs.Told.{sending, appending, finding, forking, next_fork};
 
     /// What stands for an image that was put or loaded.
     type Receipt: TableReceipt;
@@ -166,10 +166,10 @@ pub trait Shelf: Drop + Send + Sync {
         ensures cause { IfErr result (λ e. NotTaken e × Counted e (told self.old) (told self.new)) }
         ensures counts { CountedBy result (told self.old) (told self.new) };
 
-    /// Another value on the same contents, to which nothing was told yet; this one has given one
-    /// fork more. `Device` where the device fails.
+    /// Another value on the same contents, to which nothing was told yet but its number; this one
+    /// has given one fork more. `Device` where the device fails.
     fn fork(&mut self, alloc: Global) -> Result<Self, ShelfFault>
-        ensures fork { IfOk result (λ s. told s ≡ fresh (told self.old).place) }
+        ensures fork { IfOk result (λ s. told s ≡ next_fork (told self.old)) }
         ensures ok { OnOk result (Becomes (forking 1 (told self.old)) (told self.new)) }
         ensures err { OnErr result (Becomes (told self.old) (told self.new)) }
         ensures cause { IfErr result (λ e. NotNamed e × Counted e (told self.old) (told self.new)) }

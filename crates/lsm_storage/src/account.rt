@@ -125,6 +125,26 @@ impl Account {
         }
     }
 
+    /// A fork to which nothing was told yet but its number, the length of this list.
+    pub fn of_fork(number: &Tag) -> Account
+        ensures faults { result.faults ≡ 0 }
+        ensures misses { result.misses ≡ 0 }
+        ensures puts { result.puts.numbers ≡ [] }
+        ensures gone { result.gone.numbers ≡ [] }
+        ensures listed { result.listed.numbers ≡ [] }
+        ensures manifest { result.manifest.numbers ≡ [] }
+        ensures sent { result.sent.numbers ≡ [] }
+        ensures found { result.found.numbers ≡ [] }
+        ensures starts { result.starts.numbers ≡ [] }
+        ensures written { result.written.numbers ≡ [] }
+        ensures forks { length result.forks.numbers ≡ length number.now.numbers }
+        ensures made { result.made.numbers ≡ [] }
+    {
+        let mut account = Account::new();
+        account.forks = tag_of_both(&account.forks, number);
+        account
+    }
+
     /// Counts a refusal, once. A count stays at its last value.
     pub fn count<T: Drop>(&mut self, outcome: Result<T, ShelfFault>) -> Result<T, ShelfFault>
         ensures same { result ≡ outcome }

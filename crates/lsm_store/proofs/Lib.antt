@@ -1,6 +1,7 @@
 pub mod BackgroundLaws
 pub mod CallerLemmas
 pub mod CompactingLaws
+pub mod ForkLaws
 pub mod FoundLaws
 pub mod KeptLaws
 pub mod NamedLaws

@@ -1,11 +1,11 @@
 -- What is left of a sweep.
 use Rattle.std.proofs.Common.{◌≡◌, ℕ, zero, suc, ◌+◌, ◌<◌, ◌≤◌, Bool, true, false, List, [], ◌∷◌, ◌++◌, get_or, length, take, refl, sym, ap, ◌∙◌, subst, inl, inr, arith, ◌⊎◌}
-use Rattle.std.specs.Prelude.{Result, Ok, Err, OnErr, OnOk}
+use Rattle.std.specs.Prelude.{Result, Ok, Err, OnErr, OnOk, None, Some}
 use Rattle.std.proofs.lemmas.List.{append_assoc, take_more}
 use Rattle.lsm_codec.specs.Lists.{Has}
 use Rattle.lsm_codec.proofs.CallerLemmas.{has_cases}
 use Rattle.lsm_shelf.specs.Asked.{Asked, ListTables, Remove}
-use Rattle.lsm_shelf.specs.Told.{Told, Becomes, forking, listing, removed_by, removing}
+use Rattle.lsm_shelf.specs.Told.{Told, Becomes, forking, listing, next_fork, removed_by, removing}
 use Rattle.lsm_shelf.specs.declared.shelf_fault.ShelfFault.{ShelfFault}
 use Rattle.lsm_shelf.specs.declared.shelf_fault.ShelfFault.TheVariants as why
 use Rattle.lsm_state.specs.Collecting.{HasLookedAround, IsKeptNumber, IsRemoveRefusal, IsRemovedOrKept, outside}
@@ -13,7 +13,7 @@ use Rattle.lsm_state.specs.Held.{Held, plain}
 use Rattle.lsm_state.specs.declared.state_fault.StateFault.{StateFault}
 use Rattle.lsm_state.specs.declared.state_fault.StateFault.TheVariants.{OutOfMemory, Shelf, Read, BadLevel, EmptyBatch, KeyOrder, TooLarge, LevelZeroFull, SequencesSpent, Halted, UnknownSnapshot, Conflict, UnknownTicket, NumbersSpent, Stale, SlotsHeld, VersionsSpent, PinsSpent}
 use Rattle.lsm_store.specs.Compacting.{IsCompactingStep}
-use Rattle.lsm_store.specs.Sweeping.{ForkedOnce, HasSwept, IsSwept, IsSweptOften, IsUnkeptRemoval, LastForked, Leaves, OnlyRemoves, Removes, RemovesEach, Sweeps, TriesToRemove}
+use Rattle.lsm_store.specs.Sweeping.{HasSwept, IsSwept, IsSweptOften, IsUnkeptRemoval, LastForks, Leaves, OnlyRemoves, Removes, RemovesEach, Sweeps, TriesToRemove}
 use Rattle.lsm_store.proofs.CompactingLaws.{adds_looked, found_looked, step_none}
 
 -- ---- looks under the lock
@@ -66,18 +66,15 @@ swept_more Refused keeps was mid is before one = (suc before.0, (mid, before.1, 
 
 -- ---- a fork of the last shelf
 
-pub none_lent : (given lent : List Told) → given ≡ [] → lent ≡ [] → LastForked given lent
+pub none_lent : (given lent : List Told) → given ≡ [] → lent ≡ [] → LastForks given lent None
 none_lent given lent a b = inl (a, b)
 
-pub last_lent : (given lent front : List Told) (t u : Told) → given ≡ front ++ t ∷ [] → lent ≡ front ++ u ∷ [] → ForkedOnce t u → LastForked given lent
-last_lent given lent front t u a b f = inr (front, t, u, a, b, f)
+pub last_lent : (given lent front : List Told) (was is fork : Told) → given ≡ front ++ was ∷ [] → lent ≡ front ++ is ∷ [] → Becomes (forking 1 was) is → fork ≡ next_fork was
+    → LastForks given lent (Some fork)
+last_lent given lent front was is fork a b c f = record { front = front; was = was; is = is; before = a; behind = b; became = (c, f) }
 
-becomes_forked : (was is : Told) → Becomes was is → Becomes (forking 0 was) is
-becomes_forked was is b = record { place = b.place; faults = b.faults; misses = b.misses; puts = b.puts; gone = b.gone; listed = b.listed; manifest = b.manifest; sent = b.sent; found = b.found; starts = b.starts; written = b.written; forks = (let e = b.forks in omega (arith, e)); made = b.made }
-
-pub forked_once : {T E : Type 0} (r : Result T E) (was is : Told) → OnOk r (Becomes (forking 1 was) is) → OnErr r (Becomes was is) → ForkedOnce was is
-forked_once (Ok x) was is ok err = (1, omega arith, ok)
-forked_once (Err e) was is ok err = (0, omega arith, becomes_forked was is err)
+pub last_refused : (given lent front : List Told) (was is : Told) → given ≡ front ++ was ∷ [] → lent ≡ front ++ is ∷ [] → Becomes was is → LastForks given lent None
+last_refused given lent front was is a b c = inr record { front = front; was = was; is = is; before = a; behind = b; became = c }
 
 -- ---- what follows of sweeps
 

@@ -1,8 +1,6 @@
 -- What follows of what a worker did.
 use Rattle.std.proofs.Common.{◌≡◌, ℕ, suc, ◌+◌, ◌-◌, ◌^◌, ◌≤◌, Bool, true, false, List, [], ◌∷◌, ◌++◌, length, map, Option, None, Some, refl, sym, ap, ◌∙◌, subst, inl, inr, arith}
 use Rattle.std.specs.Prelude.{MatchBool, min, reverse, Result, Ok, Err, OnOk}
-use Rattle.std.specs.Prelude.{All}
-use Rattle.std.proofs.lemmas.List.Elements.{All-cons, All-nil}
 use Rattle.std.proofs.lemmas.List.{append-nil, append_assoc, map-append, nil_from_length, reverse-append}
 use Rattle.lsm_codec.specs.Lists.{Has}
 use Rattle.lsm_shelf.specs.Asked.{Asked, Put, StartManifest, AppendManifest}
@@ -41,11 +39,10 @@ use Rattle.lsm_store.specs.Compacting.{IsCompactingStep}
 use Rattle.lsm_store.specs.Picking.{DoesGather, IsBooked, IsPicked, IsPickedUnder}
 use Rattle.lsm_store.specs.WorkerFault.{of_gather}
 use Rattle.lsm_store.specs.Workers.{IsOfInstalling, IsOfReserving, IsOfTurn, IsWorkersEnd}
-use Rattle.lsm_store.specs.Working.{AreReturned, FailsToGather, GathersUnder, Given, IsCompaction, IsCounted, IsCountedIf, IsDone, HasGathered, IsWorked, given_one, IsLast, IsLook, IsLookRefused, IsPutOrSent, IsRefusedBy, IsReturned, IsStoppedBy, IsTaken, IsTurn, IsUndone, LooksUnder, OnlyPutsAndSends, Turns, compactions, given_each}
+use Rattle.lsm_store.specs.Working.{AreReturned, FailsToGather, GathersUnder, Given, IsCompaction, IsCounted, IsCountedIf, IsDone, IsWorked, given_one, IsLast, IsLook, IsLookRefused, IsPutOrSent, IsRefusedBy, IsReturned, IsStoppedBy, IsTaken, IsTurn, IsUndone, LooksUnder, OnlyPutsAndSends, Turns, compactions, given_each}
 use Rattle.lsm_store.specs.declared.look.Look.{Look}
 use Rattle.lsm_store.specs.declared.look.Look.TheVariants as look
 use Rattle.lsm_store.specs.declared.picks.Picks.{Picks}
-use Rattle.lsm_store.specs.declared.picks.Picks.TheVariants.{Gathering}
 use Rattle.lsm_store.specs.declared.turn.Turn.{Turn}
 use Rattle.lsm_store.specs.declared.turn.Turn.TheVariants.{Gathered, Compacted}
 use Rattle.lsm_store.specs.declared.worker_end.WorkerEnd.{WorkerEnd}
@@ -461,33 +458,6 @@ refused_turn Honest Refused picks old new e was is (inr r) = subst (IsOfTurn Hon
 pub on_ok_then : {T E : Type 0} (r : Result T E) (A B : Type 0) → (A → B) → OnOk r A → OnOk r B
 on_ok_then (Ok x) A B f a = f a
 on_ok_then (Err e) A B f a = tt
-
--- ---- the worker that only gathers
-
--- behind these ends come those of the workers that only gathered
-abbrev pub EndsBehind : Type 0 → (Asked → ShelfFault → Type 0) → (Held → Type 0) → Told
-    → (ends all : List WorkerEnd) → Type 0
-EndsBehind Honest Refused keeps shelf ends all = (more : List WorkerEnd) × (all ≡ ends ++ more)
-    × All (IsWorkersEnd Honest) more × HasGathered Honest Refused keeps shelf more
-
--- there was none
-pub gathered_none : (Honest : Type 0) (Refused : Asked → ShelfFault → Type 0)
-    (keeps : Held → Type 0) (shelf : Told) (ends : List WorkerEnd)
-    → EndsBehind Honest Refused keeps shelf ends ends
-gathered_none Honest Refused keeps shelf ends =
-    ([], sym (append-nil ends), All-nil (IsWorkersEnd Honest), tt)
-
--- there was one
-pub gathered_one : (Honest : Type 0) (Refused : Asked → ShelfFault → Type 0)
-    (keeps : Held → Type 0) (shelf : Told) (ends all : List WorkerEnd) (e : WorkerEnd) (back : Told)
-    → IsWorkersEnd Honest e → IsWorked Honest Refused keeps (given_one Gathering false shelf) e back
-    → all ≡ ends ++ e ∷ [] → EndsBehind Honest Refused keeps shelf ends all
-gathered_one Honest Refused keeps shelf ends all e back end worked push = (
-  e ∷ [],
-  push,
-  All-cons (IsWorkersEnd Honest) e [] end (All-nil (IsWorkersEnd Honest)),
-  (back, worked),
-)
 
 -- ---- threads, the last one first
 

@@ -2,7 +2,7 @@
 use Rattle.std.specs.Prelude.{◌≡◌, ℕ, ◌^◌, ◌<◌, ◌≤◌, List, length, None, Some}
 use Rattle.atomic_table.specs.Seated.{TableId}
 use Rattle.lsm_codec.specs.Entries.{Entry}
-use Rattle.lsm_shelf.specs.Told.{Place, Told, fresh}
+use Rattle.lsm_shelf.specs.Told.{Place, Told, fork_at, fresh}
 use Rattle.lsm_version.specs.Versions.{Levels, numbers_in}
 use Rattle.lsm_pins.specs.Known.{Known}
 use Rattle.lsm_pins.specs.View.{learnt_view, pinned_view, told_view, unpinned_view}
@@ -127,6 +127,14 @@ known_at h place = record {
   snapshots = snapshot_sequences h;
 }
 
+-- the same, with a fork of this number
+abbrev pub known_by : Held → Place → ℕ → KnownVersion
+known_by h place number = record (known_at h place) { told = fork_at place number }
+
+-- so by a fork of any number
+abbrev pub IsKnownBy : Held → Place → KnownVersion → Type 0
+IsKnownBy h place d = (number : ℕ) × (d ≡ known_by h place number)
+
 -- the same, where another version was known before
 abbrev pub learning_all : Held → KnownVersion → KnownVersion
 learning_all h d = record (known_at h d.told.place) { told = d.told }
@@ -142,6 +150,10 @@ seated h place p = record {
   history = h.history;
   snapshots = snapshot_sequences h;
 }
+
+-- a reader, but for the number of its fork
+abbrev pub unnumbered : Learnt → Learnt
+unnumbered r = record r { told = record r.told { forks = 0 } }
 
 -- an end of this board that holds no pin
 abbrev pub IsFreeEnd : TableId → Known → Type 0

@@ -1,8 +1,9 @@
 -- What is removed beside workers (this project's rule).
 use Rattle.std.specs.Prelude.{◌≡◌, ℕ, zero, suc, ◌≤◌, ◌⊎◌, ◌↔◌, Bool, List, [], ◌∷◌, ◌++◌}
+use Rattle.std.specs.Prelude.{Option, None, Some}
 use Rattle.lsm_codec.specs.Lists.{Has}
 use Rattle.lsm_shelf.specs.Asked.{Asked, ListTables, Remove}
-use Rattle.lsm_shelf.specs.Told.{Told, Becomes, forking, listing}
+use Rattle.lsm_shelf.specs.Told.{Told, Becomes, forking, listing, next_fork}
 use Rattle.lsm_shelf.specs.declared.shelf_fault.ShelfFault.{ShelfFault}
 use Rattle.lsm_state.specs.Collecting.{IsKeptNumber, IsRemoveRefusal, IsRemovedOrKept, outside}
 use Rattle.lsm_state.specs.Held.{Held}
@@ -66,19 +67,36 @@ IsSweptOften Refused keeps (suc count) was is =
 abbrev pub HasSwept : (Asked → ShelfFault → Type 0) → (Held → Type 0) → Told → Told → Type 0
 HasSwept Refused keeps was is = (count : ℕ) × IsSweptOften Refused keeps count was is
 
--- it gave one fork at most, and nothing else was told but counts
-abbrev pub ForkedOnce : Told → Told → Type 0
-ForkedOnce old new = (count : ℕ) × (count ≤ 1) × Becomes (forking count old) new
+-- what comes back of its thread: nothing where there was no shelf, or no thread could be made
+abbrev pub IsBroughtBack : (Asked → ShelfFault → Type 0) → (Held → Type 0) → (given back
+    : Option Told) → Type 0
+IsBroughtBack Refused keeps given None = Unit {0}
+IsBroughtBack Refused keeps None (Some is) = ⊥
+IsBroughtBack Refused keeps (Some was) (Some is) = HasSwept Refused keeps was is
 
--- the last shelf may have given one fork, and the others are as they were
-abbrev pub LastForked : (given lent : List Told) → Type 0
-LastForked given lent = ((given ≡ []) × (lent ≡ []))
-    ⊎ ((front : List Told) × (t : Told) × (u : Told) × (given ≡ front ++ t ∷ [])
-    × (lent ≡ front ++ u ∷ []) × ForkedOnce t u)
+-- ---- forks of the last shelf
 
--- so twice
-abbrev pub LastForkedTwice : (given lent : List Told) → Type 0
-LastForkedTwice given lent = (mid : List Told) × LastForked given mid × LastForked mid lent
+-- the last shelf became another, and the others are as they were
+pub record LastBecomes (given lent : List Told) (Became : Told → Told → Type 0) : Type 0 where
+  pub front : List Told
+  pub was : Told
+  pub is : Told
+  pub before : given ≡ front ++ was ∷ []
+  pub behind : lent ≡ front ++ is ∷ []
+  pub became : Became was is
+
+-- The last shelf was asked for a fork, which is this one. None: there is no shelf, or it refused,
+-- and was told nothing but counts.
+abbrev pub LastForks : (given lent : List Told) → (fork : Option Told) → Type 0
+LastForks given lent None = ((given ≡ []) × (lent ≡ [])) ⊎ LastBecomes given lent Becomes
+LastForks given lent (Some fork) = LastBecomes given lent
+    (λ was is. Becomes (forking 1 was) is × (fork ≡ next_fork was))
+
+-- so twice, one after the other
+pub record AreLent (given lent : List Told) (first second : Option Told) : Type 0 where
+  pub mid : List Told
+  pub once : LastForks given mid first
+  pub again : LastForks mid lent second
 
 -- ---- what follows
 

@@ -24,6 +24,7 @@ use Rattle.lsm_state.specs.declared.gather_fault.GatherFault.{GatherFault}
 use Rattle.lsm_state.specs.declared.state_fault.StateFault.{StateFault}
 use Rattle.lsm_state.specs.declared.state_fault.StateFault.TheVariants as state
 use Rattle.lsm_store.specs.Picking.{DoesGather, IsBooked, IsPicked, IsPickedUnder}
+use Rattle.lsm_store.specs.Sweeping.{AreLent, IsBroughtBack}
 use Rattle.lsm_store.specs.WorkerFault.{of_gather}
 use Rattle.lsm_store.specs.Workers.{IsOfReserving}
 use Rattle.lsm_store.specs.declared.picks.Picks.{Picks}
@@ -258,22 +259,45 @@ abbrev pub HaveEnded : Type 0 → (Asked → ShelfFault → Type 0) → (Held �
 HaveEnded Honest Refused keeps given ends = (returned : List (WorkerEnd × Option Told))
     × (ends ≡ map (λ r. r.0) returned) × AreReturned Honest Refused keeps given returned
 
--- none where no worker only gathered; else the end of the one that did, which was given this shelf
-abbrev pub HasGathered : Type 0 → (Asked → ShelfFault → Type 0) → (Held → Type 0) → Told
-    → List WorkerEnd → Type 0
-HasGathered Honest Refused keeps shelf [] = Unit {0}
-HasGathered Honest Refused keeps shelf (e ∷ []) =
-    (back : Told) × IsWorked Honest Refused keeps (given_one Gathering false shelf) e back
-HasGathered Honest Refused keeps shelf (e ∷ f ∷ ends) = ⊥
+-- ---- beside a body
 
--- the ends of workers that gather and join, over these shelves, and behind them that of the one
--- that only gathered, over a fork
-abbrev pub HaveEndedBeside : Type 0 → (Asked → ShelfFault → Type 0) → (Held → Type 0) → List Told
-    → Told → List WorkerEnd → Type 0
-HaveEndedBeside Honest Refused keeps shelves fork ends =
-    (each : List WorkerEnd) × (gathered : List WorkerEnd) × (ends ≡ each ++ gathered)
-    × HaveEnded Honest Refused keeps (given_each Joining false shelves) each
-    × HasGathered Honest Refused keeps fork gathered
+-- what comes back of a worker that only gathers: nothing where there was no shelf for it
+abbrev pub HasGathered : Type 0 → (Asked → ShelfFault → Type 0) → (Held → Type 0) → Option Told
+    → Option (WorkerEnd × Option Told) → Type 0
+HasGathered Honest Refused keeps None None = Unit {0}
+HasGathered Honest Refused keeps None (Some r) = ⊥
+HasGathered Honest Refused keeps (Some shelf) None = ⊥
+HasGathered Honest Refused keeps (Some shelf) (Some r) =
+    IsReturned Honest Refused keeps (given_one Gathering false shelf) r.0 r.1
+
+-- What comes back of workers that gather and join, one over each of these shelves; of the one that
+-- only gathers, and of the thread that sweeps, each over a fork of the last of them.
+pub record AreReturnedBeside (Honest : Type 0) (Refused : Asked → ShelfFault → Type 0) (keeps : Held
+    → Type 0) (shelves : List Told) (returned : List (WorkerEnd × Option Told)) (gathered
+    : Option (WorkerEnd × Option Told)) (swept : Option Told) : Type 0 where
+  pub lent : List Told
+  pub broom : Option Told
+  pub fork : Option Told
+  pub forks : AreLent shelves lent broom fork
+  pub each : AreReturned Honest Refused keeps (given_each Joining false lent) returned
+  pub gathers : HasGathered Honest Refused keeps fork gathered
+  pub sweeps : IsBroughtBack Refused keeps broom swept
+
+-- the end of a worker that had a thread, and none of one that had not, or that was not
+abbrev pub end_of : Option (WorkerEnd × Option Told) → List WorkerEnd
+end_of None = []
+end_of (Some (e, None)) = []
+end_of (Some (e, Some back)) = e ∷ []
+
+-- the same, where all shelves were let go: the ends of the workers over these, and behind them that
+-- of the one which only gathered
+pub record HaveEndedBeside (Honest : Type 0) (Refused : Asked → ShelfFault → Type 0) (keeps : Held
+    → Type 0) (shelves : List Told) (ends : List WorkerEnd) : Type 0 where
+  pub returned : List (WorkerEnd × Option Told)
+  pub gathered : Option (WorkerEnd × Option Told)
+  pub swept : Option Told
+  pub ends_are : ends ≡ map (λ r. r.0) returned ++ end_of gathered
+  pub are : AreReturnedBeside Honest Refused keeps shelves returned gathered swept
 
 -- ---- what follows
 

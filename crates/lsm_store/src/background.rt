@@ -5,14 +5,14 @@ ghost use Rattle.lsm_store.specs.Background.{BringsIn, IsBroughtIn, IsIngestStep
 ghost use Rattle.lsm_store.specs.Background.{IsKeptOut, KeepsOut};
 ghost use Rattle.lsm_store.specs.Compacting.{IsKeptByCompaction};
 ghost use Rattle.lsm_store.specs.Workers.{IsWorkersEnd};
-ghost use Rattle.lsm_store.specs.Working.{AreReturned, given_each};
+ghost use Rattle.lsm_store.specs.Working.{HaveEnded, given_each};
 
 use crate::bell::Bell;
 use crate::invariant::Invariant;
 use crate::picks::Picks;
 use crate::ringing::Ringing;
 use crate::store::Store;
-use crate::worker_thread::Returned;
+use crate::worker_end::WorkerEnd;
 use crate::workers::run_workers_by;
 use lsm_batch::Batch;
 use lsm_history::Memory;
@@ -171,20 +171,20 @@ impl Background {
         store: &Store<N, S, K>,
         shelves: Vec<NamedShelf<N, S>>,
         picks: &Picks,
-    ) -> Result<Vec<Returned<N, S>>, AllocFailed<Vec<NamedShelf<N, S>>>>
+    ) -> Result<Vec<WorkerEnd>, AllocFailed<Vec<NamedShelf<N, S>>>>
         requires kept { IsKeptByCompaction S.honest K.keeps }
         ensures len { IfOk result (λ v. vec_len v ≡ vec_len shelves) }
-        ensures ends { IfOk result (λ v. All (λ r. IsWorkersEnd S.honest r.0) v.items) }
-        ensures returned { IfOk result (λ v. AreReturned S.honest (S.refuses N.place) K.keeps
+        ensures ends { IfOk result (λ v. All (IsWorkersEnd S.honest) v.items) }
+        ensures ended { IfOk result (λ v. HaveEnded S.honest (S.refuses N.place) K.keeps
             (given_each picks.now true shelves.items) v.items) }
         ensures back { IfErr result (λ e. e.value ≡ shelves) }
     {
         let bell = &self.bell;
         bell.enter(rt);
-        let returned = run_workers_by(rt, alloc, store, shelves, &Ringing { rt, bell }, picks);
+        let ended = run_workers_by(rt, alloc, store, shelves, &Ringing { rt, bell }, picks);
         bell.installed(rt);
         bell.leave(rt);
-        returned
+        ended
     }
 
     // Tries again each time that the bell has rung. It is rung here first: workers look again, also

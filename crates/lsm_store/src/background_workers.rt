@@ -1,14 +1,13 @@
 //! Workers that compact in the background of a program.
 
-ghost use Rattle.std.specs.Prelude.{◌≡◌, ◌+◌, ◌<◌, ◌≤◌, ◌++◌, List, [], All, IfErr, IfOk};
+ghost use Rattle.std.specs.Prelude.{◌≡◌, ◌+◌, ◌<◌, ◌≤◌, ◌++◌, [], All, IfErr, IfOk, option_map};
 ghost use Rattle.std.specs.Prelude.{IfSome, false};
+ghost use Rattle.std.specs.Option.{ForSome};
 ghost use Rattle.std.specs.Prelude.{vec_capacity, vec_len};
 ghost use Rattle.lsm_store.specs.Compacting.{IsKeptByCompaction};
-ghost use Rattle.lsm_shelf.specs.Told.{Told, fresh};
-ghost use Rattle.lsm_store.specs.Sweeping.{HasSwept, LastForkedTwice};
 ghost use Rattle.lsm_store.specs.Workers.{IsWorkersEnd};
-ghost use Rattle.lsm_store.specs.Working.{AreReturned, HasGathered, HaveEndedBeside};
-ghost use Rattle.lsm_store.specs.Working.{IsReturned, given_each, given_one};
+ghost use Rattle.lsm_store.specs.Working.{AreReturnedBeside, HasGathered, HaveEndedBeside};
+ghost use Rattle.lsm_store.specs.Working.{end_of};
 ghost use Rattle.lsm_store.specs.declared.picks.Picks.TheVariants.{Gathering, Joining};
 
 use crate::background::Background;
@@ -82,8 +81,7 @@ fn start_gathering<
     picks: &'e Picks,
 ) -> Option<Thread<N, S, K>>
     requires kept { IsKeptByCompaction S.honest K.keeps }
-    requires fresh { IfSome shelf (λ s. s ≡ fresh N.place) }
-    ensures given { IfSome result (λ t. t.given.value ≡ fresh N.place) }
+    ensures given { option_map (λ t. t.given.value) result ≡ shelf }
     ensures picks { IfSome result (λ t. t.picks.value ≡ picks.now) }
     ensures to_the_end { IfSome result (λ t. t.to_the_end ≡ bell.now.to_the_end) }
 {
@@ -102,12 +100,11 @@ fn join_gathering<N: Boarded, S: Shelf, K: Invariant, R: Threads>(
     rt: &R,
     thread: Option<Thread<N, S, K>>,
 ) -> Option<Returned<N, S>>
-    requires given { IfSome thread (λ t. t.given.value ≡ fresh N.place) }
     requires picks { IfSome thread (λ t. t.picks.value ≡ Gathering) }
     requires to_the_end { IfSome thread (λ t. t.to_the_end ≡ false) }
     ensures end { IfSome result (λ g. IsWorkersEnd S.honest g.0) }
-    ensures returned { IfSome result (λ g. IsReturned S.honest (S.refuses N.place) K.keeps
-        (given_one Gathering false (fresh N.place)) g.0 g.1) }
+    ensures returned { HasGathered S.honest (S.refuses N.place) K.keeps
+        (option_map (λ t. t.given.value) thread) result }
 {
     match thread {
         Some(thread) => Some(thread.join(rt)),
@@ -144,14 +141,9 @@ fn run_beside<
     ensures answer { IfOk result (λ r. (b : _) × F.post body b r.0) }
     ensures len { IfOk result (λ r. vec_len r.1 ≡ vec_len shelves) }
     ensures ends { IfOk result (λ r. All (λ w. IsWorkersEnd S.honest w.0) r.1.items) }
-    ensures returned { IfOk result (λ r. (lent : List Told) × LastForkedTwice shelves.items lent
-        × AreReturned S.honest (S.refuses N.place) K.keeps (given_each Joining false lent)
-        r.1.items) }
-    ensures gathered { IfOk result (λ r. IfSome r.2 (λ g. IsWorkersEnd S.honest g.0
-        × IsReturned S.honest (S.refuses N.place) K.keeps
-        (given_one Gathering false (fresh N.place)) g.0 g.1)) }
-    ensures swept { IfOk result (λ r.
-        IfSome r.3 (HasSwept (S.refuses N.place) K.keeps (fresh N.place))) }
+    ensures beside { IfOk result (λ r. AreReturnedBeside S.honest (S.refuses N.place) K.keeps
+        shelves.items r.1.items r.2 r.3) }
+    ensures gathered { IfOk result (λ r. IfSome r.2 (λ g. IsWorkersEnd S.honest g.0)) }
     ensures back { IfErr result (λ e. e.value ≡ (shelves, body)) }
 {
     let workers = shelves.len();
@@ -180,15 +172,9 @@ fn run_beside<
             ensures answer { IfOk result (λ r. (b : _) × F.post body b r.0) }
             ensures len { IfOk result (λ r. vec_len r.1 ≡ vec_len shelves) }
             ensures ends { IfOk result (λ r. All (λ w. IsWorkersEnd S.honest w.0) r.1.items) }
-            ensures returned { IfOk result (λ r. (lent : List Told)
-                × LastForkedTwice shelves.items lent
-                × AreReturned S.honest (S.refuses N.place) K.keeps (given_each Joining false lent)
-                r.1.items) }
-            ensures gathered { IfOk result (λ r. IfSome r.2 (λ g. IsWorkersEnd S.honest g.0
-                × IsReturned S.honest (S.refuses N.place) K.keeps
-                (given_one Gathering false (fresh N.place)) g.0 g.1)) }
-            ensures swept { IfOk result (λ r.
-                IfSome r.3 (HasSwept (S.refuses N.place) K.keeps (fresh N.place))) }
+            ensures beside { IfOk result (λ r. AreReturnedBeside S.honest (S.refuses N.place)
+                K.keeps shelves.items r.1.items r.2 r.3) }
+            ensures gathered { IfOk result (λ r. IfSome r.2 (λ g. IsWorkersEnd S.honest g.0)) }
             ensures back { IfErr result (λ e. e.value ≡ (shelves, body)) }
         {
             if !start_drawing(scope, rt, store, service) {
@@ -211,7 +197,7 @@ fn run_beside<
             bell.close(rt);
             let returned = join_all(rt, threads, returned);
             let gathered = join_gathering(rt, gatherer);
-            Ok((answer, returned, gathered, sweeper.join(rt)))
+            Ok((answer, returned, gathered, Sweeper::join(sweeper, rt)))
         },
     )
 }
@@ -264,14 +250,9 @@ pub fn with_workers_returning<
     ensures answer { IfOk result (λ r. (b : _) × F.post body b r.0) }
     ensures len { IfOk result (λ r. vec_len r.1 ≡ vec_len shelves) }
     ensures ends { IfOk result (λ r. All (λ w. IsWorkersEnd S.honest w.0) r.1.items) }
-    ensures returned { IfOk result (λ r. (lent : List Told) × LastForkedTwice shelves.items lent
-        × AreReturned S.honest (S.refuses N.place) K.keeps (given_each Joining false lent)
-        r.1.items) }
-    ensures gathered { IfOk result (λ r. IfSome r.2 (λ g. IsWorkersEnd S.honest g.0
-        × IsReturned S.honest (S.refuses N.place) K.keeps
-        (given_one Gathering false (fresh N.place)) g.0 g.1)) }
-    ensures swept { IfOk result (λ r.
-        IfSome r.3 (HasSwept (S.refuses N.place) K.keeps (fresh N.place))) }
+    ensures beside { IfOk result (λ r. AreReturnedBeside S.honest (S.refuses N.place) K.keeps
+        shelves.items r.1.items r.2 r.3) }
+    ensures gathered { IfOk result (λ r. IfSome r.2 (λ g. IsWorkersEnd S.honest g.0)) }
     ensures back { IfErr result (λ e. e.value ≡ (shelves, body)) }
 {
     let Ok(returned) = Vec::with_capacity(alloc, shelves.len()) else {
@@ -289,17 +270,14 @@ pub fn with_workers_returning<
 
 /// The ends of workers, and behind them that of the one which only gathered, where its thread was
 /// made; there is room for one more.
-fn with_gathered<N: Boarded, S: Shelf, K: Invariant>(
+fn with_gathered<N: Boarded, S: Shelf>(
     ends: Vec<WorkerEnd>,
     gathered: Option<Returned<N, S>>,
 ) -> Vec<WorkerEnd>
     requires end { IfSome gathered (λ g. IsWorkersEnd S.honest g.0) }
-    requires returned { IfSome gathered (λ g. IsReturned S.honest (S.refuses N.place) K.keeps
-        (given_one Gathering false (fresh N.place)) g.0 g.1) }
     requires room { vec_len ends < vec_capacity ends }
-    ensures ends { (more : List WorkerEnd) × (result.items ≡ ends.items ++ more)
-        × All (IsWorkersEnd S.honest) more
-        × HasGathered S.honest (S.refuses N.place) K.keeps (fresh N.place) more }
+    ensures ends { result.items ≡ ends.items ++ end_of gathered }
+    ensures each { All (IsWorkersEnd S.honest) (end_of gathered) }
     ensures len { (vec_len ends ≤ vec_len result) × (vec_len result ≤ vec_len ends + 1) }
 {
     let Some((end, Some(_shelf))) = gathered else {
@@ -336,8 +314,8 @@ pub fn with_workers<
     ensures len { IfOk result (λ r. (vec_len shelves ≤ vec_len r.1)
         × (vec_len r.1 ≤ vec_len shelves + 1)) }
     ensures ends { IfOk result (λ r. All (IsWorkersEnd S.honest) r.1.items) }
-    ensures ended { IfOk result (λ r. (lent : List Told) × LastForkedTwice shelves.items lent
-        × HaveEndedBeside S.honest (S.refuses N.place) K.keeps lent (fresh N.place) r.1.items) }
+    ensures ended { IfOk result (λ r. HaveEndedBeside S.honest (S.refuses N.place) K.keeps
+        shelves.items r.1.items) }
     ensures back { IfErr result (λ e. e.value ≡ (shelves, body)) }
 {
     let Some(room) = shelves.len().checked_add(1) else {
@@ -354,7 +332,7 @@ pub fn with_workers<
         Ok(done) => {
             let (answer, returned, gathered, _swept) = done;
             let ends = ends_of(returned, ends);
-            Ok((answer, with_gathered::<N, S, K>(ends, gathered)))
+            Ok((answer, with_gathered(ends, gathered)))
         }
         Err(refused) => Err(refused),
     }

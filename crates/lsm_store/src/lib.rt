@@ -8,8 +8,9 @@
 //! version.
 #![tactic(auto)]
 
-// The state behind its lock, and its readers.
+// The state behind its lock, its readers, and shelves for who works on it.
 mod begin_fault;
+mod forking;
 mod guarded;
 mod invariant;
 mod reader;
@@ -46,6 +47,7 @@ pub mod laws;
 pub use background::Background;
 pub use background_workers::{ReturnedBeside, with_workers, with_workers_returning};
 pub use begin_fault::BeginFault;
+pub use forking::{Shelves, forks};
 pub use gate::{Gate, NoGate};
 pub use guarded::Guarded;
 pub use invariant::{Invariant, Lawful};

@@ -1,13 +1,13 @@
 //! What a reader has besides its end of the board.
 
-ghost use Rattle.std.specs.Prelude.{◌≡◌, ℕ, IfErr, IfOk, OnErr, OnOk};
+ghost use Rattle.std.specs.Prelude.{◌≡◌, ◌+◌, ℕ, IfErr, IfOk, OnErr, OnOk};
 ghost use Rattle.std.specs.Arc.{arc_value};
 ghost use Rattle.lsm_history.specs.History.{IsLater};
 ghost use Rattle.lsm_shelf.specs.Told.{Counted, Forked, NotNamed};
 ghost use Rattle.lsm_slots.specs.Slots.{Epoch, HasEpoch};
 ghost use Rattle.lsm_version.specs.Versions.{numbers_in};
 ghost use Rattle.lsm_store.specs.Promised.{AnswersAll, snapshot_sequences};
-ghost use Rattle.lsm_store.specs.Readers.{known_at, learning_all};
+ghost use Rattle.lsm_store.specs.Readers.{known_by, learning_all};
 
 use boxcar::tag::{Names, Tag};
 use lsm_history::{Catalogue, Memory};
@@ -95,7 +95,7 @@ impl<N: Boarded, S: Shelf> ReaderCache<N, S> {
         shelf: &mut NamedShelf<N, S>,
         blocks: NonZeroUsize,
     ) -> Result<ReaderCache<N, S>, ShelfFault>
-        ensures cache { IfOk result (λ d. d ≡ known_at state.old N.place) }
+        ensures cache { IfOk result (λ d. d ≡ known_by state.old N.place (shelf.old.forks + 1)) }
         ensures same { state.new ≡ state.old }
         ensures told { Forked shelf.old shelf.new }
         ensures cause { IfErr result (λ e. NotNamed e × Counted e shelf.old shelf.new) }

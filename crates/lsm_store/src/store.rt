@@ -1,12 +1,13 @@
 //! The state behind its lock.
 
-ghost use Rattle.std.specs.Prelude.{◌≡◌, ◌≤◌, [], All, IfErr, IfOk, length, map, vec_capacity};
+ghost use Rattle.std.specs.Prelude.{◌≡◌, ◌≤◌, ℕ, [], All, IfErr, IfOk, length, map, vec_capacity};
 ghost use Rattle.std.specs.Prelude.{vec_len};
-ghost use Rattle.lsm_shelf.specs.Told.{Counted, Forked, NotNamed};
+ghost use Rattle.lsm_shelf.specs.Told.{Counted, Forked, NotNamed, fork_at};
 ghost use Rattle.lsm_pins.specs.Known.{Known};
 ghost use Rattle.lsm_state.specs.Held.{Held};
 ghost use Rattle.lsm_store.specs.Compacting.{IsSeated};
-ghost use Rattle.lsm_store.specs.Readers.{IsFreeEnd, SeatsPinners, known_at, seated};
+ghost use Rattle.lsm_store.specs.Readers.{IsFreeEnd, IsKnownBy, SeatsPinners, known_at, seated};
+ghost use Rattle.lsm_store.specs.Readers.{unnumbered};
 
 use crate::guarded::{Fact, Guarded};
 use crate::invariant::{Invariant, Lawful};
@@ -27,7 +28,7 @@ fn caches_for<N: Boarded, S: Shelf>(
     state: &mut State<N, S>,
     shelf: &mut NamedShelf<N, S>,
 ) -> Result<Vec<ReaderCache<N, S>>, ShelfFault>
-    ensures caches { IfOk result (λ v. All (λ d. d ≡ known_at state.old N.place) v.items) }
+    ensures caches { IfOk result (λ v. All (IsKnownBy state.old N.place) v.items) }
     ensures len { IfOk result (λ v. vec_len v ≡ state.old.options.readers) }
     ensures same { state.new ≡ state.old }
     ensures told { Forked shelf.old shelf.new }
@@ -53,8 +54,8 @@ fn seat<N: Boarded, S: Shelf>(
     cache: ReaderCache<N, S>,
 ) -> Reader<N, S>
     requires pinner { IsFreeEnd N.board pinner }
-    requires cache { cache ≡ known_at state.old N.place }
-    ensures seated { result ≡ seated state.old N.place pinner }
+    requires cache { IsKnownBy state.old N.place cache }
+    ensures seated { unnumbered result ≡ seated state.old N.place pinner }
     ensures rest { state.new
         ≡ record state.old { slots = record state.old.slots { board = state.new.slots.board } } }
     ensures same { known_at state.new N.place ≡ known_at state.old N.place }
@@ -73,11 +74,12 @@ fn seat_all<N: Boarded, S: Shelf>(
     readers: Vec<Reader<N, S>>,
 ) -> Vec<Reader<N, S>>
     requires pinners { All (IsFreeEnd N.board) pinners.items }
-    requires caches { All (λ d. d ≡ known_at state.old N.place) caches.items }
+    requires caches { All (IsKnownBy state.old N.place) caches.items }
     requires enough { vec_len pinners ≤ vec_len caches }
     requires none { (readers.items ≡ []) × (vec_len readers ≡ 0) }
     requires room { vec_len pinners ≤ vec_capacity readers }
-    ensures readers { result.items ≡ map (seated state.old N.place) pinners.items }
+    ensures readers { map unnumbered result.items
+        ≡ map (seated state.old N.place) pinners.items }
     ensures len { vec_len result ≡ vec_len pinners }
     ensures rest { state.new
         ≡ record state.old { slots = record state.old.slots { board = state.new.slots.board } } }
@@ -103,7 +105,7 @@ fn make_caches<N: Boarded, S: Shelf>(
     state: &mut State<N, S>,
     shelf: &mut NamedShelf<N, S>,
 ) -> Result<(Vec<ReaderCache<N, S>>, Vec<Reader<N, S>>), ShelfFault>
-    ensures caches { IfOk result (λ r. All (λ d. d ≡ known_at state.old N.place) r.0.items) }
+    ensures caches { IfOk result (λ r. All (IsKnownBy state.old N.place) r.0.items) }
     ensures len { IfOk result (λ r. vec_len r.0 ≡ state.old.options.readers) }
     ensures none { IfOk result (λ r. (r.1.items ≡ []) × (vec_len r.1 ≡ 0)) }
     ensures room { IfOk result (λ r. vec_capacity r.1 ≡ state.old.options.readers) }
@@ -136,7 +138,8 @@ pub struct Store<N: Boarded, S: Shelf, K: Invariant = Lawful> {
 impl<N: Boarded, S: Shelf, K: Invariant> Store<N, S, K> {
     /// The store of a state, and a reader for each pinner that was not taken yet, in their order.
     /// Each has a fork of the shelf and an empty cache of blocks, and has learnt the current
-    /// version. All of that is made before the pinners are taken.
+    /// version. All of that is made before the pinners are taken. The shelf is a fork to which
+    /// nothing was told.
     ///
     /// The state has no more pinners than its options have readers: so it is after `State::create`
     /// and `State::open` with the board that `Board::new` made for these options.
@@ -149,8 +152,10 @@ impl<N: Boarded, S: Shelf, K: Invariant> Store<N, S, K> {
         shelf: NamedShelf<N, S>,
     ) -> Result<(Store<N, S, K>, Vec<Reader<N, S>>), (State<N, S>, NamedShelf<N, S>, ShelfFault)>
         requires seats { SeatsPinners state }
+        requires fork { (number : ℕ) × (shelf ≡ fork_at N.place number) }
         requires kept { (h : Held) → IsSeated state h → K.keeps h }
-        ensures readers { IfOk result (λ r. r.1.items ≡ map (seated state N.place) state.pinners) }
+        ensures readers { IfOk result (λ r.
+            map unnumbered r.1.items ≡ map (seated state N.place) state.pinners) }
         ensures len { IfOk result (λ r. vec_len r.1 ≡ length state.pinners) }
         ensures err { IfErr result (λ e. (e.0 ≡ state) × Forked shelf e.1) }
         ensures cause { IfErr result (λ e. NotNamed e.2 × Counted e.2 shelf e.1) }
@@ -170,6 +175,21 @@ impl<N: Boarded, S: Shelf, K: Invariant> Store<N, S, K> {
             }),
         };
         Ok((store, readers))
+    }
+
+    /// The store of a state, whose readers are let go: it is read by its state alone, under the
+    /// lock. No shelf is asked for a fork.
+    pub fn of(alloc: Global, state: State<N, S>) -> Store<N, S, K>
+        requires kept { (h : Held) → IsSeated state h → K.keeps h }
+    {
+        let mut state = state;
+        let _ends = take_ends(&mut state, alloc);
+        Store {
+            state: Mutex::new(Guarded {
+                state,
+                fact: Fact::new(),
+            }),
+        }
     }
 
     /// Lends the state, which keeps its law (`State::options` tells it), and the fact of the store,

@@ -1,9 +1,9 @@
 //! The thread that sweeps beside workers.
 
-ghost use Rattle.std.specs.Prelude.{◌≡◌, IfSome};
-ghost use Rattle.lsm_shelf.specs.Told.{fresh};
+ghost use Rattle.std.specs.Prelude.{◌≡◌, option_map};
+ghost use Rattle.std.specs.Option.{ForSome};
 ghost use Rattle.lsm_store.specs.Compacting.{IsKeptByCompaction};
-ghost use Rattle.lsm_store.specs.Sweeping.{HasSwept};
+ghost use Rattle.lsm_store.specs.Sweeping.{HasSwept, IsBroughtBack};
 
 use crate::bell::Bell;
 use crate::invariant::Invariant;
@@ -13,37 +13,43 @@ use lsm_slots::Boarded;
 use lsm_table::{NamedShelf, Shelf};
 use std::alloc::Global;
 use std::marker::PhantomData;
+use std::snapshot::Snapshot;
 use std::sync::Wait;
 use std::thread::{Promise, PromisedHandle, Scope, Threads};
 
-/// What the thread that sweeps promises of its shelf, which was a fork to which nothing was told.
+/// What the thread that sweeps promises of its shelf, by what it was given.
 #[derive(Drop)]
 pub(crate) struct Sweeps<N: Boarded, S: Shelf, K: Invariant> {
-    shelf: PhantomData<NamedShelf<N, S>>,
+    given: Snapshot<NamedShelf<N, S>>,
     fact: PhantomData<K>,
 }
 
 impl<N: Boarded, S: Shelf, K: Invariant> Sweeps<N, S, K> {
-    fn new() -> Sweeps<N, S, K> {
+    fn of(given: Snapshot<NamedShelf<N, S>>) -> Sweeps<N, S, K>
+        ensures { result.given.value ≡ given.value }
+    {
         Sweeps {
-            shelf: PhantomData,
+            given,
             fact: PhantomData,
         }
     }
 }
 
 impl<N: Boarded, S: Shelf, K: Invariant> Promise<NamedShelf<N, S>> for Sweeps<N, S, K> {
-    ghost kept_by = { λ _ s. HasSwept (S.refuses N.place) K.keeps (fresh N.place) s };
+    ghost kept_by = { λ p s. HasSwept (S.refuses N.place) K.keeps p.given.value s };
 }
 
-/// The thread that sweeps, if there is one.
+/// The thread that sweeps, if it could be made, and the shelf that it was given, which only clauses
+/// read.
 #[derive(Drop)]
 pub(crate) struct Sweeper<N: Boarded, S: Shelf, K: Invariant> {
+    pub(crate) given: Snapshot<NamedShelf<N, S>>,
     handle: Option<PromisedHandle<NamedShelf<N, S>, Sweeps<N, S, K>>>,
+    ghost its: { ForSome handle (λ h. h.promise.given.value ≡ given.value) },
 }
 
 impl<N: Boarded, S: Shelf, K: Invariant> Sweeper<N, S, K> {
-    /// Starts the thread, over this shelf. Without it, as where it cannot be made, nothing is
+    /// Starts the thread, over this shelf. Without one, as where it cannot be made, nothing is
     /// removed.
     pub(crate) fn start<'s, 'e, R: Threads + Wait + Sync>(
         scope: &'s Scope<'s, &'e ()>,
@@ -52,35 +58,38 @@ impl<N: Boarded, S: Shelf, K: Invariant> Sweeper<N, S, K> {
         store: &'e Store<N, S, K>,
         bell: &'e Bell,
         shelf: Option<NamedShelf<N, S>>,
-    ) -> Sweeper<N, S, K>
+    ) -> Option<Sweeper<N, S, K>>
         requires kept { IsKeptByCompaction S.honest K.keeps }
-        requires fresh { IfSome shelf (λ s. s ≡ fresh N.place) }
+        ensures given { option_map (λ t. t.given.value) result ≡ shelf }
     {
-        let Some(shelf) = shelf else {
-            return Sweeper { handle: None };
-        };
+        let shelf = shelf?;
+        let given = Snapshot::of(&shelf);
         let handle = scope.spawn_with(
-            Sweeps::new(),
+            Sweeps::of(Snapshot::of(&shelf)),
             move || -> NamedShelf<N, S>
                 requires kept { IsKeptByCompaction S.honest K.keeps }
-                requires fresh { shelf ≡ fresh N.place }
-                ensures swept { HasSwept (S.refuses N.place) K.keeps (fresh N.place) result }
+                ensures swept { HasSwept (S.refuses N.place) K.keeps shelf result }
             {
                 let mut shelf = shelf;
                 sweep_on(rt, alloc, store, bell, &mut shelf);
                 shelf
             },
         );
-        Sweeper {
+        Some(Sweeper {
+            given,
             handle: handle.ok(),
-        }
+        })
     }
 
-    /// Waits for the thread: its shelf, where there was one.
-    pub(crate) fn join<R: Threads>(self, rt: &R) -> Option<NamedShelf<N, S>>
-        ensures { IfSome result (HasSwept (S.refuses N.place) K.keeps (fresh N.place)) }
+    /// Waits for the thread, if there is one: its shelf.
+    pub(crate) fn join<R: Threads>(
+        sweeper: Option<Sweeper<N, S, K>>,
+        rt: &R,
+    ) -> Option<NamedShelf<N, S>>
+        ensures { IsBroughtBack (S.refuses N.place) K.keeps
+            (option_map (λ t. t.given.value) sweeper) result }
     {
-        let Sweeper { handle } = self;
+        let Sweeper { given: _, handle } = sweeper?;
         match handle {
             Some(handle) => Some(handle.join(rt)),
             None => None,

@@ -1,9 +1,8 @@
 //! What nothing needs any more is removed beside workers.
 
-ghost use Rattle.std.specs.Prelude.{◌≡◌, IfSome, vec_len};
-ghost use Rattle.lsm_shelf.specs.Told.{fresh};
+ghost use Rattle.std.specs.Prelude.{◌≡◌, vec_len};
 ghost use Rattle.lsm_store.specs.Compacting.{IsCompactingStep, IsKeptByCompaction};
-ghost use Rattle.lsm_store.specs.Sweeping.{AreLeft, HasSwept, IsSwept, LastForked, Leaves, Removes};
+ghost use Rattle.lsm_store.specs.Sweeping.{AreLeft, HasSwept, IsSwept, LastForks, Leaves, Removes};
 ghost use Rattle.lsm_store.specs.Sweeping.{RemovesEach, TriesToRemove};
 
 use crate::bell::Bell;
@@ -131,21 +130,20 @@ pub(crate) fn sweep_on<N: Boarded, S: Shelf, K: Invariant, R: Wait>(
 }
 
 /// A fork of the last shelf; none where there is no shelf, or the fork is refused.
-#[tactic(auto, using(crate::proofs::SweepLaws::forked_once, crate::proofs::SweepLaws::none_lent, crate::proofs::SweepLaws::last_lent))]
+#[tactic(auto, using(crate::proofs::SweepLaws::none_lent, crate::proofs::SweepLaws::last_lent, crate::proofs::SweepLaws::last_refused))]
 pub(crate) fn fork_last<N: Boarded, S: Shelf>(
     alloc: Global,
     shelves: &mut Vec<NamedShelf<N, S>>,
 ) -> Option<NamedShelf<N, S>>
-    ensures fork { IfSome result (λ s. s ≡ fresh N.place) }
-    ensures lent { LastForked shelves.old.items shelves.new.items }
+    ensures lent { LastForks shelves.old.items shelves.new.items result }
     ensures len { vec_len shelves.new ≡ vec_len shelves.old }
 {
     let Some(mut last) = shelves.pop() else {
         return None;
     };
-    let fork = last.fork(alloc).ok();
+    let fork = last.fork(alloc);
     let Ok(()) = shelves.push(last) else {
         unreachable!()
     };
-    fork
+    fork.ok()
 }

@@ -220,10 +220,8 @@ fn run_all<N: Boarded, S: Shelf, K: Invariant, G: Gate + Sync, R: Threads + Wait
     )
 }
 
-/// As `run_workers_returning`, but each worker takes what is picked (`Picks`). Those that compact a
-/// range end where no file of it is left at its levels, or all that is left waits for a live job; a
-/// deletion with nothing below it goes, but where a snapshot needs it.
-pub fn run_workers_by<N: Boarded, S: Shelf, K: Invariant, G: Gate + Sync, R: Threads + Wait + Sync>(
+/// As `run_workers_returning`, but each worker takes what is picked (`Picks`).
+fn run_picking<N: Boarded, S: Shelf, K: Invariant, G: Gate + Sync, R: Threads + Wait + Sync>(
     rt: &R,
     alloc: Global,
     store: &Store<N, S, K>,
@@ -284,7 +282,34 @@ pub fn run_workers_returning<
         v.items) }
     ensures back { IfErr result (λ e. e.value ≡ shelves) }
 {
-    run_workers_by(rt, alloc, store, shelves, gate, &Picks::Choice)
+    run_picking(rt, alloc, store, shelves, gate, &Picks::Choice)
+}
+
+/// As `run_workers_returning`, but each worker takes what is picked (`Picks`), and the shelves are let
+/// go. Workers that compact a range end where no file of it is left at its levels, or all that is
+/// left waits for a live job; a deletion with nothing below it goes, but where a snapshot needs it.
+pub fn run_workers_by<N: Boarded, S: Shelf, K: Invariant, G: Gate + Sync, R: Threads + Wait + Sync>(
+    rt: &R,
+    alloc: Global,
+    store: &Store<N, S, K>,
+    shelves: Vec<NamedShelf<N, S>>,
+    gate: &G,
+    picks: &Picks,
+) -> Result<Vec<WorkerEnd>, AllocFailed<Vec<NamedShelf<N, S>>>>
+    requires kept { IsKeptByCompaction S.honest K.keeps }
+    ensures len { IfOk result (λ v. vec_len v ≡ vec_len shelves) }
+    ensures ends { IfOk result (λ v. All (IsWorkersEnd S.honest) v.items) }
+    ensures ended { IfOk result (λ v. HaveEnded S.honest (S.refuses N.place) K.keeps
+        (given_each picks.now true shelves.items) v.items) }
+    ensures back { IfErr result (λ e. e.value ≡ shelves) }
+{
+    let Ok(ends) = Vec::with_capacity(alloc, shelves.len()) else {
+        return Err(AllocFailed { value: shelves });
+    };
+    match run_picking(rt, alloc, store, shelves, gate, picks) {
+        Ok(returned) => Ok(ends_of(returned, ends)),
+        Err(refused) => Err(refused),
+    }
 }
 
 /// As `run_workers_returning`, and the shelves are let go.
@@ -302,11 +327,5 @@ pub fn run_workers<N: Boarded, S: Shelf, K: Invariant, G: Gate + Sync, R: Thread
         (given_each Choice true shelves.items) v.items) }
     ensures back { IfErr result (λ e. e.value ≡ shelves) }
 {
-    let Ok(ends) = Vec::with_capacity(alloc, shelves.len()) else {
-        return Err(AllocFailed { value: shelves });
-    };
-    match run_workers_returning(rt, alloc, store, shelves, gate) {
-        Ok(returned) => Ok(ends_of(returned, ends)),
-        Err(refused) => Err(refused),
-    }
+    run_workers_by(rt, alloc, store, shelves, gate, &Picks::Choice)
 }

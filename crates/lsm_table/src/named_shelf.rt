@@ -7,7 +7,7 @@ ghost use Rattle.lsm_shelf.specs.Asked.{Put, ReadAt, Load, Remove, ListTables};
 ghost use Rattle.lsm_shelf.specs.Asked.{ReadManifest, StartManifest, AppendManifest};
 ghost use Rattle.lsm_shelf.specs.Told.{Becomes, Counted, CountedBy, NotTaken, NotNamed, TakenIs};
 ghost use Rattle.lsm_shelf.specs.Told.{putting, removed_by, listing, sending, appending, finding};
-ghost use Rattle.lsm_shelf.specs.Told.{forking, fresh};
+ghost use Rattle.lsm_shelf.specs.Told.{fork_at, forking};
 
 use crate::naming::Naming;
 use lsm_shelf::{Shelf, ShelfFault};
@@ -181,7 +181,7 @@ impl<N: Naming, S: Shelf> NamedShelf<N, S> {
 
     /// As `Shelf::fork`: another value on the same contents, and so of the same name.
     pub fn fork(&mut self, alloc: Global) -> Result<NamedShelf<N, S>, ShelfFault>
-        ensures fork { IfOk result (λ s. s ≡ fresh N.place) }
+        ensures fork { IfOk result (λ s. s ≡ fork_at N.place (self.old.forks + 1)) }
         ensures ok { OnOk result (Becomes (forking 1 self.old) self.new) }
         ensures err { OnErr result (Becomes self.old self.new) }
         ensures cause { IfErr result (λ e. NotNamed e × Counted e self.old self.new) }

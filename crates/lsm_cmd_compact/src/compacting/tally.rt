@@ -3,23 +3,21 @@
 ghost use Rattle.std.specs.Prelude.{◌≡◌, IfErr, OnOk};
 ghost use Rattle.lsm_cmd_compact.specs.Compacting.{AreFaultless, IsFirstFault};
 
-use lsm_slots::Boarded;
-use lsm_store::{Returned, WorkerFault};
-use lsm_table::Shelf;
+use lsm_store::{WorkerEnd, WorkerFault};
 
 /// The fault of a worker, if it has one.
-fn fault_of<N: Boarded, S: Shelf>(returned: &Returned<N, S>) -> Option<WorkerFault>
-    ensures { result ≡ returned.now.0.fault }
+fn fault_of(end: &WorkerEnd) -> Option<WorkerFault>
+    ensures { result ≡ end.now.fault }
 {
-    returned.0.fault
+    end.fault
 }
 
 /// Ok where no worker has a fault; else the fault of the first one that has one.
-pub(crate) fn judge<N: Boarded, S: Shelf>(returned: &[Returned<N, S>]) -> Result<(), WorkerFault>
-    ensures faultless { OnOk result (AreFaultless returned.now) }
-    ensures first { IfErr result (λ fault. IsFirstFault fault returned.now) }
+pub(crate) fn judge(ends: &[WorkerEnd]) -> Result<(), WorkerFault>
+    ensures faultless { OnOk result (AreFaultless ends.now) }
+    ensures first { IfErr result (λ fault. IsFirstFault fault ends.now) }
 {
-    for one in returned {
+    for one in ends {
         if let Some(fault) = fault_of(one) {
             return Err(fault);
         }

@@ -13,7 +13,7 @@ ghost use Rattle.lsm_storage.specs.Plans.{StartStopped, AppendStopped, put_plan,
 ghost use Rattle.lsm_storage.specs.Plans.{append_plan, manifest_read, manifest_measured};
 ghost use Rattle.lsm_shelf.specs.Told.{Becomes, Counted, CountedBy, NotTaken, NotNamed, TakenIs};
 ghost use Rattle.lsm_shelf.specs.Told.{putting, removed_by, listing, sending, appending, finding};
-ghost use Rattle.lsm_shelf.specs.Told.{forking, fresh};
+ghost use Rattle.lsm_shelf.specs.Told.{forking, next_fork};
 
 use crate::account::{
     Account, tag_of_both, tag_of_bytes, tag_of_more, tag_of_number, tag_of_numbers,
@@ -265,7 +265,7 @@ where
 
     fn fork(&mut self, _alloc: Global) -> Result<FileShelf<C>, ShelfFault>
         ensures fork { IfOk result (λ s.
-            file_told C.place s ≡ fresh (file_told C.place self.old).place) }
+            file_told C.place s ≡ next_fork (file_told C.place self.old)) }
         ensures calls { C.calls (folder_of self.new) ≡ C.calls (folder_of self.old) }
         ensures ok { OnOk result
             (Becomes (forking 1 (file_told C.place self.old)) (file_told C.place self.new)) }
@@ -280,7 +280,10 @@ where
         match self.folder.fork() {
             Ok(folder) => {
                 self.account.forks = tag_of_more(&self.account.forks);
-                Ok(FileShelf::over(folder))
+                Ok(FileShelf {
+                    folder,
+                    account: Account::of_fork(&self.account.forks),
+                })
             }
             Err(fault) => Err(device(fault)),
         }

@@ -5,8 +5,8 @@ ghost use Rattle.std.specs.Prelude.{IsErrOf, OnOk, OnErr, IsTrue};
 ghost use Rattle.std.specs.List.Sorted.{IsStrictlyIncreasing};
 ghost use Rattle.boxcar.specs.Table.{Shows};
 ghost use Rattle.lsm_shelf.specs.Told.{Becomes, Counted, CountedBy, NotDevice, NotNamed, NotTaken};
-ghost use Rattle.lsm_shelf.specs.Told.{TakenIs, forking, fresh, putting, removing, listing};
-ghost use Rattle.lsm_shelf.specs.Told.{sending, appending, finding};
+ghost use Rattle.lsm_shelf.specs.Told.{TakenIs, forking, fresh, next_fork, putting, removing};
+ghost use Rattle.lsm_shelf.specs.Told.{listing, sending, appending, finding};
 
 use crate::account::{
     Account, tag_of_both, tag_of_bytes, tag_of_more, tag_of_number, tag_of_numbers,
@@ -236,7 +236,7 @@ impl Shelf for MemoryShelf {
     }
 
     fn fork(&mut self, _alloc: Global) -> Result<MemoryShelf, ShelfFault>
-        ensures fork { IfOk result (λ s. memory_told s ≡ fresh (memory_told self.old).place) }
+        ensures fork { IfOk result (λ s. memory_told s ≡ next_fork (memory_told self.old)) }
         ensures ok { OnOk result
             (Becomes (forking 1 (memory_told self.old)) (memory_told self.new)) }
         ensures err { OnErr result (Becomes (memory_told self.old) (memory_told self.new)) }
@@ -249,7 +249,7 @@ impl Shelf for MemoryShelf {
         self.account.forks = tag_of_more(&self.account.forks);
         Ok(MemoryShelf {
             contents,
-            account: Account::new(),
+            account: Account::of_fork(&self.account.forks),
         })
     }
 

@@ -11,7 +11,7 @@ tries-init g c = record { rounds = (zero, refl); quiet = λ q. Keeps-refl _ }
 pub tries-preserved : goal.tries-preserved
 tries-preserved g c = record {
   rounds = rounds_more (g.S.Shelf.refuses g.N.Naming.place) g.S.Shelf.honest g.K.Invariant.keeps g.N.Naming.place c.args.options.now.workers c.args.picks.now _ _ _ c.tries.invariant.rounds
-      c.in_ok-take_round.ensures.round;
+      c.in_ok-take_round.ensures.round (c.is_cleared.ensures.more c.if-is_cleared.false);
   quiet = quiet_then c.args.options.now.progress _ _ _ c.tries.invariant.quiet c.in_ok-take_round.ensures.quiet;
 }
 

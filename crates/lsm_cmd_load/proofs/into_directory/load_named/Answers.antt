@@ -1,13 +1,13 @@
-use Rattle.std.proofs.Common.{subst, sym}
+use Rattle.std.proofs.Common.{◌+◌, IfSome, subst, sym}
 use Rattle.std.proofs.lemmas.Result.{err_from_is_err_and}
 use Rattle.lsm_shelf.specs.Place.{Place}
 use Rattle.lsm_bulk_load.proofs.CallerLemmas.{come_compacting, come_ingests, come_taken}
 use Rattle.lsm_bulk_load.specs.Keeping.{IsOfLines}
-use Rattle.lsm_bulk_load.specs.Loading.{HaveEndedWell, IsUnloaded}
+use Rattle.lsm_bulk_load.specs.Loading.{IsUnloaded}
 use Rattle.lsm_bulk_load.specs.Marks.{marked_in}
 use Rattle.lsm_directory.proofs.CallerLemmas.{keeps_same}
-use Rattle.lsm_cmd_load.specs.Loaded.{AreOfLoad, HasComeBy}
-use Rattle.lsm_cmd_load.proofs.LoadedLaws.{loads_whole, unswept}
+use Rattle.lsm_cmd_load.specs.Loaded.{AreOfLoad, HasComeBy, IsOfLoad}
+use Rattle.lsm_cmd_load.proofs.LoadedLaws.{beside, loads_whole, unswept}
 use Rattle.lsm_cmd_load.proofs.into_directory.load_named.Goals as goal
 
 pub load_beside-done-requires-clause-first : goal.load_beside-done-requires-clause-first
@@ -35,10 +35,14 @@ returns-clause-fault g c = (
     looked = c.load_beside-done.ensures.kept.2;
     none = c.load_beside-done.ensures.kept.3;
     unloaded =
-        subst (λ (at : Place). IsUnloaded (g.S.Shelf.refuses g.N.Naming.place) (AreOfLoad (g.S.Shelf.refuses g.N.Naming.place) g.S.Shelf.honest c.args.lines c.in_ok-state.state at c.args.options.workers)
+        subst (λ (at : Place). IsUnloaded (g.S.Shelf.refuses g.N.Naming.place) (AreOfLoad (g.S.Shelf.refuses g.N.Naming.place) g.S.Shelf.honest c.args.lines c.in_ok-state.state at c.start.new.shelf.forks c.args.options.workers)
         (HasComeBy (g.S.Shelf.refuses g.N.Naming.place) g.S.Shelf.honest c.args.lines c.in_ok-state.state) c.args.lines (marked_in c.in_ok-state.state) (marked_in c.load_beside-done.result.state)
         c.load_beside-done.result.progress c.in-Err.fault) (sym c.requires.shelf) (rw c.in-Err.is at c.load_beside-done.ensures.refused);
-    forked = c.load_beside-done.ensures.told;
+    forked = rw c.in-Err.is at c.load_beside-done.ensures.forked;
+    own = c.load_beside-done.result.own;
+    told =
+        subst (λ (at : Place). IfSome c.load_beside-done.result.own (IsOfLoad (g.S.Shelf.refuses g.N.Naming.place) g.S.Shelf.honest c.args.lines c.in_ok-state.state at (c.start.new.shelf.forks + c.args.options.workers + 1)))
+        (sym c.requires.shelf) c.load_beside-done.ensures.told;
   },
 )
 
@@ -47,11 +51,9 @@ returns-in_err-sweep-in-Ok-clause-fault g c =
     let p = err_from_is_err_and c.from_residual-in_err-sweep-in-Ok.result c.from_residual-in_err-sweep-in-Ok.ensures.1 in
     let loaded = rw c.in-Ok.is at c.load_beside-done.ensures.loaded in
     let idle = rw c.in-Ok.is at c.load_beside-done.ensures.idle in
-    let just = rw c.in-Ok.is at c.load_beside-done.ensures.just in
-    let well = rw c.in-Ok.is at c.load_beside-done.ensures.worked in
-    let worked =
-    subst (λ (at : Place). HaveEndedWell (AreOfLoad (g.S.Shelf.refuses g.N.Naming.place) g.S.Shelf.honest c.args.lines c.in_ok-state.state at c.args.options.workers)) (sym c.requires.shelf) well
-    in
+    let told = beside (g.S.Shelf.refuses g.N.Naming.place) g.S.Shelf.honest c.args.lines c.in_ok-state.state c.args.shelf.now.place g.N.Naming.place c.args.options.workers c.load_beside-done.result.own c.start.new.shelf
+    c.load_beside-done.new.shelf c.requires.shelf (rw c.in-Ok.is at c.load_beside-done.ensures.just) (rw c.in-Ok.is at c.load_beside-done.ensures.worked) (rw c.in-Ok.is at c.load_beside-done.ensures.own)
+    c.load_beside-done.ensures.told in
     rw (p.1, p.2) (unswept (g.S.Shelf.refuses g.N.Naming.place) g.S.Shelf.honest c.args.prepared.now.start c.args.prepared.now.logs.items c.args.options.workers c.args.lines c.load_beside-done.result.progress
     c.in_err-sweep-in-Ok.field-0.0 g.N.Boarded.board c.in_ok-state.state c.load_beside-done.result.state c.sweep.new.state c.args.shelf.now c.start.new.shelf c.load_beside-done.new.shelf
     c.sweep.new.shelf c.in_ok-state.ensures.started loaded (record {
@@ -63,7 +65,7 @@ returns-in_err-sweep-in-Ok-clause-fault g c =
       rest = c.sweep.ensures.rest;
       idle = λ h. c.sweep.ensures.idle (idle h);
       same = c.sweep.ensures.same;
-    }) just worked c.in_err-sweep-in-Ok.ensures.refused)
+    }) told c.in_err-sweep-in-Ok.ensures.refused)
 
 pub returns-in_err-sweep-in-Ok-clause-left : goal.returns-in_err-sweep-in-Ok-clause-left
 returns-in_err-sweep-in-Ok-clause-left g c =
@@ -74,11 +76,9 @@ pub returns-in-Ok-reply-clause-done : goal.returns-in-Ok-reply-clause-done
 returns-in-Ok-reply-clause-done g c =
     let loaded = rw c.in-Ok.is at c.load_beside-done.ensures.loaded in
     let idle = rw c.in-Ok.is at c.load_beside-done.ensures.idle in
-    let just = rw c.in-Ok.is at c.load_beside-done.ensures.just in
-    let well = rw c.in-Ok.is at c.load_beside-done.ensures.worked in
-    let worked =
-    subst (λ (at : Place). HaveEndedWell (AreOfLoad (g.S.Shelf.refuses g.N.Naming.place) g.S.Shelf.honest c.args.lines c.in_ok-state.state at c.args.options.workers)) (sym c.requires.shelf) well
-    in (
+    let told = beside (g.S.Shelf.refuses g.N.Naming.place) g.S.Shelf.honest c.args.lines c.in_ok-state.state c.args.shelf.now.place g.N.Naming.place c.args.options.workers c.load_beside-done.result.own c.start.new.shelf
+    c.load_beside-done.new.shelf c.requires.shelf (rw c.in-Ok.is at c.load_beside-done.ensures.just) (rw c.in-Ok.is at c.load_beside-done.ensures.worked) (rw c.in-Ok.is at c.load_beside-done.ensures.own)
+    c.load_beside-done.ensures.told in (
       c.load_beside-done.result.progress,
       loads_whole (g.S.Shelf.refuses g.N.Naming.place) g.S.Shelf.honest c.args.prepared.now.start c.args.prepared.now.logs.items c.args.options.workers c.args.lines c.load_beside-done.result.progress g.N.Boarded.board c.in_ok-state.state
           c.load_beside-done.result.state c.sweep.new.state c.args.shelf.now c.start.new.shelf c.load_beside-done.new.shelf c.sweep.new.shelf c.in_ok-state.ensures.started
@@ -91,7 +91,7 @@ returns-in-Ok-reply-clause-done g c =
             rest = c.sweep.ensures.rest;
             idle = λ h. c.sweep.ensures.idle (idle h);
             same = c.sweep.ensures.same;
-          }) just worked c.in_ok-sweep-in-Ok.ensures.ok,
+          }) told c.in_ok-sweep-in-Ok.ensures.ok,
       c.in-Ok-reply.ensures.written,
     )
 
@@ -99,11 +99,9 @@ pub returns-in-Ok-clause-fault : goal.returns-in-Ok-clause-fault
 returns-in-Ok-clause-fault g c =
     let loaded = rw c.in-Ok.is at c.load_beside-done.ensures.loaded in
     let idle = rw c.in-Ok.is at c.load_beside-done.ensures.idle in
-    let just = rw c.in-Ok.is at c.load_beside-done.ensures.just in
-    let well = rw c.in-Ok.is at c.load_beside-done.ensures.worked in
-    let worked =
-    subst (λ (at : Place). HaveEndedWell (AreOfLoad (g.S.Shelf.refuses g.N.Naming.place) g.S.Shelf.honest c.args.lines c.in_ok-state.state at c.args.options.workers)) (sym c.requires.shelf) well
-    in (
+    let told = beside (g.S.Shelf.refuses g.N.Naming.place) g.S.Shelf.honest c.args.lines c.in_ok-state.state c.args.shelf.now.place g.N.Naming.place c.args.options.workers c.load_beside-done.result.own c.start.new.shelf
+    c.load_beside-done.new.shelf c.requires.shelf (rw c.in-Ok.is at c.load_beside-done.ensures.just) (rw c.in-Ok.is at c.load_beside-done.ensures.worked) (rw c.in-Ok.is at c.load_beside-done.ensures.own)
+    c.load_beside-done.ensures.told in (
       c.load_beside-done.result.progress,
       loads_whole (g.S.Shelf.refuses g.N.Naming.place) g.S.Shelf.honest c.args.prepared.now.start c.args.prepared.now.logs.items c.args.options.workers c.args.lines c.load_beside-done.result.progress g.N.Boarded.board c.in_ok-state.state
           c.load_beside-done.result.state c.sweep.new.state c.args.shelf.now c.start.new.shelf c.load_beside-done.new.shelf c.sweep.new.shelf c.in_ok-state.ensures.started
@@ -116,5 +114,5 @@ returns-in-Ok-clause-fault g c =
             rest = c.sweep.ensures.rest;
             idle = λ h. c.sweep.ensures.idle (idle h);
             same = c.sweep.ensures.same;
-          }) just worked c.in_ok-sweep-in-Ok.ensures.ok,
+          }) told c.in_ok-sweep-in-Ok.ensures.ok,
     )

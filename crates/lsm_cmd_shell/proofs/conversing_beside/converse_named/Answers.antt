@@ -1,8 +1,7 @@
 use Rattle.std.proofs.Common.{ℕ, ◌≤◌, ◌+◌, inl, inr, subst, sym}
 use Rattle.std.proofs.KnownBytes.{Keeps-refl}
 use Rattle.lsm_shelf.specs.Stored.{Stored}
-use Rattle.lsm_shelf.proofs.CallerLemmas.{forked_none}
-use Rattle.lsm_cmd_shell.proofs.BesideLaws.{conversed, judged_done, judged_fault, unmanned}
+use Rattle.lsm_cmd_shell.proofs.BesideLaws.{conversed, judged_done, judged_fault}
 use Rattle.lsm_cmd_shell.proofs.KeepingLaws.{come_compacting, come_found, come_replies}
 use Rattle.lsm_cmd_shell.proofs.conversing_beside.converse_named.Goals as goal
 
@@ -16,13 +15,10 @@ pub converse_on-requires-clause-asked : goal.converse_on-requires-clause-asked
 converse_on-requires-clause-asked g c κs within = come_replies g.S.Shelf.honest c.args.form c.args.lines.left _
 
 pub returns-in-Err-new-clause-fault : goal.returns-in-Err-new-clause-fault
-returns-in-Err-new-clause-fault g c = inl (inl (c.of_writer-in-Err-new.ensures, inr (c.in-Ok.state, c.start.new.shelf, c.in-Ok.ensures.started, forked_none _)), Keeps-refl _)
+returns-in-Err-new-clause-fault g c = inl (c.of_writer-in-Err-new.ensures, Keeps-refl _, inr (c.in-Ok.state, c.in-Ok.ensures.started))
 
 pub returns-in-Err-converse_on-clause-fault : goal.returns-in-Err-converse_on-clause-fault
-returns-in-Err-converse_on-clause-fault g c =
-    let There = Stored g.row.S-Receipt.Denot (g.S.Shelf.is_of g.N.Naming.place) g.S.Receipt.TableReceipt.number g.S.Receipt.TableReceipt.image in
-    unmanned There (g.S.Shelf.refuses g.N.Naming.place) g.S.Shelf.honest c.args.prepared.now.start c.args.prepared.now.logs.items c.args.form c.args.bails c.args.workers c.args.lines.left c.in-Err-converse_on.fault c.args.shelf.now
-    c.converse_on.new.shelf _ _ (c.in-Ok.state, c.start.new.shelf, c.in-Ok.ensures.started, c.converse_on.ensures.told) c.in-Err-converse_on.ensures.refused
+returns-in-Err-converse_on-clause-fault g c = inr (inr (inl (c.in-Ok.state, c.start.new.shelf, c.in-Ok.ensures.started, c.in-Err-converse_on.ensures.refused)))
 
 pub returns-in-Ok-converse_on : goal.returns-in-Ok-converse_on
 returns-in-Ok-converse_on g c =
@@ -36,11 +32,11 @@ returns-in-Ok-converse_on g c =
     let ends = c.deref.result.now in
     let here = c.in-Ok-converse_on in
     let just = rw c.in-Ok-converse_on.is at c.converse_on.ensures.just in
-    let talked = conversed Refused H start logs c.args.form c.args.bails c.args.workers input here.ended.0 ends here.ended.1.items c.args.shelf.now c.start.new.shelf c.converse_on.new.shelf old c.in-Ok.state here._left c.in-Ok-new.desk
+    let talked = conversed Refused H start logs c.args.form c.args.bails c.args.workers input here.ended.0.0 ends here.ended.1.items c.args.shelf.now c.start.new.shelf c.converse_on.new.shelf here.ended.0.1 old c.in-Ok.state here._left c.in-Ok-new.desk
     g.N.Naming.place c.requires.shelf c.in-Ok.ensures.started just c.in-Ok-new.ensures.clear here.ensures.talked here.ensures.kept c.deref.ensures.value
     (subst (λ (n : ℕ). (c.args.workers ≤ n) × (n ≤ c.args.workers + 1)) (sym c.deref.ensures.len) here.ensures.count) here.ensures.ends here.ensures.ended
     in
     record {
-      done = judged_done Refused H start logs c.args.form c.args.bails c.args.workers input here.ended.0 ends c.args.shelf.now c.converse_on.new.shelf old c.judge.result talked c.judge.ensures.done;
-      fault = judged_fault There Refused H start logs c.args.form c.args.bails c.args.workers input here.ended.0 ends c.args.shelf.now c.converse_on.new.shelf old _ c.judge.result talked c.judge.ensures.fault;
+      done = judged_done Refused H start logs c.args.form c.args.bails c.args.workers input here.ended.0.0 ends c.args.shelf.now c.converse_on.new.shelf old c.judge.result talked c.judge.ensures.done;
+      fault = judged_fault There Refused H start logs c.args.form c.args.bails c.args.workers input here.ended.0.0 ends c.args.shelf.now c.converse_on.new.shelf old _ c.judge.result talked c.judge.ensures.fault;
     }

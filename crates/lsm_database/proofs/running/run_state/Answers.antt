@@ -3,11 +3,12 @@ use Rattle.lsm_codec.specs.Entries.{Entry}
 use Rattle.lsm_shelf.proofs.CallerLemmas.{forked_then}
 use Rattle.lsm_state.specs.Held.{Held}
 use Rattle.lsm_store.specs.Compacting.{IsSeated}
+use Rattle.lsm_store.proofs.ForkLaws.{forked_at_most, forked_times}
 use Rattle.lsm_database.proofs.KeepingLaws.{come_seated}
 use Rattle.lsm_database.proofs.running.run_state.Goals as goal
 
-pub new-requires-clause-kept : goal.new-requires-clause-kept
-new-requires-clause-kept g c κs within = λ h seated.
+pub of-store-requires-clause-kept : goal.of-store-requires-clause-kept
+of-store-requires-clause-kept g c κs within = λ h seated.
     come_seated (g.S.Shelf.refuses g.N.Naming.place) g.S.Shelf.honest g.A.Asking.asks
     g.A.Asking.found h (subst (λ (s : Held). IsSeated s h) (sym c.requires.found) seated)
 
@@ -24,13 +25,13 @@ pub returns-in-Err-clause-refused : goal.returns-in-Err-clause-refused
 returns-in-Err-clause-refused g c =
     inr (c.in-Err.fault, c.of_shelf.ensures, c.in-Err.ensures.cause)
 
-pub returns-in-Err-new-clause-refused : goal.returns-in-Err-new-clause-refused
-returns-in-Err-new-clause-refused g c =
-    inr (c.in-Err-new.fault, c.of_shelf-in-Err-new.ensures, c.in-Err-new.ensures.cause)
+pub returns-in-Err-of-clause-refused : goal.returns-in-Err-of-clause-refused
+returns-in-Err-of-clause-refused g c =
+    inr (c.in-Err-of.fault, c.of_shelf-in-Err-of.ensures, c.in-Err-of.ensures.cause)
 
-pub returns-in-Err-new-clause-told : goal.returns-in-Err-new-clause-told
-returns-in-Err-new-clause-told g c =
-    forked_then _ _ _ c.cache_over.ensures.told c.new.ensures.told
+pub returns-in-Err-of-clause-told : goal.returns-in-Err-of-clause-told
+returns-in-Err-of-clause-told g c =
+    forked_then _ _ _ c.cache_over.ensures.told (forked_at_most _ _ _ c.in-Err-of.ensures.fewer)
 
 pub returns-in-Some-clause-said : goal.returns-in-Some-clause-said
 returns-in-Some-clause-said g c =
@@ -45,10 +46,10 @@ returns-in-Some-clause-said g c =
 
 pub returns-in-Some-clause-told : goal.returns-in-Some-clause-told
 returns-in-Some-clause-told g c =
-    forked_then _ _ _ c.cache_over.ensures.told c.new.ensures.told
+    forked_then _ _ _ c.cache_over.ensures.told (forked_times _ _ _ c.in-Ok-of.ensures.just)
 
 pub returns-clause-told : goal.returns-clause-told
-returns-clause-told g c = forked_then _ _ _ c.cache_over.ensures.told c.new.ensures.told
+returns-clause-told g c = forked_then _ _ _ c.cache_over.ensures.told (forked_times _ _ _ c.in-Ok-of.ensures.just)
 
 pub returns-clause-refused : goal.returns-clause-refused
 returns-clause-refused g c = inl refl

@@ -2,12 +2,12 @@ use Rattle.std.proofs.Common.{◌≡◌, [], All, List, map, sym, subst, ap, ◌
 use Rattle.lsm_pins.specs.Known.{Known}
 use Rattle.lsm_slots.specs.Slots.{current_id}
 use Rattle.lsm_state.specs.Held.{Held}
-use Rattle.lsm_store.specs.Readers.{KnownVersion, known_at, seated}
+use Rattle.lsm_store.specs.Readers.{IsKnownBy, KnownVersion, seated}
 use Rattle.lsm_store.proofs.store.Store.new.Goals as goal
 
 pub seat_all-readers-requires-clause-caches : goal.seat_all-readers-requires-clause-caches
 seat_all-readers-requires-clause-caches g c κs within =
-    let AreAt = (λ (h : Held). All (λ (d : KnownVersion). d ≡ known_at h g.N.Naming.place) c.in-Ok.made.0.items) in
+    let AreAt = (λ (h : Held). All (IsKnownBy h g.N.Naming.place) c.in-Ok.made.0.items) in
     subst AreAt (sym c.take_ends-pinners.ensures.same) (subst AreAt (sym c.make_caches.ensures.same) c.in-Ok.ensures.caches)
 
 pub returns-clause-readers : goal.returns-clause-readers
