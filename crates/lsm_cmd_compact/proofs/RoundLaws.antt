@@ -1,12 +1,11 @@
 -- Rounds of workers, one after another.
-use Rattle.std.proofs.Common.{◌≡◌, ℕ, suc, List, All, length, subst, inr, arith}
+use Rattle.std.proofs.Common.{◌≡◌, ℕ, suc, List, All, length, subst, inr}
 use Rattle.std.proofs.Common.{true}
-use Rattle.std.specs.Prelude.{◌⊎◌, Result, Err}
+use Rattle.std.specs.Prelude.{◌⊎◌}
 use Rattle.lsm_shelf.specs.Asked.{Asked}
 use Rattle.lsm_shelf.specs.Place.{Place}
-use Rattle.lsm_shelf.specs.Told.{CountedBy, ForkedAtMost, ForkedTimes, NotNamed, Told, forks_behind}
+use Rattle.lsm_shelf.specs.Told.{ForkedTimes, Told, forks_behind}
 use Rattle.lsm_shelf.specs.declared.shelf_fault.ShelfFault.{ShelfFault}
-use Rattle.lsm_shelf.specs.declared.shelf_fault.ShelfFault.TheVariants as shelf_faults
 use Rattle.lsm_state.specs.Collecting.{SameCounts}
 use Rattle.lsm_state.specs.Held.{Held}
 use Rattle.lsm_store.specs.Workers.{IsWorkersEnd}
@@ -14,24 +13,13 @@ use Rattle.lsm_store.specs.Working.{HaveEnded, given_each}
 use Rattle.lsm_store.specs.declared.picks.Picks.{Picks}
 use Rattle.lsm_store.specs.declared.worker_end.WorkerEnd.{WorkerEnd}
 use Rattle.lsm_store.specs.declared.worker_fault.WorkerFault.{WorkerFault}
-use Rattle.lsm_opening.specs.WriterFault.{of_shelf}
 use Rattle.lsm_opening.specs.declared.faults.compact_fault.CompactFault.{CompactFault}
-use Rattle.lsm_opening.specs.declared.faults.compact_fault.CompactFault.TheVariants.{Worker, Writer}
+use Rattle.lsm_opening.specs.declared.faults.compact_fault.CompactFault.TheVariants.{Worker}
 use Rattle.lsm_requests.specs.declared.compact_options.CompactOptions.{CompactOptions}
-use Rattle.lsm_cmd_compact.specs.Compacting.{AreEnds, AreFaultless, AreRounds, EndsRounds, IsAimed}
+use Rattle.lsm_cmd_compact.specs.Compacting.{AreFaultless, AreRounds, EndsRounds, IsAimed}
 use Rattle.lsm_cmd_compact.specs.Compacting.{IsFaultlessRound, IsFaultyRound, IsFirstFault}
 use Rattle.lsm_cmd_compact.specs.Compacting.{IsLeftOver, IsRound, IsUnmanned, StopsBehindRounds}
 use Rattle.lsm_cmd_compact.specs.Compacting.{StopsWorking, Works}
-
--- a fork was refused
-pub unmanned : (workers : ℕ) (e : CompactFault) (fault : ShelfFault) (was is : Told) → e ≡ Writer (of_shelf fault) → NotNamed fault → ForkedAtMost workers was is
-    → CountedBy {T = Unit {0}} (Err fault) was is → IsUnmanned workers e was is
-unmanned workers e fault was is its cause forked counts = record { fault = fault; its = its; cause = cause; forked = forked; counts = counts }
-
--- all were given, and memory ran out
-pub unmanned_of_memory : (workers : ℕ) (e : CompactFault) (was is : Told) → e ≡ Writer (of_shelf shelf_faults.OutOfMemory) → ForkedTimes workers was is → SameCounts was is
-    → IsUnmanned workers e was is
-unmanned_of_memory workers e was is its forked counts = record { fault = shelf_faults.OutOfMemory; its = its; cause = tt; forked = (workers, omega arith, forked); counts = counts }
 
 module _ (Refused : Asked → ShelfFault → Type 0) (Honest : Type 0) (keeps : Held → Type 0) (place : Place) (workers : ℕ) (picks : Picks) where
   -- workers ended over new forks
