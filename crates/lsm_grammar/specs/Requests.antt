@@ -357,13 +357,20 @@ Says rows (Shell line) =
 Says rows (Bench line) = (word_in (codes "DIR") rows ≡ Some line.path.now)
     × AreBenchOptions rows line.options
 
--- The command that was found is the request's, and the request says what its rows say.
+-- the word of `--wait`, where there is one, writes a number of seconds, from 1 to 3600
+abbrev pub CanWait : Option Text → Type 0
+CanWait None = ⊤
+CanWait (Some word) = (n : ℕ) × IsNumberIn 1 3600 (Some word) n
+
+-- The command that was found is the request's, the request says what its rows say, and how long it
+-- waits is a number.
 pub record IsAsked (found : Option (Text × List Row)) (request : Request) : Type 0 where
   pub name : Text
   pub rows : List Row
   pub is : found ≡ Some (name, rows)
   pub named : named name ≡ Some (name_of request)
   pub says : Says rows request
+  pub waits : CanWait (word_in (codes "wait") rows)
 
 -- ---- what words ask
 
@@ -376,7 +383,7 @@ abbrev pub AskNothing : List Text → Type 0
 AskNothing words = (request : Request) → Asks request words → ⊥
 
 -- the word of an option writes a number from 1 to 3600; there is none where there is no option, or
--- where its word writes none of these
+-- where its word writes none of these, and then nothing is asked for
 abbrev pub AreSeconds : Option Text → Option ℕ → Type 0
 AreSeconds word None = (n : ℕ) → IsNumberIn 1 3600 word n → ⊥
 AreSeconds word (Some n) = IsNumberIn 1 3600 word n

@@ -1,10 +1,10 @@
 //! From what `clap` finds in words to what they ask for.
 
-ghost use Rattle.std.specs.Prelude.{◌≡◌, IfNone, IfOk, IfSome, List, None, Option, Some, codes};
-ghost use Rattle.std.specs.Prelude.{option_map, ℕ};
+ghost use Rattle.std.specs.Prelude.{◌≡◌, IfNone, IfOk, IfSome, IsFalse, IsTrue, List, None};
+ghost use Rattle.std.specs.Prelude.{Option, Some, codes, option_map, ℕ};
 ghost use Rattle.clap.specs.Words.{subcommand_rows_of};
 ghost use Rattle.lsm_grammar.specs.Requests.{AreBenchOptions, AreBounds, AreIngestOptions};
-ghost use Rattle.lsm_grammar.specs.Requests.{AreLoadOptions, AreNamed};
+ghost use Rattle.lsm_grammar.specs.Requests.{AreLoadOptions, AreNamed, CanWait};
 ghost use Rattle.lsm_grammar.specs.Requests.{AreScanOptions, AreThreads, AreWorkers};
 ghost use Rattle.lsm_grammar.specs.Requests.{IsAsked, IsBound, IsInput};
 ghost use Rattle.lsm_grammar.specs.Requests.{IsKeyWrite, IsLimit, IsLineNumber, IsLook, IsMannerIn};
@@ -599,6 +599,17 @@ fn request_in<'a>(
     }
 }
 
+/// Whether the word of `--wait`, where there is one, writes a number of seconds.
+fn can_wait(found: &ArgMatches<'_>) -> bool
+    ensures yes { IsTrue result → CanWait (word_in (codes "wait") (rows_in found.now)) }
+    ensures no { IsFalse result → CanWait (word_in (codes "wait") (rows_in found.now)) → ⊥ }
+{
+    match word_in(found, "wait") {
+        Some(word) => between_in(Some(word), 1, 3600).is_some(),
+        None => true,
+    }
+}
+
 /// What is asked for by the command that was found, and by the words under its names; none where it
 /// is `help`, or one of these spells no bytes or writes no number.
 pub(crate) fn asked_in<'a>(
@@ -612,6 +623,9 @@ pub(crate) fn asked_in<'a>(
     let Some((name, found)) = matches.subcommand() else {
         return Ok(None);
     };
+    if !can_wait(found) {
+        return Ok(None);
+    }
     match named(name) {
         Some(name) => request_in(alloc, name, found),
         None => Ok(None),

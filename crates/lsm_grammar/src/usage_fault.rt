@@ -37,7 +37,7 @@ struct Range {
 
 /// The ranges, in the order in which words are looked at. Where no number is in a range, each word
 /// stands wrong that comes so far.
-const RANGES: [Range; 8] = [
+const RANGES: [Range; 9] = [
     Range {
         name: "COMMAND",
         least: 1,
@@ -73,6 +73,12 @@ const RANGES: [Range; 8] = [
         least: 0,
         most: u64::MAX,
         wrong: "is no number of workers",
+    },
+    Range {
+        name: "wait",
+        least: 1,
+        most: 3600,
+        wrong: "is no number of seconds, 1 to 3600",
     },
     Range {
         name: "benchmarks",
