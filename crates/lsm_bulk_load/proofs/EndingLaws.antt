@@ -1,8 +1,6 @@
 -- What is left behind the lines, and why all is not done.
-use Rattle.std.proofs.Common.{◌≡◌, ◌≢◌, ◌==◌, not, true, Bool, ℕ, ◌+◌, ◌<◌, ◌≤◌, List, [], ◌∷◌, ◌++◌, length, get_or, take, drop, Some, None, All, refl, sym, ap, ◌∙◌, subst, append_assoc, inl, inr}
+use Rattle.std.proofs.Common.{◌≡◌, ◌≢◌, ◌==◌, not, true, Bool, ℕ, ◌+◌, List, [], ◌∷◌, ◌++◌, All, refl, sym, ap, ◌∙◌, subst, append_assoc, inl, inr}
 use Rattle.std.proofs.lemmas.Bool.{eq-eqb, false≢true}
-use Rattle.std.proofs.lemmas.List.{drop_more, take-append-drop, take_all}
-use Rattle.std.proofs.lemmas.List.Elements.{All-more}
 use Rattle.std.specs.Prelude.{Result, Ok, Err, IfErr, OnErr, OnOk}
 use Rattle.lsm_codec.specs.Entries.{Entry}
 use Rattle.lsm_shelf.specs.Asked.{Asked}
@@ -19,36 +17,14 @@ use Rattle.lsm_shelf.specs.Told.{Told, forks_behind}
 use Rattle.lsm_store.specs.Working.{HaveEndedBeside}
 use Rattle.lsm_store.specs.declared.worker_end.WorkerEnd.{WorkerEnd}
 use Rattle.lsm_store.specs.declared.worker_fault.WorkerFault.{WorkerFault}
-use Rattle.lsm_bulk_load.specs.Ending.{IsFaultless, IsFirstFault, IsLate, IsLooked, ReservesNone}
+use Rattle.lsm_store.specs.Ends.{IsFaultless, IsFirstFault}
+use Rattle.lsm_bulk_load.specs.Ending.{IsLate, IsLooked, ReservesNone}
 use Rattle.lsm_bulk_load.specs.Loading.{GivesForks, HaveEndedWell, HaveWorkedBeside, IsForkedFor, IsLoaded, IsStopped, IsUnloaded, SomeAreIn, SomeAreInToo, StopsBehind}
 use Rattle.lsm_bulk_load.specs.Marks.{Marked, marked_in}
 use Rattle.lsm_bulk_load.specs.declared.load_fault.LoadFault.{LoadFault}
 use Rattle.lsm_bulk_load.specs.declared.load_fault.LoadFault.TheVariants.{OutOfMemory, Shelf, Line, Ingest, Other, Worker, Due}
 use Rattle.lsm_bulk_load.specs.declared.progress.Progress.{Progress}
 use Rattle.lsm_bulk_load.proofs.LoadLaws.{loads_none}
-
--- ---- workers
-
-split_at : (ends : List WorkerEnd) (i : ℕ) (d : WorkerEnd) → i < length ends → ends ≡ take i ends ++ get_or ends i d ∷ drop (i + 1) ends
-split_at ends i d lt = sym (take-append-drop i ends) ∙ ap (λ (es : List WorkerEnd). take i ends ++ es) (drop_more ends i d lt)
-
-pub first_fault : (ends : List WorkerEnd) (i : ℕ) (d : WorkerEnd) (fault : WorkerFault) → i < length ends → All IsFaultless (take i ends)
-    → (get_or ends i d).fault ≡ Some fault → IsFirstFault fault ends
-first_fault ends i d fault lt before its = record {
-  front = take i ends;
-  first = get_or ends i d;
-  back = drop (i + 1) ends;
-  parts = split_at ends i d lt;
-  faultless = before;
-  its = its;
-}
-
-pub more_faultless : (ends : List WorkerEnd) (i : ℕ) (d : WorkerEnd) → i < length ends → All IsFaultless (take i ends)
-    → (get_or ends i d).fault ≡ None → All IsFaultless (take (i + 1) ends)
-more_faultless ends i d lt before its = All-more IsFaultless ends i d lt before its
-
-pub all_faultless : (ends : List WorkerEnd) (i : ℕ) → length ends ≤ i → All IsFaultless (take i ends) → All IsFaultless ends
-all_faultless ends i end before = subst (λ (es : List WorkerEnd). All IsFaultless es) (take_all i ends end) before
 
 -- ---- what is due
 

@@ -1,12 +1,12 @@
 -- What is left behind lines that were loaded beside workers (this project's rule).
-use Rattle.std.specs.Prelude.{◌≡◌, ◌⊎◌, ⊤, ℕ, List, ◌∷◌, ◌++◌, All, None, Some, Result, Ok, Err}
+use Rattle.std.specs.Prelude.{◌≡◌, ◌⊎◌, ⊤, ℕ, List, Result, Ok, Err}
 use Rattle.lsm_history.specs.History.{IsLater}
 use Rattle.lsm_live.specs.Booked.{HasTicket}
 use Rattle.lsm_state.specs.Gathering.{HasNoneToGather}
 use Rattle.lsm_state.specs.Held.{Held}
 use Rattle.lsm_state.specs.Reserving.{HasNoNext}
+use Rattle.lsm_store.specs.Ends.{IsFirstFault}
 use Rattle.lsm_store.specs.declared.worker_end.WorkerEnd.{WorkerEnd}
-use Rattle.lsm_store.specs.declared.worker_fault.WorkerFault.{WorkerFault}
 use Rattle.lsm_bulk_load.specs.Marks.{Marked}
 use Rattle.lsm_bulk_load.specs.declared.load_fault.LoadFault.{LoadFault}
 use Rattle.lsm_bulk_load.specs.declared.load_fault.LoadFault.TheVariants.{Other, Worker, Due}
@@ -24,18 +24,6 @@ IsLooked was is = is ≡ record was { live = is.live; next_ticket = is.next_tick
 -- No job is live that was not before: nothing is left reserved.
 abbrev pub ReservesNone : Held → Held → Type 0
 ReservesNone was is = (ticket : ℕ) → HasTicket is.live ticket → HasTicket was.live ticket
-
-abbrev pub IsFaultless : WorkerEnd → Type 0
-IsFaultless e = e.fault ≡ None
-
--- the fault of the first worker that has one
-pub record IsFirstFault (fault : WorkerFault) (ends : List WorkerEnd) : Type 0 where
-  pub front : List WorkerEnd
-  pub first : WorkerEnd
-  pub back : List WorkerEnd
-  pub parts : ends ≡ front ++ first ∷ back
-  pub faultless : All IsFaultless front
-  pub its : first.fault ≡ Some fault
 
 -- Why all is not done, where the lines came to this and workers ended so: the lines' own fault; or
 -- all lines are in, and this worker ended early, or something is due.

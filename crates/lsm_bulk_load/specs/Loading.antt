@@ -1,6 +1,6 @@
 -- What lines that are loaded leave of a store, and why they stop (this project's rule).
 use Rattle.std.specs.Prelude.{◌≡◌, ◌⊎◌, ℕ, zero, suc, ◌+◌, ◌<◌, ◌^◌, List, [], length, All, Option}
-use Rattle.std.specs.Prelude.{Result, Ok, Err}
+use Rattle.std.specs.Prelude.{Ok, Err}
 use Rattle.std.specs.Io.KnownBytes.{IsAtEnd}
 use Rattle.lsm_shelf.specs.Asked.{Asked}
 use Rattle.lsm_shelf.specs.Told.{CountedBy, ForkedAtMost, ForkedTimes, NotNamed, Place, Told}
@@ -24,7 +24,7 @@ use Rattle.lsm_store.specs.Working.{HaveEndedBeside}
 use Rattle.lsm_store.specs.declared.worker_end.WorkerEnd.{WorkerEnd}
 use Rattle.lsm_store.specs.declared.worker_fault.WorkerFault.{WorkerFault}
 use Rattle.lsm_bulk_load.specs.Coming.{CameIn, ComesNext}
-use Rattle.lsm_bulk_load.specs.Ending.{IsFaultless, IsFirstFault}
+use Rattle.lsm_store.specs.Ends.{IsFaultless, IsFirstFault}
 use Rattle.lsm_bulk_load.specs.Marks.{Marked}
 use Rattle.lsm_bulk_load.specs.declared.load_fault.LoadFault.{LoadFault}
 use Rattle.lsm_bulk_load.specs.declared.load_fault.LoadFault.TheVariants.{OutOfMemory, Shelf, Line}

@@ -2,8 +2,8 @@
 
 ghost use Rattle.std.specs.Prelude.{◌≡◌, ◌≢◌, ℕ, All, IfErr, OnErr, OnOk};
 ghost use Rattle.lsm_live.specs.Booked.{HasTicket};
-ghost use Rattle.lsm_bulk_load.specs.Ending.{IsFaultless, IsFirstFault, IsIdle, IsLate, IsLooked};
-ghost use Rattle.lsm_bulk_load.specs.Ending.{ReservesNone};
+ghost use Rattle.lsm_store.specs.Ends.{IsFaultless};
+ghost use Rattle.lsm_bulk_load.specs.Ending.{IsIdle, IsLate, IsLooked, ReservesNone};
 ghost use Rattle.lsm_bulk_load.specs.Marks.{IsEven, marked_in};
 ghost use Rattle.lsm_bulk_load.specs.declared.load_fault.LoadFault.TheVariants.{Due};
 
@@ -12,29 +12,9 @@ use crate::mark::Mark;
 use crate::origin::Origin;
 use lsm_slots::Boarded;
 use lsm_state::State;
-use lsm_store::{WorkerEnd, WorkerFault};
+use lsm_store::{WorkerEnd, judge_ends};
 use lsm_table::Shelf;
 use std::alloc::Global;
-
-/// The fault of a worker, if it has one.
-fn fault_of(end: &WorkerEnd) -> Option<WorkerFault>
-    ensures { result ≡ end.now.fault }
-{
-    end.fault
-}
-
-/// Whether no worker ended early; else why the first one did.
-fn judge(ends: &[WorkerEnd]) -> Result<(), WorkerFault>
-    ensures faultless { OnOk result (All IsFaultless ends.now) }
-    ensures first { IfErr result (λ fault. IsFirstFault fault ends.now) }
-{
-    for end in ends {
-        if let Some(fault) = fault_of(end) {
-            return Err(fault);
-        }
-    }
-    Ok(())
-}
 
 /// Gives a job up again.
 fn give_up<N: Boarded, S: Shelf>(state: &mut State<N, S>, ticket: u64)
@@ -101,7 +81,7 @@ pub(crate) fn finish<N: Boarded, S: Shelf, O: Origin>(
         Ok(()) => {}
         Err(fault) => return Err(fault),
     }
-    match judge(ends) {
+    match judge_ends(ends) {
         Ok(()) => nothing_is_due(alloc, state),
         Err(fault) => Err(LoadFault::Worker(fault)),
     }

@@ -1,5 +1,4 @@
 mod Quiet
-mod Ends
 mod RoundLaws
 mod CompactOutcomes
 mod RunLaws

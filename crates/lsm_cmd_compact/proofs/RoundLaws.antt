@@ -8,6 +8,7 @@ use Rattle.lsm_shelf.specs.Told.{ForkedTimes, Told, forks_behind}
 use Rattle.lsm_shelf.specs.declared.shelf_fault.ShelfFault.{ShelfFault}
 use Rattle.lsm_state.specs.Collecting.{SameCounts}
 use Rattle.lsm_state.specs.Held.{Held}
+use Rattle.lsm_store.specs.Ends.{IsFaultless, IsFirstFault}
 use Rattle.lsm_store.specs.Workers.{IsWorkersEnd}
 use Rattle.lsm_store.specs.Working.{HaveEnded, given_each}
 use Rattle.lsm_store.specs.declared.picks.Picks.{Picks}
@@ -16,8 +17,8 @@ use Rattle.lsm_store.specs.declared.worker_fault.WorkerFault.{WorkerFault}
 use Rattle.lsm_opening.specs.declared.faults.compact_fault.CompactFault.{CompactFault}
 use Rattle.lsm_opening.specs.declared.faults.compact_fault.CompactFault.TheVariants.{Worker}
 use Rattle.lsm_requests.specs.declared.compact_options.CompactOptions.{CompactOptions}
-use Rattle.lsm_cmd_compact.specs.Compacting.{AreFaultless, AreRounds, EndsRounds, IsAimed}
-use Rattle.lsm_cmd_compact.specs.Compacting.{IsFaultlessRound, IsFaultyRound, IsFirstFault}
+use Rattle.lsm_cmd_compact.specs.Compacting.{AreRounds, EndsRounds, IsAimed}
+use Rattle.lsm_cmd_compact.specs.Compacting.{IsFaultlessRound, IsFaultyRound}
 use Rattle.lsm_cmd_compact.specs.Compacting.{IsLeftOver, IsRound, IsUnmanned, StopsBehindRounds}
 use Rattle.lsm_cmd_compact.specs.Compacting.{StopsWorking, Works}
 
@@ -40,9 +41,9 @@ module _ (Refused : Asked → ShelfFault → Type 0) (Honest : Type 0) (keeps : 
 
   -- none with a fault
   pub faultless_round : (was is : Told) (ends judged : List WorkerEnd) → judged ≡ ends
-      → IsRound Refused Honest keeps place workers picks ends was is → AreFaultless judged
+      → IsRound Refused Honest keeps place workers picks ends was is → All IsFaultless judged
       → IsFaultlessRound Refused Honest keeps place workers picks was is
-  faultless_round was is ends judged same round none = (ends, subst AreFaultless same none, round)
+  faultless_round was is ends judged same round none = (ends, subst (λ (es : List WorkerEnd). All IsFaultless es) same none, round)
 
   -- or one with this fault
   pub faulty_round : (was is : Told) (ends judged : List WorkerEnd) (e : CompactFault) (fault : WorkerFault)

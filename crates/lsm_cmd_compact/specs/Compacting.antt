@@ -1,5 +1,5 @@
 -- What a `compact` leaves, and why it is refused (this project's rule).
-use Rattle.std.specs.Prelude.{◌≡◌, ◌≢◌, ◌<◌, ℕ, zero, suc, ◌-◌, ◌⊎◌, Bool, List, ◌∷◌, ◌++◌}
+use Rattle.std.specs.Prelude.{◌≡◌, ◌≢◌, ◌<◌, ℕ, zero, suc, ◌-◌, ◌⊎◌, Bool, List}
 use Rattle.std.specs.Prelude.{length, All, IsFalse, IsTrue, Option, None, Some, Err}
 use Rattle.std.specs.Prelude.{true}
 use Rattle.std.specs.Io.KnownBytes.{Appends, Keeps}
@@ -25,6 +25,7 @@ use Rattle.lsm_state.specs.Collecting.{SameCounts}
 use Rattle.lsm_state.specs.Held.{Held}
 use Rattle.lsm_state.specs.declared.state_fault.StateFault.{StateFault}
 use Rattle.lsm_store.specs.Compacting.{IsLeftByWorkers}
+use Rattle.lsm_store.specs.Ends.{IsFaultless, IsFirstFault}
 use Rattle.lsm_store.specs.Workers.{IsWorkersEnd}
 use Rattle.lsm_store.specs.Working.{HaveEnded, given_each}
 use Rattle.lsm_requests.specs.declared.compact_options.CompactOptions.{CompactOptions}
@@ -73,22 +74,6 @@ IsUnaccepted Refused accepts e was is =
 
 -- ---- workers
 
-abbrev pub IsFaultless : WorkerEnd → Type 0
-IsFaultless e = e.fault ≡ None
-
--- none of the workers has a fault
-abbrev pub AreFaultless : List WorkerEnd → Type 0
-AreFaultless ends = All (λ e. IsFaultless e) ends
-
--- the fault of the first worker that has one
-pub record IsFirstFault (fault : WorkerFault) (ends : List WorkerEnd) : Type 0 where
-  pub front : List WorkerEnd
-  pub first : WorkerEnd
-  pub back : List WorkerEnd
-  pub parts : ends ≡ front ++ first ∷ back
-  pub faultless : AreFaultless front
-  pub its : first.fault ≡ Some fault
-
 -- So many workers ended, each as workers do that pick so and go on to the end. They had the next
 -- forks of a shelf whose last one had this number, one each; and to its fork nothing was told but
 -- what this worker did: jobs that it finished, each with its outputs, and the installs of their
@@ -114,7 +99,7 @@ pub record IsRound (Refused : Asked → ShelfFault → Type 0) (Honest : Type 0)
 abbrev pub IsFaultlessRound : (Asked → ShelfFault → Type 0) → Type 0 → (Held → Type 0) → Place
     → (workers : ℕ) → Picks → (was is : Told) → Type 0
 IsFaultlessRound Refused Honest keeps place workers picks was is =
-    (ends : List WorkerEnd) × AreFaultless ends
+    (ends : List WorkerEnd) × All IsFaultless ends
     × IsRound Refused Honest keeps place workers picks ends was is
 
 -- one in which the first of them that has a fault has this one

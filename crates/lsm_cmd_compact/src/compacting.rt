@@ -4,7 +4,6 @@ pub(crate) mod finding;
 pub(crate) mod job_teller;
 pub(crate) mod program;
 pub(crate) mod progress;
-pub(crate) mod tally;
 pub(crate) mod torn;
 
 ghost use Rattle.std.specs.Prelude.{◌≡◌, ◌≢◌, ◌⊎◌, All, IfErr, IfOk, IsFalse, IsTrue, None, OnErr};
@@ -29,7 +28,6 @@ ghost use Rattle.lsm_opening.specs.declared.faults.compact_fault.CompactFault.Th
 use crate::compacting::finding::find_manifest;
 use crate::compacting::job_teller::JobTeller;
 use crate::compacting::progress::{tell_installed, tell_opened, tell_removed};
-use crate::compacting::tally::judge;
 use crate::compacting::torn::refuse_torn;
 use lsm_opening::{CompactFault, NewParts, WriterFault, open, sweep};
 use lsm_requests::CompactOptions;
@@ -37,7 +35,7 @@ use lsm_slots::Boarded;
 use lsm_state::{State, StateFault};
 use lsm_store::laws::what_was_found_is_kept;
 use lsm_store::{
-    Invariant, ManualCompaction, NoGate, Picks, Store, WorkerEnd, forks, run_workers_by,
+    Invariant, ManualCompaction, NoGate, Picks, Store, WorkerEnd, forks, judge_ends, run_workers_by,
 };
 use lsm_table::{NamedShelf, Shelf, ShelfFault};
 use std::alloc::{AllocError, AllocFailed, Global};
@@ -98,7 +96,7 @@ fn take_round<N: Boarded, S: Shelf, K: Invariant, R: Threads + Wait + Sync, E: W
     let Ok(ends) = run_all(rt, alloc, store, shelves, picks, options.progress, err) else {
         return Err(CompactFault::of_shelf(ShelfFault::OutOfMemory));
     };
-    judge(&ends)?;
+    judge_ends(&ends)?;
     Ok(())
 }
 

@@ -1,5 +1,5 @@
 -- A conversation beside workers.
-use Rattle.std.proofs.Common.{◌≡◌, ◌≤◌, ◌+◌, ℕ, Bool, List, All, length, Option, None, IfErr, OnOk, sym, subst, inl, inr}
+use Rattle.std.proofs.Common.{◌≡◌, ◌≤◌, ◌+◌, ℕ, Bool, List, All, length, Option, None, IfErr, OnOk, sym, subst, inr}
 use Rattle.std.specs.Prelude.{Result, Ok, Err}
 use Rattle.lsm_codec.specs.Entries.{Entry}
 use Rattle.lsm_shelf.specs.Asked.{Asked}
@@ -15,7 +15,7 @@ use Rattle.lsm_script.specs.Steps.{OnDesk, clear}
 use Rattle.lsm_store.specs.Workers.{IsWorkersEnd}
 use Rattle.lsm_store.specs.Working.{HaveEndedBeside}
 use Rattle.lsm_store.specs.declared.worker_end.WorkerEnd.{WorkerEnd}
-use Rattle.lsm_bulk_load.specs.Ending.{IsFaultless}
+use Rattle.lsm_store.specs.Ends.{IsFaultless}
 use Rattle.lsm_bulk_load.specs.Loading.{GivesForks, HaveWorkedBeside}
 use Rattle.lsm_opening.specs.Starting.{IsStarted}
 use Rattle.lsm_opening.specs.declared.prepared.Start.{Start}

@@ -13,6 +13,5 @@ mod BatchLaws
 mod TalkLaws
 mod HistoryLaws
 mod RunLaws
-mod EndsLaws
 mod KeepingLaws
 mod BesideLaws

@@ -12,7 +12,7 @@ use Rattle.lsm_script.specs.Steps.{Stage, clear, stage_of}
 use Rattle.lsm_store.specs.Workers.{IsWorkersEnd}
 use Rattle.lsm_store.specs.declared.worker_end.WorkerEnd.{WorkerEnd}
 use Rattle.lsm_store.specs.declared.worker_fault.WorkerFault.{WorkerFault}
-use Rattle.lsm_bulk_load.specs.Ending.{IsFaultless, IsFirstFault}
+use Rattle.lsm_store.specs.Ends.{IsFaultless, IsFirstFault}
 use Rattle.lsm_bulk_load.specs.Loading.{GivesForks, HaveWorkedBeside, RefusesFork}
 use Rattle.lsm_opening.specs.Starting.{IsStartRefusal, IsStarted}
 use Rattle.lsm_opening.specs.WriterFault.{of_shelf}

@@ -1,6 +1,6 @@
 //! A conversation with the database on a shelf, while workers compact beside.
 
-ghost use Rattle.std.specs.Prelude.{◌≡◌, ◌+◌, ◌≤◌, All, IfErr, IfNone, IfOk, IfSome, None, Ok};
+ghost use Rattle.std.specs.Prelude.{◌≡◌, ◌+◌, ◌≤◌, All, IfErr, IfOk, IfSome, None, Ok};
 ghost use Rattle.std.specs.Prelude.{OnOk, vec_len};
 ghost use Rattle.lsm_shelf.specs.Stored.{Stored};
 ghost use Rattle.lsm_shelf.specs.Told.{fork_at};
@@ -10,7 +10,7 @@ ghost use Rattle.lsm_store.specs.Workers.{IsWorkersEnd};
 ghost use Rattle.lsm_store.specs.Working.{HaveEndedBeside};
 ghost use Rattle.lsm_opening.specs.Parts.{AreOf, usual};
 ghost use Rattle.lsm_cmd_shell.specs.Beside.{IsTalkedBeside, waiting};
-ghost use Rattle.lsm_bulk_load.specs.Ending.{IsFaultless, IsFirstFault};
+ghost use Rattle.lsm_store.specs.Ends.{IsFaultless};
 ghost use Rattle.lsm_bulk_load.specs.Loading.{GivesForks, HaveWorkedBeside};
 ghost use Rattle.lsm_cmd_shell.specs.Conversing.{IsBesideFault, IsConversedBeside, IsOfEnds};
 ghost use Rattle.lsm_cmd_shell.specs.Conversing.{IsUnmanned, IsWorkerOr};
@@ -27,7 +27,7 @@ use lsm_script::Desk;
 use lsm_slots::Boarded;
 use lsm_state::State;
 use lsm_store::{
-    Background, Invariant, NoGate, Shelves, Store, WorkerEnd, WorkerFault, with_workers,
+    Background, Invariant, NoGate, Shelves, Store, WorkerEnd, judge_ends, with_workers,
 };
 use lsm_table::{NamedShelf, Shelf};
 use lsm_text::Form;
@@ -120,33 +120,13 @@ where
     }
 }
 
-/// The fault of a worker, if it has one.
-fn fault_of(end: &WorkerEnd) -> Option<WorkerFault>
-    ensures { result ≡ end.now.fault }
-{
-    end.fault
-}
-
-/// The fault of the first worker that has one.
-fn first_fault(ends: &[WorkerEnd]) -> Option<WorkerFault>
-    ensures none { IfNone result (All IsFaultless ends.now) }
-    ensures some { IfSome result (λ fault. IsFirstFault fault ends.now) }
-{
-    for end in ends {
-        if let Some(fault) = fault_of(end) {
-            return Some(fault);
-        }
-    }
-    None
-}
-
 /// The fault of the first worker that has one, or else this one.
 fn worker_or(ends: &[WorkerEnd], other: ShellFault) -> ShellFault
     ensures { IsWorkerOr other ends.now result }
 {
-    match first_fault(ends) {
-        Some(fault) => ShellFault::Run(CompactFault::Worker(fault)),
-        None => other,
+    match judge_ends(ends) {
+        Ok(()) => other,
+        Err(fault) => ShellFault::Run(CompactFault::Worker(fault)),
     }
 }
 
@@ -156,9 +136,9 @@ fn judge(talked: Result<(), TalkFault>, ends: &[WorkerEnd]) -> Result<(), ShellF
     ensures fault { IfErr result (IsOfEnds talked ends.now) }
 {
     match talked {
-        Ok(()) => match first_fault(ends) {
-            Some(fault) => Err(ShellFault::Run(CompactFault::Worker(fault))),
-            None => Ok(()),
+        Ok(()) => match judge_ends(ends) {
+            Ok(()) => Ok(()),
+            Err(fault) => Err(ShellFault::Run(CompactFault::Worker(fault))),
         },
         Err(TalkFault::Read) => Err(ShellFault::of_talk(TalkFault::Read)),
         Err(TalkFault::Write) => Err(ShellFault::of_talk(TalkFault::Write)),

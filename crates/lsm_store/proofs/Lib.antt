@@ -1,6 +1,7 @@
 pub mod BackgroundLaws
 pub mod CallerLemmas
 pub mod CompactingLaws
+pub mod EndsLaws
 pub mod ForkLaws
 pub mod FoundLaws
 pub mod KeptLaws

@@ -1,6 +1,7 @@
 -- What public clauses cite, and so what a caller reads
 pub mod Background
 pub mod Compacting
+pub mod Ends
 pub mod Picking
 pub mod Promised
 pub mod Readers

@@ -1,6 +1,6 @@
 use Rattle.std.proofs.Common.{All, take}
-use Rattle.lsm_bulk_load.specs.Ending.{IsFaultless}
-use Rattle.lsm_cmd_shell.proofs.conversing_beside.first_fault.Given as goal
+use Rattle.lsm_store.specs.Ends.{IsFaultless}
+use Rattle.lsm_store.proofs.ends.judge_ends.Given as goal
 
 abbrev pub invariant-loop-end : goal.invariant-loop-end
 invariant-loop-end l = All IsFaultless (take l.end-index l.ends)

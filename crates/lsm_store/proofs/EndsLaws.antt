@@ -4,14 +4,14 @@ use Rattle.std.proofs.lemmas.List.{drop_more, take-append-drop, take_all}
 use Rattle.std.proofs.lemmas.List.Elements.{All-more}
 use Rattle.lsm_store.specs.declared.worker_end.WorkerEnd.{WorkerEnd}
 use Rattle.lsm_store.specs.declared.worker_fault.WorkerFault.{WorkerFault}
-use Rattle.lsm_bulk_load.specs.Ending.{IsFaultless, IsFirstFault}
+use Rattle.lsm_store.specs.Ends.{IsFaultless, IsFirstFault}
 
 split_at : (ends : List WorkerEnd) (i : ℕ) (d : WorkerEnd) → i < length ends → ends ≡ take i ends ++ get_or ends i d ∷ drop (i + 1) ends
 split_at ends i d lt = sym (take-append-drop i ends) ∙ ap (λ (es : List WorkerEnd). take i ends ++ es) (drop_more ends i d lt)
 
-pub first_of : (ends : List WorkerEnd) (i : ℕ) (d : WorkerEnd) (fault : WorkerFault) → i < length ends → All IsFaultless (take i ends)
+pub first_fault : (ends : List WorkerEnd) (i : ℕ) (d : WorkerEnd) (fault : WorkerFault) → i < length ends → All IsFaultless (take i ends)
     → (get_or ends i d).fault ≡ Some fault → IsFirstFault fault ends
-first_of ends i d fault lt before its = record {
+first_fault ends i d fault lt before its = record {
   front = take i ends;
   first = get_or ends i d;
   back = drop (i + 1) ends;
