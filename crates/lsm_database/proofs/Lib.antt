@@ -1,4 +1,5 @@
 pub mod DatabaseLaws
+mod ForkLaws
 pub mod KeepingLaws
 pub mod PairLaws
 pub mod RunLaws

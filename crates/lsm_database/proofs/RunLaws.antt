@@ -55,7 +55,7 @@ module _ {C M : Type 0} (folders : Ghosts C M) where
       (ends : X → List WorkerEnd) (start : Start) (logs : List FolderFile)
       (begun ended : FileShelf C M)
       → IsShelfAt folders path (IsPrepared plainly start logs) begun
-      → IfOk r (λ x. Runs (AreHonest folders.calls) start logs Asks (Says x) (ends x)
+      → IfOk r (λ x. Runs MayRefuse (AreHonest folders.calls) start logs 2 Asks (Says x) (ends x)
       (told_by folders begun) (told_by folders ended))
       → IfOk r (λ x. RunsAt folders path Asks (Says x) (ends x))
   runs_at (Ok x) path Asks Says ends start logs begun ended on ran =
@@ -67,7 +67,7 @@ module _ {C M : Type 0} (folders : Ghosts C M) (marks : mark.Ghosts M) where
   pub unrun_at : {X : Type 0} (r : Result X WriterFault) (path : List ℕ) (start : Start) (logs : List FolderFile)
       (begun ended : FileShelf C M) → IsShelfAt folders path (IsPrepared plainly start logs) begun
       → IfErr r (λ e. IsRunRefusal (stored_at folders marks (told_by folders begun).place) MayRefuse
-      (AreHonest folders.calls) start logs e (told_by folders begun) (told_by folders ended))
+      (AreHonest folders.calls) start logs 2 e (told_by folders begun) (told_by folders ended))
       → IfErr r (IsUnopened folders marks path)
   unrun_at (Ok x) path start logs begun ended on refused = tt
   unrun_at (Err e) path start logs begun ended on refused =

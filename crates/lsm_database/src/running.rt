@@ -1,15 +1,17 @@
 //! A program runs on the database of a shelf.
 
-ghost use Rattle.std.specs.Prelude.{◌≡◌, ◌+◌, ◌≤◌, List, All, IfErr, IfOk, IfSome};
+ghost use Rattle.std.specs.Prelude.{◌≡◌, ◌+◌, ◌≤◌, List, All, IfErr, IfOk, IfSome, OnErr, OnOk};
 ghost use Rattle.std.specs.Prelude.{vec_len};
 ghost use Rattle.lsm_batch.specs.declared.write.Write.{Write};
 ghost use Rattle.lsm_shelf.specs.Stored.{Stored};
-ghost use Rattle.lsm_shelf.specs.Told.{Forked, NotNamed};
+ghost use Rattle.lsm_shelf.specs.Told.{CountedBy, ForkedAtMost, ForkedTimes, NotNamed, forks_behind};
+ghost use Rattle.lsm_state.specs.Collecting.{SameCounts};
 ghost use Rattle.lsm_store.specs.Workers.{IsWorkersEnd};
+ghost use Rattle.lsm_store.specs.Working.{HaveEndedBeside};
 ghost use Rattle.lsm_opening.specs.Parts.{AreOf, usual};
 ghost use Rattle.lsm_database.specs.Calls.{AnswersRead, AnswersWrite};
 ghost use Rattle.lsm_database.specs.Databases.{seen};
-ghost use Rattle.lsm_database.specs.Keeping.{HasSaid};
+ghost use Rattle.lsm_database.specs.Keeping.{HasComeTo, HasSaid};
 ghost use Rattle.lsm_database.specs.Running.{IsRunRefusal, IsUnforked, Runs};
 
 use crate::asking::{AskedFor, Asking};
@@ -35,13 +37,15 @@ use std::thread::Threads;
 /// How many blocks are kept: those of LevelDB's cache, 8 MiB.
 const BLOCKS: usize = 2048;
 
-/// A cache of blocks over a fork of the shelf.
+/// A cache of blocks over the next fork of the shelf.
 fn cache_over<N: Boarded, S: Shelf>(
     alloc: Global,
     shelf: &mut NamedShelf<N, S>,
 ) -> Result<Cached<N, S>, ShelfFault>
-    ensures told { Forked shelf.old shelf.new }
+    ensures just { OnOk result (ForkedTimes 1 shelf.old shelf.new) }
+    ensures fewer { OnErr result (ForkedAtMost 1 shelf.old shelf.new) }
     ensures cause { IfErr result NotNamed }
+    ensures counts { CountedBy result shelf.old shelf.new }
 {
     let Some(blocks) = NonZeroUsize::new(BLOCKS) else {
         unreachable!()
@@ -83,8 +87,8 @@ fn run_on_handle<N: Boarded, S: Shelf, A: Asking, R: Wait, P: Program>(
 }
 
 /// Runs a program on the state of a store, while a worker for each shelf compacts: its answer, and
-/// the workers' ends. None where there was no memory and no thread for the workers; then it did not
-/// run.
+/// the workers' ends. Each worker's shelf was told just what it did. None where there was no memory
+/// and no thread for the workers; then it did not run.
 fn run_in_store<N: Boarded, S: Shelf, A: Asking, R: Threads + Wait + Sync, P: Program>(
     rt: &R,
     alloc: Global,
@@ -102,6 +106,8 @@ fn run_in_store<N: Boarded, S: Shelf, A: Asking, R: Threads + Wait + Sync, P: Pr
     ensures count { IfSome result (λ r. (vec_len shelves ≤ vec_len r.1)
         × (vec_len r.1 ≤ vec_len shelves + 1)) }
     ensures ends { IfSome result (λ r. All (IsWorkersEnd S.honest) r.1.items) }
+    ensures ended { IfSome result (λ r. HaveEndedBeside S.honest (S.refuses N.place)
+        (HasComeTo (S.refuses N.place) S.honest A.asks A.found) shelves.items r.1.items) }
 {
     let run = with_workers(
         rt,
@@ -135,8 +141,9 @@ fn run_in_store<N: Boarded, S: Shelf, A: Asking, R: Threads + Wait + Sync, P: Pr
     }
 }
 
-/// Runs a program on a state with this history while so many workers compact. Of the shelf only
-/// forks are asked.
+/// Runs a program on a state with this history while so many workers compact. The shelf is asked
+/// for forks alone: one for each worker, and two for the program; once one is refused, for no
+/// other.
 fn run_state<N: Boarded, S: Shelf, A: Asking, R: Threads + Wait + Sync, P: Program>(
     rt: &R,
     alloc: Global,
@@ -153,15 +160,19 @@ fn run_state<N: Boarded, S: Shelf, A: Asking, R: Threads + Wait + Sync, P: Progr
         P.says program S.honest state.history es r.0)) }
     ensures count { IfOk result (λ r. (workers ≤ vec_len r.1) × (vec_len r.1 ≤ workers + 1)) }
     ensures ends { IfOk result (λ r. All (IsWorkersEnd S.honest) r.1.items) }
-    ensures told { Forked shelf.old shelf.new }
-    ensures refused { IfErr result IsUnforked }
+    ensures ended { IfOk result (λ r. HaveEndedBeside S.honest (S.refuses N.place)
+        (HasComeTo (S.refuses N.place) S.honest A.asks A.found)
+        (forks_behind N.place shelf.old.forks workers) r.1.items) }
+    ensures just { OnOk result (ForkedTimes (workers + 2) shelf.old shelf.new) }
+    ensures counts { OnOk result (SameCounts shelf.old shelf.new) }
+    ensures refused { IfErr result (λ e. IsUnforked (workers + 2) e shelf.old shelf.new) }
 {
-    let blocks = match cache_over(alloc, shelf) {
-        Ok(blocks) => blocks,
-        Err(fault) => return Err(WriterFault::of_shelf(fault)),
-    };
     let Shelves { shelves, own } = match Shelves::of(alloc, shelf, workers) {
         Ok(shelves) => shelves,
+        Err(fault) => return Err(WriterFault::of_shelf(fault)),
+    };
+    let blocks = match cache_over(alloc, shelf) {
+        Ok(blocks) => blocks,
         Err(fault) => return Err(WriterFault::of_shelf(fault)),
     };
     let store = Store::of(alloc, state);
@@ -186,13 +197,14 @@ fn run_named<N: Boarded, S: Shelf, R: Threads + Wait + Sync, P: Program>(
     program: P,
 ) -> Result<(P::Answer, Vec<WorkerEnd>), WriterFault>
     requires parts { AreOf usual N.registry N.board N.history parts }
-    ensures ran { IfOk result (λ r. Runs S.honest prepared.now.start prepared.now.logs.items
-        (P.asks program S.honest) (λ es fs. P.says program S.honest es fs r.0) r.1.items shelf.old
-        shelf.new) }
+    requires shelf { shelf.old.place ≡ N.place }
+    ensures ran { IfOk result (λ r. Runs (S.refuses N.place) S.honest prepared.now.start
+        prepared.now.logs.items workers (P.asks program S.honest)
+        (λ es fs. P.says program S.honest es fs r.0) r.1.items shelf.old shelf.new) }
     ensures count { IfOk result (λ r. (workers ≤ vec_len r.1) × (vec_len r.1 ≤ workers + 1)) }
     ensures refused { IfErr result (λ e. IsRunRefusal (Stored S.Receipt (S.is_of N.place)
         S.Receipt.number S.Receipt.image) (S.refuses N.place) S.honest prepared.now.start
-        prepared.now.logs.items e shelf.old shelf.new) }
+        prepared.now.logs.items workers e shelf.old shelf.new) }
 {
     let mut state: State<N, S> = match start(rt, alloc, shelf, prepared, parts) {
         Ok(state) => state,
@@ -217,14 +229,15 @@ fn run_as<N: Boarded, S: Shelf, R: Threads + Wait + Sync, P: Program>(
 ) -> (Result<(P::Answer, Vec<WorkerEnd>), WriterFault>, S)
     requires parts { AreOf usual N.registry N.board N.history parts }
     requires shelf { (S.told shelf).place ≡ N.place }
-    ensures ran { IfOk result.0 (λ r. Runs S.honest prepared.now.start prepared.now.logs.items
-        (P.asks program S.honest) (λ es fs. P.says program S.honest es fs r.0) r.1.items
-        (S.told shelf) (S.told result.1)) }
+    ensures ran { IfOk result.0 (λ r. Runs (S.refuses N.place) S.honest prepared.now.start
+        prepared.now.logs.items workers (P.asks program S.honest)
+        (λ es fs. P.says program S.honest es fs r.0) r.1.items (S.told shelf)
+        (S.told result.1)) }
     ensures count { IfOk result.0 (λ r. (workers ≤ vec_len r.1)
         × (vec_len r.1 ≤ workers + 1)) }
     ensures refused { IfErr result.0 (λ e. IsRunRefusal (Stored S.Receipt (S.is_of N.place)
         S.Receipt.number S.Receipt.image) (S.refuses N.place) S.honest prepared.now.start
-        prepared.now.logs.items e (S.told shelf) (S.told result.1)) }
+        prepared.now.logs.items workers e (S.told shelf) (S.told result.1)) }
 {
     let mut shelf: NamedShelf<N, S> = NamedShelf::of(shelf);
     let run = run_named(rt, alloc, &mut shelf, prepared, parts, workers, program);
@@ -242,15 +255,16 @@ pub(crate) fn run_on<S: Shelf, R: Threads + Wait + Sync, P: Program>(
     workers: usize,
     program: P,
 ) -> (Result<(P::Answer, Vec<WorkerEnd>), WriterFault>, S)
-    ensures ran { IfOk result.0 (λ r. Runs S.honest prepared.now.start prepared.now.logs.items
-        (P.asks program S.honest) (λ es fs. P.says program S.honest es fs r.0) r.1.items
-        (S.told shelf) (S.told result.1)) }
+    ensures ran { IfOk result.0 (λ r. Runs (S.refuses (S.told shelf).place) S.honest
+        prepared.now.start prepared.now.logs.items workers (P.asks program S.honest)
+        (λ es fs. P.says program S.honest es fs r.0) r.1.items (S.told shelf)
+        (S.told result.1)) }
     ensures count { IfOk result.0 (λ r. (workers ≤ vec_len r.1)
         × (vec_len r.1 ≤ workers + 1)) }
     ensures refused { IfErr result.0 (λ e. IsRunRefusal (Stored S.Receipt
         (S.is_of (S.told shelf).place) S.Receipt.number S.Receipt.image)
-        (S.refuses (S.told shelf).place) S.honest prepared.now.start prepared.now.logs.items e
-        (S.told shelf) (S.told result.1)) }
+        (S.refuses (S.told shelf).place) S.honest prepared.now.start prepared.now.logs.items
+        workers e (S.told shelf) (S.told result.1)) }
 {
     match NewParts::make(alloc) {
         Ok(parts) => run_as::<Brand, S, R, P>(rt, alloc, shelf, prepared, parts, workers, program),

@@ -1,9 +1,10 @@
-use Rattle.std.proofs.Common.{List, ap, ◌∙◌, inl, inr, refl, subst, sym}
+use Rattle.std.proofs.Common.{◌+◌, List, ap, ◌∙◌, inl, inr, refl, subst, sym, arith}
 use Rattle.lsm_codec.specs.Entries.{Entry}
-use Rattle.lsm_shelf.proofs.CallerLemmas.{forked_then}
 use Rattle.lsm_state.specs.Held.{Held}
 use Rattle.lsm_store.specs.Compacting.{IsSeated}
-use Rattle.lsm_store.proofs.ForkLaws.{forked_at_most, forked_times}
+use Rattle.lsm_store.proofs.ForkLaws.{forking_then}
+use Rattle.lsm_database.specs.Keeping.{HasComeTo}
+use Rattle.lsm_database.proofs.ForkLaws.{at_most_more, beside_of, counted_then, same_then, some_then_at_most}
 use Rattle.lsm_database.proofs.KeepingLaws.{come_seated}
 use Rattle.lsm_database.proofs.running.run_state.Goals as goal
 
@@ -21,17 +22,25 @@ pub run_in_store-run-requires-clause-found : goal.run_in_store-run-requires-clau
 run_in_store-run-requires-clause-found g c κs within =
     c.requires.known ∙ ap (λ (h : Held). h.history) (sym c.requires.found)
 
+-- the workers' and the own fork were refused
 pub returns-in-Err-clause-refused : goal.returns-in-Err-clause-refused
-returns-in-Err-clause-refused g c =
-    inr (c.in-Err.fault, c.of_shelf.ensures, c.in-Err.ensures.cause)
+returns-in-Err-clause-refused g c = inr (
+  c.in-Err.fault,
+  c.of_shelf.ensures,
+  c.in-Err.ensures.cause,
+  at_most_more _ _ _ _ (omega arith) c.in-Err.ensures.fewer,
+  c.in-Err.ensures.counts,
+)
 
-pub returns-in-Err-of-clause-refused : goal.returns-in-Err-of-clause-refused
-returns-in-Err-of-clause-refused g c =
-    inr (c.in-Err-of.fault, c.of_shelf-in-Err-of.ensures, c.in-Err-of.ensures.cause)
-
-pub returns-in-Err-of-clause-told : goal.returns-in-Err-of-clause-told
-returns-in-Err-of-clause-told g c =
-    forked_then _ _ _ c.cache_over.ensures.told (forked_at_most _ _ _ c.in-Err-of.ensures.fewer)
+-- or that of the cache
+pub returns-in-Err-cache_over-clause-refused : goal.returns-in-Err-cache_over-clause-refused
+returns-in-Err-cache_over-clause-refused g c = inr (
+  c.in-Err-cache_over.fault,
+  c.of_shelf-in-Err-cache_over.ensures,
+  c.in-Err-cache_over.ensures.cause,
+  some_then_at_most _ _ _ _ _ _ (omega arith) c.in-Ok.ensures.just c.in-Err-cache_over.ensures.fewer,
+  counted_then c.in-Err-cache_over.fault _ _ _ c.in-Ok.ensures.counts c.in-Err-cache_over.ensures.counts,
+)
 
 pub returns-in-Some-clause-said : goal.returns-in-Some-clause-said
 returns-in-Some-clause-said g c =
@@ -44,12 +53,21 @@ returns-in-Some-clause-said g c =
           c.requires.known said.2,
     )
 
-pub returns-in-Some-clause-told : goal.returns-in-Some-clause-told
-returns-in-Some-clause-told g c =
-    forked_then _ _ _ c.cache_over.ensures.told (forked_times _ _ _ c.in-Ok-of.ensures.just)
+pub returns-in-Some-clause-ended : goal.returns-in-Some-clause-ended
+returns-in-Some-clause-ended g c =
+    let Refused = g.S.Shelf.refuses g.N.Naming.place in
+    let honest = g.S.Shelf.honest in
+    beside_of honest Refused (HasComeTo Refused honest g.A.Asking.asks g.A.Asking.found) c.in-Ok.shelves.shelves.items _ c.in-Some.run'.1.items c.in-Ok.ensures.new c.in-Some.ensures.ended
 
-pub returns-clause-told : goal.returns-clause-told
-returns-clause-told g c = forked_then _ _ _ c.cache_over.ensures.told (forked_times _ _ _ c.in-Ok-of.ensures.just)
+pub returns-in-Some-clause-just : goal.returns-in-Some-clause-just
+returns-in-Some-clause-just g c = forking_then _ _ _ _ _ _ (omega arith) c.in-Ok.ensures.just c.in-Ok-cache_over.ensures.just
+
+pub returns-in-Some-clause-counts : goal.returns-in-Some-clause-counts
+returns-in-Some-clause-counts g c = same_then _ _ _ c.in-Ok.ensures.counts c.in-Ok-cache_over.ensures.counts
 
 pub returns-clause-refused : goal.returns-clause-refused
-returns-clause-refused g c = inl refl
+returns-clause-refused g c = inl (
+  refl,
+  forking_then _ _ _ _ _ _ (omega arith) c.in-Ok.ensures.just c.in-Ok-cache_over.ensures.just,
+  same_then _ _ _ c.in-Ok.ensures.counts c.in-Ok-cache_over.ensures.counts,
+)
