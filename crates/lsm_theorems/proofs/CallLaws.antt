@@ -67,10 +67,9 @@ left_unchanged Honest found left l = record {
   reads = l.as_found.answers;
 }
 
-pub left_so : {E : Type 0} (Honest : Type 0) (found : Held) (r : Result Held E) → ((found h : Held) → ∥ IsLeftByWorkers Honest found h ∥₁ → IsLeftByWorkers Honest found h)
-    → IfOk r (λ h. ∥ IsLeftByWorkers Honest found h ∥₁) → IfOk r (IsUnchanged Honest found)
-left_so Honest found (Ok h) out kept = left_unchanged Honest found h (out found h kept)
-left_so Honest found (Err e) out kept = tt
+pub left_so : (Honest : Type 0) (found h : Held) → ((found h : Held) → ∥ IsLeftByWorkers Honest found h ∥₁ → IsLeftByWorkers Honest found h)
+    → ∥ IsLeftByWorkers Honest found h ∥₁ → IsUnchanged Honest found h
+left_so Honest found h out kept = left_unchanged Honest found h (out found h kept)
 
 -- ---- what is kept
 

@@ -1,9 +1,7 @@
 //! Compactions, and what goes with them, change no answer.
 
-ghost use Rattle.std.specs.Prelude.{IfOk};
 ghost use Rattle.lsm_state.specs.Held.{Held};
 ghost use Rattle.lsm_store.specs.Compacting.{IsKeptByCompaction, IsSeated};
-ghost use Rattle.lsm_store.specs.Readers.{SeatsPinners};
 ghost use Rattle.lsm_theorems.specs.Unchanged.{IsUnchanged};
 
 use lsm_merge::{Finished, Job};
@@ -11,7 +9,7 @@ use lsm_slots::Boarded;
 use lsm_state::{GatherFault, State, StateFault};
 use lsm_store::laws::what_was_found_is_kept;
 use lsm_store::{Invariant, NoGate, Store, run_workers};
-use lsm_table::{NamedShelf, Shelf, ShelfFault};
+use lsm_table::{NamedShelf, Shelf};
 use std::alloc::Global;
 use std::marker::Brand;
 use std::sync::Wait;
@@ -125,14 +123,12 @@ pub fn workers_change_no_answer<N: Boarded, S: Shelf, R: Threads + Wait + Sync>(
     rt: &R,
     alloc: Global,
     state: State<N, S>,
-    reading: NamedShelf<N, S>,
     shelves: Vec<NamedShelf<N, S>>,
-) -> Result<State<N, S>, (State<N, S>, NamedShelf<N, S>, ShelfFault)>
-    requires seats { SeatsPinners state }
-    ensures { IfOk result (IsUnchanged S.honest state) }
+) -> State<N, S>
+    ensures { IsUnchanged S.honest state result }
 {
     what_was_found_is_kept::<State<N, S>>();
-    let_work::<N, S, Brand, R>(rt, alloc, state, reading, shelves)
+    let_work::<N, S, Brand, R>(rt, alloc, state, shelves)
 }
 
 /// The state that workers leave, of which the fact holds that the lock kept.
@@ -140,15 +136,13 @@ fn let_work<N: Boarded, S: Shelf, K: Invariant, R: Threads + Wait + Sync>(
     rt: &R,
     alloc: Global,
     state: State<N, S>,
-    reading: NamedShelf<N, S>,
     shelves: Vec<NamedShelf<N, S>>,
-) -> Result<State<N, S>, (State<N, S>, NamedShelf<N, S>, ShelfFault)>
-    requires seats { SeatsPinners state }
+) -> State<N, S>
     requires kept { (h : Held) → IsSeated state h → K.keeps h }
     requires steps { IsKeptByCompaction S.honest K.keeps }
-    ensures { IfOk result (λ s. ∥ K.keeps s ∥₁) }
+    ensures { ∥ K.keeps result ∥₁ }
 {
-    let (store, _readers) = Store::<N, S, K>::new(alloc, state, reading)?;
+    let store: Store<N, S, K> = Store::of(alloc, state);
     let _ends = run_workers(rt, alloc, &store, shelves, &NoGate);
-    Ok(store.into_state())
+    store.into_state()
 }

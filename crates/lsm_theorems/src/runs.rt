@@ -1,6 +1,6 @@
 //! Any chain of calls, by any threads.
 
-ghost use Rattle.std.specs.Prelude.{◌≡◌, ℕ, List, IfOk};
+ghost use Rattle.std.specs.Prelude.{◌≡◌, ℕ, List};
 ghost use Rattle.atomic_table.specs.Seated.{TableId};
 ghost use Rattle.lsm_batch.specs.declared.write.Write.{Write};
 ghost use Rattle.lsm_codec.specs.Keys.{UserKey};
@@ -9,7 +9,6 @@ ghost use Rattle.lsm_model.specs.Runs.{Event, Run, ingested};
 ghost use Rattle.lsm_state.specs.Held.{Held, IsLawfulState, plain};
 ghost use Rattle.lsm_store.specs.Background.{IsKeptByIngest};
 ghost use Rattle.lsm_store.specs.Compacting.{IsKeptByCompaction, IsSeated};
-ghost use Rattle.lsm_store.specs.Readers.{SeatsPinners};
 ghost use Rattle.lsm_theorems.specs.Calls.{Call, Chain, IsCall, IsReached};
 ghost use Rattle.lsm_theorems.specs.Database.{IsAnswered, came_in, database_of};
 ghost use Rattle.lsm_theorems.specs.Newest.{IsReadOf};
@@ -22,7 +21,7 @@ use lsm_model::machine::Premise;
 use lsm_slots::Boarded;
 use lsm_state::{Ingested, State, StateFault};
 use lsm_store::{Invariant, NoGate, Store, run_workers};
-use lsm_table::{NamedShelf, Shelf, ShelfFault};
+use lsm_table::{NamedShelf, Shelf};
 use std::alloc::Global;
 use std::marker::Brand;
 use std::sync::Wait;
@@ -73,16 +72,14 @@ pub fn what_threads_leave_was_reached<N: Boarded, S: Shelf, R: Threads + Wait + 
     rt: &R,
     alloc: Global,
     state: State<N, S>,
-    reading: NamedShelf<N, S>,
     shelves: Vec<NamedShelf<N, S>>,
     shelf: &mut NamedShelf<N, S>,
     batch: &Batch,
-) -> Result<State<N, S>, (State<N, S>, NamedShelf<N, S>, ShelfFault)>
-    requires seats { SeatsPinners state }
-    ensures { IfOk result (λ s. ∥ IsReached S.honest state s ∥₁) }
+) -> State<N, S>
+    ensures { ∥ IsReached S.honest state result ∥₁ }
 {
     what_is_reached_is_kept::<State<N, S>>();
-    let_call::<N, S, Brand, R>(rt, alloc, state, reading, shelves, shelf, batch)
+    let_call::<N, S, Brand, R>(rt, alloc, state, shelves, shelf, batch)
 }
 
 /// The state that is left, of which the fact holds that the lock kept.
@@ -90,22 +87,20 @@ fn let_call<N: Boarded, S: Shelf, K: Invariant, R: Threads + Wait + Sync>(
     rt: &R,
     alloc: Global,
     state: State<N, S>,
-    reading: NamedShelf<N, S>,
     shelves: Vec<NamedShelf<N, S>>,
     shelf: &mut NamedShelf<N, S>,
     batch: &Batch,
-) -> Result<State<N, S>, (State<N, S>, NamedShelf<N, S>, ShelfFault)>
-    requires seats { SeatsPinners state }
+) -> State<N, S>
     requires found { (h : Held) → IsSeated state h → K.keeps h }
     requires called { (was is : Held) (call : Call) → IsCall S.honest call was is → K.keeps was
         → K.keeps is }
     requires worked { IsKeptByCompaction S.honest K.keeps }
-    ensures { IfOk result (λ s. ∥ K.keeps s ∥₁) }
+    ensures { ∥ K.keeps result ∥₁ }
 {
-    let (store, _readers) = Store::<N, S, K>::new(alloc, state, reading)?;
+    let store: Store<N, S, K> = Store::of(alloc, state);
     let _ends = run_workers(rt, alloc, &store, shelves, &NoGate);
     let _came = ingest_under_lock(rt, alloc, &store, shelf, batch);
-    Ok(store.into_state())
+    store.into_state()
 }
 
 /// Any thread's ingest: it keeps every fact that calls keep.
