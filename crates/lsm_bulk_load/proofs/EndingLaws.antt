@@ -19,7 +19,8 @@ use Rattle.lsm_store.specs.declared.worker_end.WorkerEnd.{WorkerEnd}
 use Rattle.lsm_store.specs.declared.worker_fault.WorkerFault.{WorkerFault}
 use Rattle.lsm_store.specs.Ends.{IsFaultless, IsFirstFault}
 use Rattle.lsm_bulk_load.specs.Ending.{IsLate, IsLooked, ReservesNone}
-use Rattle.lsm_bulk_load.specs.Loading.{GivesForks, HaveEndedWell, HaveWorkedBeside, IsForkedFor, IsLoaded, IsStopped, IsUnloaded, SomeAreIn, SomeAreInToo, StopsBehind}
+use Rattle.lsm_shelf.specs.Told.{GivesForks}
+use Rattle.lsm_bulk_load.specs.Loading.{HaveEndedWell, HaveWorkedBeside, IsForkedFor, IsLoaded, IsStopped, IsUnloaded, SomeAreIn, SomeAreInToo, StopsBehind}
 use Rattle.lsm_bulk_load.specs.Marks.{Marked, marked_in}
 use Rattle.lsm_bulk_load.specs.declared.load_fault.LoadFault.{LoadFault}
 use Rattle.lsm_bulk_load.specs.declared.load_fault.LoadFault.TheVariants.{OutOfMemory, Shelf, Line, Ingest, Other, Worker, Due}

@@ -1,10 +1,8 @@
 -- What lines that are loaded leave of a store, and why they stop (this project's rule).
 use Rattle.std.specs.Prelude.{◌≡◌, ◌⊎◌, ℕ, zero, suc, ◌+◌, ◌<◌, ◌^◌, List, [], length, All, Option}
-use Rattle.std.specs.Prelude.{Ok, Err}
 use Rattle.std.specs.Io.KnownBytes.{IsAtEnd}
 use Rattle.lsm_shelf.specs.Asked.{Asked}
-use Rattle.lsm_shelf.specs.Told.{CountedBy, ForkedAtMost, ForkedTimes, NotNamed, Place, Told}
-use Rattle.lsm_shelf.specs.Told.{forks_behind}
+use Rattle.lsm_shelf.specs.Told.{GivesForks, NotNamed, Place, RefusesFork, Told, forks_behind}
 use Rattle.lsm_shelf.specs.declared.shelf_fault.ShelfFault.{ShelfFault}
 use Rattle.lsm_codec.specs.Entries.{Entry}
 use Rattle.lsm_history.specs.History.{IsLater}
@@ -73,15 +71,6 @@ pub record TakesBatch (old new : Pending) (was now : Marked) (p q : Progress) (e
   pub came : NoneCame ws was now p q ⊎ BatchCame ws was now p q
 
 -- ---- what shelves were told
-
--- It gave just so many forks, none was refused, and nothing else was told.
-abbrev pub GivesForks : ℕ → Told → Told → Type 0
-GivesForks count old new = ForkedTimes count old new × CountedBy {T = Unit {0}} (Ok tt) old new
-
--- It gave so many at most, the next was refused with this, and nothing else was told.
-abbrev pub RefusesFork : (most : ℕ) → ShelfFault → Told → Told → Type 0
-RefusesFork most fault old new =
-    ForkedAtMost most old new × CountedBy {T = Unit {0}} (Err fault) old new
 
 -- So many workers ended so, each over a fork of these contents, the next ones behind this number,
 -- and the one that only gathered over a fork of the last of these; and each was told just what its

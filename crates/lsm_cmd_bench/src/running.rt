@@ -250,7 +250,7 @@ fn shelves_for<N: Boarded, S: Shelf>(
     Ok((shelves, reading))
 }
 
-/// Runs the benchmarks on a state, with a shelf for each worker and one for batches, and one for the
+/// Runs the benchmarks on a state, with a shelf for each worker, one for batches, and one for the
 /// store's readers. A lawful state is behind them, and is let go.
 #[tactic(auto, using(lsm_bulk_load::proofs::CallerLemmas::even_first))]
 fn run_shelves<N, S, O, R, W>(

@@ -14,7 +14,8 @@ use Rattle.lsm_directory.specs.declared.folder.folder_file.FolderFile.{FolderFil
 use Rattle.lsm_lines.specs.Gathering.{Pending}
 use Rattle.lsm_lines.specs.Passing.{PassesLines}
 use Rattle.lsm_bulk_load.specs.Ending.{IsIdle, IsLooked, ReservesNone}
-use Rattle.lsm_bulk_load.specs.Loading.{GivesForks, HaveEndedWell, IsLoaded}
+use Rattle.lsm_shelf.specs.Told.{GivesForks}
+use Rattle.lsm_bulk_load.specs.Loading.{HaveEndedWell, IsLoaded}
 use Rattle.lsm_bulk_load.specs.Marks.{Marked, marked_in}
 use Rattle.lsm_bulk_load.specs.declared.progress.Progress.{Progress}
 use Rattle.lsm_bulk_load.proofs.CallerLemmas.{reserves_still}

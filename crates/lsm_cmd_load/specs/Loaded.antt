@@ -21,7 +21,8 @@ use Rattle.lsm_opening.specs.declared.prepared.Start.{Start}
 use Rattle.lsm_store.specs.declared.worker_end.WorkerEnd.{WorkerEnd}
 use Rattle.lsm_bulk_load.specs.Ending.{IsIdle, IsLooked, ReservesNone}
 use Rattle.lsm_bulk_load.specs.Keeping.{HasComeTo, IsKeptSince, IsOfLines}
-use Rattle.lsm_bulk_load.specs.Loading.{GivesForks, HaveEndedWell, HaveWorkedBeside, IsForkedFor}
+use Rattle.lsm_shelf.specs.Told.{GivesForks}
+use Rattle.lsm_bulk_load.specs.Loading.{HaveEndedWell, HaveWorkedBeside, IsForkedFor}
 use Rattle.lsm_bulk_load.specs.Loading.{IsLoaded, IsToldOfBatches, IsUnloaded}
 use Rattle.lsm_bulk_load.specs.Marks.{marked_in}
 use Rattle.lsm_bulk_load.specs.declared.load_fault.LoadFault.{LoadFault}

@@ -16,7 +16,8 @@ use Rattle.lsm_store.specs.Workers.{IsWorkersEnd}
 use Rattle.lsm_store.specs.Working.{HaveEndedBeside}
 use Rattle.lsm_store.specs.declared.worker_end.WorkerEnd.{WorkerEnd}
 use Rattle.lsm_store.specs.Ends.{IsFaultless}
-use Rattle.lsm_bulk_load.specs.Loading.{GivesForks, HaveWorkedBeside}
+use Rattle.lsm_shelf.specs.Told.{GivesForks}
+use Rattle.lsm_bulk_load.specs.Loading.{HaveWorkedBeside}
 use Rattle.lsm_opening.specs.Starting.{IsStarted}
 use Rattle.lsm_opening.specs.declared.prepared.Start.{Start}
 use Rattle.lsm_cmd_shell.specs.Beside.{IsLent, IsTalkedBeside, waiting}

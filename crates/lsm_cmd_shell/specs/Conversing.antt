@@ -13,7 +13,8 @@ use Rattle.lsm_store.specs.Workers.{IsWorkersEnd}
 use Rattle.lsm_store.specs.declared.worker_end.WorkerEnd.{WorkerEnd}
 use Rattle.lsm_store.specs.declared.worker_fault.WorkerFault.{WorkerFault}
 use Rattle.lsm_store.specs.Ends.{IsFaultless, IsFirstFault}
-use Rattle.lsm_bulk_load.specs.Loading.{GivesForks, HaveWorkedBeside, RefusesFork}
+use Rattle.lsm_shelf.specs.Told.{GivesForks, RefusesFork}
+use Rattle.lsm_bulk_load.specs.Loading.{HaveWorkedBeside}
 use Rattle.lsm_opening.specs.Starting.{IsStartRefusal, IsStarted}
 use Rattle.lsm_opening.specs.WriterFault.{of_shelf}
 use Rattle.lsm_opening.specs.declared.faults.compact_fault.CompactFault.TheVariants.{Writer, Worker}

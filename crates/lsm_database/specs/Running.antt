@@ -1,5 +1,5 @@
 -- What the run of a program on a database is, and why there is none (this project's rule).
-use Rattle.std.specs.Prelude.{◌≡◌, ◌⊎◌, ℕ, ◌+◌, List, All, Err}
+use Rattle.std.specs.Prelude.{◌≡◌, ◌⊎◌, ℕ, ◌+◌, List, All}
 use Rattle.lsm_batch.specs.declared.write.Write.{Write}
 use Rattle.lsm_codec.specs.Entries.{Entry}
 use Rattle.lsm_folder.specs.Calls.{AreHonest}
@@ -7,15 +7,13 @@ use Rattle.lsm_folder.specs.declared.folder_calls.FolderCalls.{Ghosts}
 use Rattle.lsm_folder.specs.declared.mark.Mark as mark
 use Rattle.lsm_shelf.specs.Asked.{Asked}
 use Rattle.lsm_shelf.specs.Refusals.{MayRefuse}
-use Rattle.lsm_shelf.specs.Told.{CountedBy, ForkedAtMost, ForkedTimes, NotNamed, Told}
-use Rattle.lsm_shelf.specs.Told.{forks_behind}
+use Rattle.lsm_shelf.specs.Told.{GivesForks, NotNamed, RefusesFork, Told, forks_behind}
 use Rattle.lsm_shelf.specs.declared.shelf_fault.ShelfFault.{ShelfFault}
 use Rattle.lsm_storage.specs.declared.file.file_shelf.FileShelf.{FileShelf}
 use Rattle.lsm_directory.specs.Folders.{IsFolderAt, IsShelfAt, stored_at, told_by}
 use Rattle.lsm_directory.specs.Holding.{IsFolderFault}
 use Rattle.lsm_directory.specs.declared.faults.directory_fault.DirectoryFault.{DirectoryFault}
 use Rattle.lsm_directory.specs.declared.folder.folder_file.FolderFile.{FolderFile}
-use Rattle.lsm_state.specs.Collecting.{SameCounts}
 use Rattle.lsm_state.specs.Held.{Held}
 use Rattle.lsm_store.specs.Workers.{IsWorkersEnd}
 use Rattle.lsm_store.specs.Working.{HaveEndedBeside}
@@ -33,10 +31,10 @@ use Rattle.lsm_database.specs.Keeping.{HasComeTo, HasSaid}
 
 -- The database was begun or opened, and a program answered, which may ask for such batches; this is
 -- what it says, of all that had come in before, and of all that it knew in the end. Once the
--- database was begun or opened its shelf gave just a fork for each worker, and two for the program,
--- and refused none. So many workers compacted beside it, and ended so; each had the next of these
--- forks, and the one that only gathered a fork of the last one, which was told just what it did, in
--- states that came from the one begun or opened by steps of workers and such batches.
+-- database was begun or opened its shelf gave just a fork for each worker, and two for the program.
+-- Workers ended so, as they may over the first of these forks, and the one that only gathered over
+-- one of the last worker's: in states that came from the one begun or opened by steps of workers
+-- and by such batches.
 pub record Runs (Refused : Asked → ShelfFault → Type 0) (Honest : Type 0) (start : Start)
     (logs : List FolderFile) (workers : ℕ) (Asks : List Entry → List Write
     → Type 0) (Says : (before after : List Entry) → Type 0) (ends : List WorkerEnd) (was is : Told)
@@ -44,21 +42,19 @@ pub record Runs (Refused : Asked → ShelfFault → Type 0) (Honest : Type 0) (s
   pub state : Held
   pub mid : Told
   pub started : IsStarted Honest start logs state was mid
-  pub forked : ForkedTimes (workers + 2) mid is
-  pub counts : SameCounts mid is
+  pub forked : GivesForks (workers + 2) mid is
   pub said : HasSaid (Asks state.history) state (Says state.history)
   pub each : All (IsWorkersEnd Honest) ends
   pub worked : HaveEndedBeside Honest Refused
       (HasComeTo Refused Honest (Asks state.history) state)
       (forks_behind was.place mid.forks workers) ends
 
--- A fork was refused, and none was asked for behind it; or so many were given, and memory ran out
--- or there was no thread.
+-- So many forks were given, and memory ran out or there was no thread; or one was refused.
 abbrev pub IsUnforked : (count : ℕ) → WriterFault → Told → Told → Type 0
 IsUnforked count e was is =
-    ((e ≡ OutOfMemory) × ForkedTimes count was is × SameCounts was is)
+    ((e ≡ OutOfMemory) × GivesForks count was is)
     ⊎ ((fault : ShelfFault) × (e ≡ of_shelf fault) × NotNamed fault
-    × ForkedAtMost count was is × CountedBy {T = Unit {0}} (Err fault) was is)
+    × RefusesFork count fault was is)
 
 -- Why no program ran: the database was not begun or opened; or it was, and then there was no fork
 -- or no worker.

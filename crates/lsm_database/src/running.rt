@@ -4,8 +4,8 @@ ghost use Rattle.std.specs.Prelude.{◌≡◌, ◌+◌, ◌≤◌, List, All, If
 ghost use Rattle.std.specs.Prelude.{vec_len};
 ghost use Rattle.lsm_batch.specs.declared.write.Write.{Write};
 ghost use Rattle.lsm_shelf.specs.Stored.{Stored};
-ghost use Rattle.lsm_shelf.specs.Told.{CountedBy, ForkedAtMost, ForkedTimes, NotNamed, forks_behind};
-ghost use Rattle.lsm_state.specs.Collecting.{SameCounts};
+ghost use Rattle.lsm_shelf.specs.Told.{CountedBy, ForkedAtMost, ForkedTimes, GivesForks, NotNamed};
+ghost use Rattle.lsm_shelf.specs.Told.{forks_behind};
 ghost use Rattle.lsm_store.specs.Workers.{IsWorkersEnd};
 ghost use Rattle.lsm_store.specs.Working.{HaveEndedBeside};
 ghost use Rattle.lsm_opening.specs.Parts.{AreOf, usual};
@@ -87,8 +87,8 @@ fn run_on_handle<N: Boarded, S: Shelf, A: Asking, R: Wait, P: Program>(
 }
 
 /// Runs a program on the state of a store, while a worker for each shelf compacts: its answer, and
-/// the workers' ends. Each worker's shelf was told just what it did. None where there was no memory
-/// and no thread for the workers; then it did not run.
+/// the workers' ends, as they may be over these shelves. None where there was no memory and no
+/// thread for the workers; then it did not run.
 fn run_in_store<N: Boarded, S: Shelf, A: Asking, R: Threads + Wait + Sync, P: Program>(
     rt: &R,
     alloc: Global,
@@ -163,8 +163,7 @@ fn run_state<N: Boarded, S: Shelf, A: Asking, R: Threads + Wait + Sync, P: Progr
     ensures ended { IfOk result (λ r. HaveEndedBeside S.honest (S.refuses N.place)
         (HasComeTo (S.refuses N.place) S.honest A.asks A.found)
         (forks_behind N.place shelf.old.forks workers) r.1.items) }
-    ensures just { OnOk result (ForkedTimes (workers + 2) shelf.old shelf.new) }
-    ensures counts { OnOk result (SameCounts shelf.old shelf.new) }
+    ensures just { OnOk result (GivesForks (workers + 2) shelf.old shelf.new) }
     ensures refused { IfErr result (λ e. IsUnforked (workers + 2) e shelf.old shelf.new) }
 {
     let Shelves { shelves, own } = match Shelves::of(alloc, shelf, workers) {

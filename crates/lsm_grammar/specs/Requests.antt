@@ -362,8 +362,8 @@ abbrev pub CanWait : Option Text → Type 0
 CanWait None = ⊤
 CanWait (Some word) = (n : ℕ) × IsNumberIn 1 3600 (Some word) n
 
--- The command that was found is the request's, the request says what its rows say, and how long it
--- waits is a number.
+-- The command that was found is the request's, the request says what its rows say, and `--wait`,
+-- where it is there, has a number.
 pub record IsAsked (found : Option (Text × List Row)) (request : Request) : Type 0 where
   pub name : Text
   pub rows : List Row

@@ -39,6 +39,12 @@ struct Range {
 /// stands wrong that comes so far.
 const RANGES: [Range; 9] = [
     Range {
+        name: "wait",
+        least: 1,
+        most: 3600,
+        wrong: "is no number of seconds, 1 to 3600",
+    },
+    Range {
         name: "COMMAND",
         least: 1,
         most: 0,
@@ -73,12 +79,6 @@ const RANGES: [Range; 9] = [
         least: 0,
         most: u64::MAX,
         wrong: "is no number of workers",
-    },
-    Range {
-        name: "wait",
-        least: 1,
-        most: 3600,
-        wrong: "is no number of seconds, 1 to 3600",
     },
     Range {
         name: "benchmarks",

@@ -1,6 +1,6 @@
 -- What contracts see of a shelf's value, and what a call leaves of it (this project's rule).
-use Rattle.std.specs.Prelude.{◌≡◌, ℕ, zero, suc, ◌+◌, ◌-◌, ◌^◌, ◌≤◌, min, List, [], ◌∷◌, ◌++◌, Option, None}
-use Rattle.std.specs.Prelude.{Some, Result, Ok, Err}
+use Rattle.std.specs.Prelude.{◌≡◌, ℕ, zero, suc, ◌+◌, ◌-◌, ◌^◌, ◌≤◌, min, List, [], ◌∷◌, ◌++◌}
+use Rattle.std.specs.Prelude.{Option, None, Some, Result, Ok, Err}
 pub use Rattle.lsm_shelf.specs.Place.{Place, in_memory, at_path}
 use Rattle.lsm_shelf.specs.Asked.{Asked, Put, Remove, StartManifest, AppendManifest}
 use Rattle.lsm_shelf.specs.declared.shelf_fault.ShelfFault.{ShelfFault}
@@ -156,6 +156,16 @@ CountedBy (Err OutOfMemory) old new = (new.faults ≡ old.faults) × (new.misses
 CountedBy (Err Device) old new = (new.faults ≡ next_count old.faults) × (new.misses ≡ old.misses)
 CountedBy (Err Missing) old new = (new.faults ≡ old.faults) × (new.misses ≡ next_count old.misses)
 CountedBy (Err (Taken n)) old new = (new.faults ≡ old.faults) × (new.misses ≡ next_count old.misses)
+
+-- just so many forks were given, no refusal was counted, and nothing else was told
+abbrev pub GivesForks : ℕ → Told → Told → Type 0
+GivesForks count old new = ForkedTimes count old new × CountedBy {T = Unit {0}} (Ok tt) old new
+
+-- so many at most were given, this refusal was counted once, as far as it is counted, and nothing
+-- else was told
+abbrev pub RefusesFork : (most : ℕ) → ShelfFault → Told → Told → Type 0
+RefusesFork most fault old new =
+    ForkedAtMost most old new × CountedBy {T = Unit {0}} (Err fault) old new
 
 abbrev pub Rose : ℕ → ℕ → Type 0
 Rose old new = next_count old ≤ new

@@ -24,7 +24,7 @@ use std::io::{self, Write};
 /// What a command that writes a directory could not do. It prints as a text without a newline.
 #[derive(Debug, Drop)]
 pub enum WriterFault {
-    /// A growth of memory was refused, before the directory was opened.
+    /// A growth of memory was refused, or there was no thread.
     OutOfMemory,
     /// A read of the file failed, or it has more than 64 MiB.
     Read,

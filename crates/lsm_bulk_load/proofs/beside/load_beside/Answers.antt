@@ -1,10 +1,11 @@
-use Rattle.std.proofs.Common.{rules, ◌≡◌, ◌∙◌, ◌+◌, [], IfErr, OnOk, inl, refl, subst}
+use Rattle.std.proofs.Common.{rules, ◌≡◌, ◌∙◌, ◌+◌, IfErr, OnOk, inl, refl, subst}
 use Rattle.std.specs.Prelude.{Err}
 use Rattle.lsm_state.specs.Held.{Held}
 use Rattle.lsm_bulk_load.specs.Ending.{IsLate}
 use Rattle.lsm_store.specs.Compacting.{IsSeated}
 use Rattle.lsm_bulk_load.specs.Keeping.{IsKeptSince}
-use Rattle.lsm_bulk_load.specs.Loading.{GivesForks, HaveWorkedBeside, IsLoaded, IsStopped}
+use Rattle.lsm_shelf.specs.Told.{GivesForks}
+use Rattle.lsm_bulk_load.specs.Loading.{HaveWorkedBeside, IsLoaded, IsStopped}
 use Rattle.lsm_bulk_load.specs.Marks.{marked_in}
 use Rattle.lsm_bulk_load.specs.declared.load_fault.LoadFault.TheVariants.{OutOfMemory}
 use Rattle.lsm_bulk_load.proofs.EndingLaws.{ended_well, forks_given, forks_late, forks_unused, none_well, unbegun, unfinished, worked_beside}

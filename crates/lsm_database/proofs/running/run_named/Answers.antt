@@ -31,7 +31,6 @@ returns-in-Ok-run_state-clause-ran g c =
       mid = c.start.new.shelf;
       started = c.in-Ok.ensures.started;
       forked = c.in-Ok-run_state.ensures.just;
-      counts = c.in-Ok-run_state.ensures.counts;
       said = subst
           (λ (h : Held). HasSaid (g.P.Program.asks program H h.history) h
           (λ es. g.P.Program.says program H h.history es run.0))

@@ -1,10 +1,9 @@
-use Rattle.std.proofs.Common.{◌+◌, List, ap, ◌∙◌, inl, inr, refl, subst, sym, arith}
+use Rattle.std.proofs.Common.{List, ap, ◌∙◌, inl, inr, refl, subst, sym, arith}
 use Rattle.lsm_codec.specs.Entries.{Entry}
 use Rattle.lsm_state.specs.Held.{Held}
 use Rattle.lsm_store.specs.Compacting.{IsSeated}
-use Rattle.lsm_store.proofs.ForkLaws.{forking_then}
 use Rattle.lsm_database.specs.Keeping.{HasComeTo}
-use Rattle.lsm_database.proofs.ForkLaws.{at_most_more, beside_of, counted_then, same_then, some_then_at_most}
+use Rattle.lsm_database.proofs.ForkLaws.{at_most_more, beside_of, counted_then, gives_then, some_then_at_most}
 use Rattle.lsm_database.proofs.KeepingLaws.{come_seated}
 use Rattle.lsm_database.proofs.running.run_state.Goals as goal
 
@@ -60,14 +59,11 @@ returns-in-Some-clause-ended g c =
     beside_of honest Refused (HasComeTo Refused honest g.A.Asking.asks g.A.Asking.found) c.in-Ok.shelves.shelves.items _ c.in-Some.run'.1.items c.in-Ok.ensures.new c.in-Some.ensures.ended
 
 pub returns-in-Some-clause-just : goal.returns-in-Some-clause-just
-returns-in-Some-clause-just g c = forking_then _ _ _ _ _ _ (omega arith) c.in-Ok.ensures.just c.in-Ok-cache_over.ensures.just
-
-pub returns-in-Some-clause-counts : goal.returns-in-Some-clause-counts
-returns-in-Some-clause-counts g c = same_then _ _ _ c.in-Ok.ensures.counts c.in-Ok-cache_over.ensures.counts
+returns-in-Some-clause-just g c =
+    gives_then _ _ _ _ _ _ (omega arith) c.in-Ok.ensures.just c.in-Ok.ensures.counts c.in-Ok-cache_over.ensures.just c.in-Ok-cache_over.ensures.counts
 
 pub returns-clause-refused : goal.returns-clause-refused
 returns-clause-refused g c = inl (
   refl,
-  forking_then _ _ _ _ _ _ (omega arith) c.in-Ok.ensures.just c.in-Ok-cache_over.ensures.just,
-  same_then _ _ _ c.in-Ok.ensures.counts c.in-Ok-cache_over.ensures.counts,
+  gives_then _ _ _ _ _ _ (omega arith) c.in-Ok.ensures.just c.in-Ok.ensures.counts c.in-Ok-cache_over.ensures.just c.in-Ok-cache_over.ensures.counts,
 )
