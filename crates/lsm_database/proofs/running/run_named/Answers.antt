@@ -40,5 +40,10 @@ returns-in-Ok-run_state-clause-ran g c =
           (λ (p : Place). HaveEndedBeside H Refused
           (HasComeTo Refused H (g.P.Program.asks program H c.in-Ok.state.history) c.in-Ok.state)
           (forks_behind p c.start.new.shelf.forks c.args.workers) run.1.items)
-          (sym c.requires.shelf) c.in-Ok-run_state.ensures.ended;
+          (sym c.requires.shelf)
+          (subst
+          (λ (h : Held). HaveEndedBeside H Refused
+          (HasComeTo Refused H (g.P.Program.asks program H h.history) h)
+          (forks_behind g.N.Naming.place c.start.new.shelf.forks c.args.workers) run.1.items)
+          c.remember-memory.ensures.same c.in-Ok-run_state.ensures.ended);
     }

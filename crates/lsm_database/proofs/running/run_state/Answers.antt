@@ -27,8 +27,7 @@ returns-in-Err-clause-refused g c = inr (
   c.in-Err.fault,
   c.of_shelf.ensures,
   c.in-Err.ensures.cause,
-  at_most_more _ _ _ _ (omega arith) c.in-Err.ensures.fewer,
-  c.in-Err.ensures.counts,
+  (at_most_more _ _ _ _ (omega arith) c.in-Err.ensures.fewer, c.in-Err.ensures.counts),
 )
 
 -- or that of the cache
@@ -37,8 +36,10 @@ returns-in-Err-cache_over-clause-refused g c = inr (
   c.in-Err-cache_over.fault,
   c.of_shelf-in-Err-cache_over.ensures,
   c.in-Err-cache_over.ensures.cause,
-  some_then_at_most _ _ _ _ _ _ (omega arith) c.in-Ok.ensures.just c.in-Err-cache_over.ensures.fewer,
-  counted_then c.in-Err-cache_over.fault _ _ _ c.in-Ok.ensures.counts c.in-Err-cache_over.ensures.counts,
+  (
+    some_then_at_most _ _ _ _ _ _ (omega arith) c.in-Ok.ensures.just c.in-Err-cache_over.ensures.fewer,
+    counted_then c.in-Err-cache_over.fault _ _ _ c.in-Ok.ensures.counts c.in-Err-cache_over.ensures.counts,
+  ),
 )
 
 pub returns-in-Some-clause-said : goal.returns-in-Some-clause-said
