@@ -1,7 +1,7 @@
 -- What the lock of a store keeps while batches come in: since the state was found nothing was done
 -- to it but what workers and readers do, and ingests of batches that may come in (this project's
 -- rule).
-use Rattle.std.specs.Prelude.{◌≡◌, ◌⊎◌, ℕ, zero, suc, ◌++◌, List, [], All, Option}
+use Rattle.std.specs.Prelude.{◌≡◌, ◌⊎◌, ℕ, zero, suc, ◌++◌, List, All, Option}
 use Rattle.lsm_shelf.specs.Asked.{Asked}
 use Rattle.lsm_shelf.specs.declared.shelf_fault.ShelfFault.{ShelfFault}
 use Rattle.lsm_batch.specs.declared.write.Write.{Write}

@@ -7,7 +7,7 @@ ghost use Rattle.lsm_grammar.specs.Requests.{AreBenchOptions, AreBounds, AreInge
 ghost use Rattle.lsm_grammar.specs.Requests.{AreLoadOptions, AreNamed, CanWait};
 ghost use Rattle.lsm_grammar.specs.Requests.{AreScanOptions, AreThreads, AreWorkers};
 ghost use Rattle.lsm_grammar.specs.Requests.{IsAsked, IsBound, IsInput};
-ghost use Rattle.lsm_grammar.specs.Requests.{IsKeyWrite, IsLimit, IsLineNumber, IsLook, IsMannerIn};
+ghost use Rattle.lsm_grammar.specs.Requests.{IsKeyWrite, IsLimit, IsLook, IsMannerIn};
 ghost use Rattle.lsm_grammar.specs.Requests.{IsNumberIn, IsRange, IsSpelled, IsWithin, IsWorkersWord};
 ghost use Rattle.lsm_grammar.specs.Requests.{IsWrite, Reads, form_in};
 ghost use Rattle.lsm_grammar.specs.Requests.{get_output_in, is_set, levels_output_in};

@@ -2,7 +2,7 @@
 use Rattle.std.proofs.Common.{◌≡◌, ℕ, zero, suc, ◌+◌, ◌≤◌, List, [], ◌∷◌, ◌++◌, refl, ap, ◌∙◌, arith}
 use Rattle.std.specs.Prelude.{Result, Ok, Err, OnErr}
 use Rattle.lsm_shelf.specs.Place.{Place}
-use Rattle.lsm_shelf.specs.Told.{Becomes, Forked, ForkedAtMost, ForkedTimes, Told, forking, fork_at, forks_behind}
+use Rattle.lsm_shelf.specs.Told.{Becomes, Forked, ForkedAtMost, ForkedTimes, Told, fork_at, forks_behind}
 
 pub forking_none : (t : Told) → ForkedTimes 0 t t
 forking_none t = record { place = refl; faults = omega arith; misses = omega arith; puts = refl; gone = refl; listed = refl; manifest = refl; sent = refl; found = refl; starts = refl; written = refl; forks = omega arith; made = refl }

@@ -1,19 +1,18 @@
 -- What is left of a sweep.
-use Rattle.std.proofs.Common.{◌≡◌, ℕ, zero, suc, ◌+◌, ◌<◌, ◌≤◌, Bool, true, false, List, [], ◌∷◌, ◌++◌, get_or, length, take, refl, sym, ap, ◌∙◌, subst, inl, inr, arith, ◌⊎◌}
-use Rattle.std.specs.Prelude.{Result, Ok, Err, OnErr, OnOk, None, Some}
+use Rattle.std.proofs.Common.{◌≡◌, ℕ, zero, suc, ◌+◌, ◌<◌, Bool, true, false, List, [], ◌∷◌, ◌++◌, get_or, length, take, refl, sym, ap, ◌∙◌, subst, inl, inr, arith, ◌⊎◌}
+use Rattle.std.specs.Prelude.{Err, None, Some}
 use Rattle.std.proofs.lemmas.List.{append_assoc, take_more}
-use Rattle.lsm_codec.specs.Lists.{Has}
 use Rattle.lsm_codec.proofs.CallerLemmas.{has_cases}
 use Rattle.lsm_shelf.specs.Asked.{Asked, ListTables, Remove}
 use Rattle.lsm_shelf.specs.Told.{Told, Becomes, forking, listing, next_fork, removed_by, removing}
 use Rattle.lsm_shelf.specs.declared.shelf_fault.ShelfFault.{ShelfFault}
 use Rattle.lsm_shelf.specs.declared.shelf_fault.ShelfFault.TheVariants as why
-use Rattle.lsm_state.specs.Collecting.{HasLookedAround, IsKeptNumber, IsRemoveRefusal, IsRemovedOrKept, outside}
+use Rattle.lsm_state.specs.Collecting.{HasLookedAround, IsKeptNumber, IsRemoveRefusal, IsRemovedOrKept}
 use Rattle.lsm_state.specs.Held.{Held, plain}
 use Rattle.lsm_state.specs.declared.state_fault.StateFault.{StateFault}
 use Rattle.lsm_state.specs.declared.state_fault.StateFault.TheVariants.{OutOfMemory, Shelf, Read, BadLevel, EmptyBatch, KeyOrder, TooLarge, LevelZeroFull, SequencesSpent, Halted, UnknownSnapshot, Conflict, UnknownTicket, NumbersSpent, Stale, SlotsHeld, VersionsSpent, PinsSpent}
 use Rattle.lsm_store.specs.Compacting.{IsCompactingStep}
-use Rattle.lsm_store.specs.Sweeping.{HasSwept, IsSwept, IsSweptOften, IsUnkeptRemoval, LastForks, Leaves, OnlyRemoves, Removes, RemovesEach, Sweeps, TriesToRemove}
+use Rattle.lsm_store.specs.Sweeping.{HasSwept, IsSwept, IsSweptOften, IsUnkeptRemoval, LastForks, Leaves, OnlyRemoves, Removes, RemovesEach, TriesToRemove}
 use Rattle.lsm_store.proofs.CompactingLaws.{adds_looked, found_looked, step_none}
 
 -- ---- looks under the lock

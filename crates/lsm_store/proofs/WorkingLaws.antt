@@ -26,7 +26,7 @@ use Rattle.lsm_journal.specs.Difference.{Difference, changed_by}
 use Rattle.lsm_journal.specs.Sending.{Sends}
 use Rattle.lsm_version.specs.Versions.{Levels}
 use Rattle.lsm_state.specs.Changing.{IsChangeRefusal, IsSlotRefusal}
-use Rattle.lsm_state.specs.Gathering.{FailsToBringIn, FailsToMerge, GatherRefused, Gathers, HasNoneToGather, IsGatherRefusal, IsGatherRefusedAtOnce, IsRefusedIn, gathered}
+use Rattle.lsm_state.specs.Gathering.{Gathers, IsGatherRefusal, IsGatherRefusedAtOnce, IsRefusedIn, gathered}
 use Rattle.lsm_state.specs.Held.{Held}
 use Rattle.lsm_state.specs.Ingesting.{with_number}
 use Rattle.lsm_state.specs.Options.{sizes_of}
@@ -35,11 +35,10 @@ use Rattle.lsm_state.specs.declared.gather_fault.GatherFault.{GatherFault}
 use Rattle.lsm_state.specs.declared.gather_fault.GatherFault.TheVariants as gather
 use Rattle.lsm_state.specs.declared.state_fault.StateFault.{StateFault}
 use Rattle.lsm_state.specs.declared.state_fault.StateFault.TheVariants as state
-use Rattle.lsm_store.specs.Compacting.{IsCompactingStep}
-use Rattle.lsm_store.specs.Picking.{DoesGather, IsBooked, IsPicked, IsPickedUnder}
+use Rattle.lsm_store.specs.Picking.{IsPickedUnder}
 use Rattle.lsm_store.specs.WorkerFault.{of_gather}
-use Rattle.lsm_store.specs.Workers.{IsOfInstalling, IsOfReserving, IsOfTurn, IsWorkersEnd}
-use Rattle.lsm_store.specs.Working.{AreReturned, FailsToGather, GathersUnder, Given, IsCompaction, IsCounted, IsCountedIf, IsDone, IsWorked, given_one, IsLast, IsLook, IsLookRefused, IsPutOrSent, IsRefusedBy, IsReturned, IsStoppedBy, IsTaken, IsTurn, IsUndone, LooksUnder, OnlyPutsAndSends, Turns, compactions, given_each}
+use Rattle.lsm_store.specs.Workers.{IsOfInstalling, IsOfReserving, IsOfTurn}
+use Rattle.lsm_store.specs.Working.{AreReturned, Given, IsCompaction, IsCounted, IsCountedIf, IsDone, IsWorked, given_one, IsLast, IsLook, IsLookRefused, IsPutOrSent, IsRefusedBy, IsReturned, IsStoppedBy, IsTaken, IsTurn, IsUndone, LooksUnder, OnlyPutsAndSends, Turns, compactions, given_each}
 use Rattle.lsm_store.specs.declared.look.Look.{Look}
 use Rattle.lsm_store.specs.declared.look.Look.TheVariants as look
 use Rattle.lsm_store.specs.declared.picks.Picks.{Picks}

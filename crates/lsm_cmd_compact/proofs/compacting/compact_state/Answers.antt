@@ -1,5 +1,5 @@
 use Rattle.lsm_cmd_compact.proofs.CompactOutcomes.{clears_by}
-use Rattle.lsm_cmd_compact.proofs.RoundLaws.{stops_working, works}
+use Rattle.lsm_cmd_compact.proofs.RoundLaws.{works}
 use Rattle.lsm_cmd_compact.proofs.compacting.compact_state.Goals as goal
 
 pub returns-in-Ok-clear-clause-cleared : goal.returns-in-Ok-clear-clause-cleared

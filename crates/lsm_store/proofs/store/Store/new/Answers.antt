@@ -1,4 +1,4 @@
-use Rattle.std.proofs.Common.{◌≡◌, [], All, List, map, sym, subst, ap, ◌∙◌}
+use Rattle.std.proofs.Common.{[], All, List, map, sym, subst, ap, ◌∙◌}
 use Rattle.lsm_pins.specs.Known.{Known}
 use Rattle.lsm_slots.specs.Slots.{current_id}
 use Rattle.lsm_state.specs.Held.{Held}
