@@ -4,4 +4,5 @@ pub returns-in-Look-clause-done : goal.returns-in-Look-clause-done
 returns-in-Look-clause-done g c = rw c.in-Look.is c.run_look.ensures.done
 
 pub returns-in-Load-clause-done : goal.returns-in-Load-clause-done
-returns-in-Load-clause-done g c = rw c.in-Load.is c.run_load.ensures.done
+returns-in-Load-clause-done g c =
+    rw c.in-Load.is (λ done. (c.run_load.ensures.done done, c.run_load.ensures.quiet done))
