@@ -8,6 +8,7 @@ pub trait Program: Drop {
     ghost use Rattle.std.specs.Prelude.{◌≡◌, List};
     ghost use Rattle.lsm_batch.specs.declared.write.Write.{Write};
     ghost use Rattle.lsm_codec.specs.Entries.{Entry};
+    ghost use Rattle.lsm_database.specs.Databases.{IsUntold};
 
     /// What it answers.
     type Answer;
@@ -22,9 +23,11 @@ pub trait Program: Drop {
     ghost says: { Self → Type 0 → (before after : List Entry) → Self.Answer
         → Type 0 } = { λ _ _ _ _ _. Unit {0} };
 
-    /// Runs on the database. Workers compact beside until it answers.
+    /// Runs on the database, to whose shelves nothing was told yet. Workers compact beside until it
+    /// answers.
     fn run<D: Database>(self, database: &mut D) -> Self::Answer
         requires ready { D.ready database.old }
+        requires untold { IsUntold (D.seen database.old) }
         requires asks { (ws : List Write) → asks self D.honest (D.seen database.old).known ws
             → D.asks ws }
         requires found { (D.seen database.old).known ≡ D.found.history }

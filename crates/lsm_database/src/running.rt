@@ -5,12 +5,12 @@ ghost use Rattle.std.specs.Prelude.{vec_len};
 ghost use Rattle.lsm_batch.specs.declared.write.Write.{Write};
 ghost use Rattle.lsm_shelf.specs.Stored.{Stored};
 ghost use Rattle.lsm_shelf.specs.Told.{CountedBy, ForkedAtMost, ForkedTimes, GivesForks, NotNamed};
-ghost use Rattle.lsm_shelf.specs.Told.{forks_behind};
+ghost use Rattle.lsm_shelf.specs.Told.{fork_at, forks_behind};
 ghost use Rattle.lsm_store.specs.Workers.{IsWorkersEnd};
 ghost use Rattle.lsm_store.specs.Working.{HaveEndedBeside};
 ghost use Rattle.lsm_opening.specs.Parts.{AreOf, usual};
 ghost use Rattle.lsm_database.specs.Calls.{AnswersRead, AnswersWrite};
-ghost use Rattle.lsm_database.specs.Databases.{seen};
+ghost use Rattle.lsm_database.specs.Databases.{IsUntold, seen};
 ghost use Rattle.lsm_database.specs.Keeping.{HasComeTo, HasSaid};
 ghost use Rattle.lsm_database.specs.Running.{IsRunRefusal, IsUnforked, Runs};
 
@@ -42,6 +42,7 @@ fn cache_over<N: Boarded, S: Shelf>(
     alloc: Global,
     shelf: &mut NamedShelf<N, S>,
 ) -> Result<Cached<N, S>, ShelfFault>
+    ensures fork { IfOk result (λ c. c ≡ fork_at N.place (shelf.old.forks + 1)) }
     ensures just { OnOk result (ForkedTimes 1 shelf.old shelf.new) }
     ensures fewer { OnErr result (ForkedAtMost 1 shelf.old shelf.new) }
     ensures cause { IfErr result NotNamed }
@@ -65,6 +66,7 @@ fn run_on_handle<N: Boarded, S: Shelf, A: Asking, R: Wait, P: Program>(
 ) -> P::Answer
     requires asks { (ws : List Write) → P.asks program S.honest handle.memory ws → A.asks ws }
     requires found { handle.memory ≡ A.found.history }
+    requires untold { IsUntold (seen handle.memory handle.shelf handle.blocks) }
     ensures said { HasSaid A.asks A.found (λ es.
         P.says program S.honest handle.entry.memory es result) }
 {
@@ -101,6 +103,7 @@ fn run_in_store<N: Boarded, S: Shelf, A: Asking, R: Threads + Wait + Sync, P: Pr
 ) -> Option<(P::Answer, Vec<WorkerEnd>)>
     requires asks { (ws : List Write) → P.asks program S.honest memory ws → A.asks ws }
     requires found { memory ≡ A.found.history }
+    requires untold { IsUntold (seen memory shelf blocks) }
     ensures said { IfSome result (λ r. HasSaid A.asks A.found (λ es.
         P.says program S.honest memory es r.0)) }
     ensures count { IfSome result (λ r. (vec_len shelves ≤ vec_len r.1)
@@ -118,6 +121,7 @@ fn run_in_store<N: Boarded, S: Shelf, A: Asking, R: Threads + Wait + Sync, P: Pr
         move |background: &Background| -> P::Answer
             requires asks { (ws : List Write) → P.asks program S.honest memory ws → A.asks ws }
             requires found { memory ≡ A.found.history }
+            requires untold { IsUntold (seen memory shelf blocks) }
             ensures { HasSaid A.asks A.found (λ es. P.says program S.honest memory es result) }
         {
             let handle = Handle {

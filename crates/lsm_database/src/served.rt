@@ -3,6 +3,7 @@
 ghost use Rattle.std.specs.Prelude.{◌≡◌, List};
 ghost use Rattle.lsm_batch.specs.declared.write.Write.{Write};
 ghost use Rattle.lsm_database.specs.Calls.{AnswersRead, AnswersWrite};
+ghost use Rattle.lsm_database.specs.Databases.{IsUntold};
 ghost use Rattle.lsm_database.specs.Keeping.{HasSaid};
 
 use crate::batches::{delete_of, put_of};
@@ -103,6 +104,7 @@ pub(crate) fn run_served<
     requires asks { (ws : List Write) → P.asks program I.honest (I.seen inner).known ws
         → I.asks ws }
     requires found { (I.seen inner).known ≡ I.found.history }
+    requires untold { IsUntold (I.seen inner) }
     ensures said { HasSaid I.asks I.found (λ es.
         P.says program I.honest (I.seen inner).known es result) }
 {

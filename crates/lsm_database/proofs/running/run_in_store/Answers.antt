@@ -18,6 +18,7 @@ with_workers-run-requires-clause-body g c κs within =
         (
           c.requires.found,
           (
+            c.requires.untold,
             record {
               owned =
                   bound.send-N.owned;

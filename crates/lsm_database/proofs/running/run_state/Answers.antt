@@ -3,7 +3,7 @@ use Rattle.lsm_codec.specs.Entries.{Entry}
 use Rattle.lsm_state.specs.Held.{Held}
 use Rattle.lsm_store.specs.Compacting.{IsSeated}
 use Rattle.lsm_database.specs.Keeping.{HasComeTo}
-use Rattle.lsm_database.proofs.ForkLaws.{at_most_more, beside_of, counted_then, gives_then, some_then_at_most}
+use Rattle.lsm_database.proofs.ForkLaws.{at_most_more, beside_of, counted_then, gives_then, some_then_at_most, untold_of}
 use Rattle.lsm_database.proofs.KeepingLaws.{come_seated}
 use Rattle.lsm_database.proofs.running.run_state.Goals as goal
 
@@ -22,6 +22,13 @@ run_in_store-run-requires-clause-found g c κs within =
     c.requires.known ∙ ap (λ (h : Held). h.history) (sym c.requires.found)
 
 -- the workers' and the own fork were refused
+-- the program's forks
+pub run_in_store-run-requires-clause-untold : goal.run_in_store-run-requires-clause-untold
+run_in_store-run-requires-clause-untold g c κs within = (
+  untold_of c.in-Ok.shelves.own _ _ c.in-Ok.ensures.own,
+  untold_of c.in-Ok-cache_over.blocks _ _ c.in-Ok-cache_over.ensures.fork,
+)
+
 pub returns-in-Err-clause-refused : goal.returns-in-Err-clause-refused
 returns-in-Err-clause-refused g c = inr (
   c.in-Err.fault,
