@@ -19,31 +19,33 @@ with_workers-run-requires-clause-body g c κs within =
           c.requires.found,
           (
             c.requires.untold,
-            record {
-              owned =
-                  bound.send-N.owned;
-              leaving = λ k x w. quiet_unseen (k (of_param 0)) x w;
-            },
-            record {
-              owned =
-                  bound.send-S.owned;
-              leaving = λ k x w. quiet_unseen (k (of_param 1)) x w;
-            },
-            record {
-              owned =
-                  bound.send-A.owned;
-              leaving = λ k x w. quiet_unseen (k (of_param 2)) x w;
-            },
-            record {
-              owned =
-                  bound.send-S-Receipt.owned;
-              leaving = λ k x w. quiet_unseen (k (of_param 5)) x w;
-            },
-            record { shared = bound.sync-N.shared },
-            record { shared = bound.sync-S.shared },
-            record { shared = bound.sync-A.shared },
-            record { shared = bound.sync-R.shared },
-            record { shared = bound.sync-S-Receipt.shared },
+            (
+              record {
+                owned =
+                    bound.send-N.owned;
+                leaving = λ k x w. quiet_unseen (k (of_param 0)) x w;
+              },
+              record {
+                owned =
+                    bound.send-S.owned;
+                leaving = λ k x w. quiet_unseen (k (of_param 1)) x w;
+              },
+              record {
+                owned =
+                    bound.send-A.owned;
+                leaving = λ k x w. quiet_unseen (k (of_param 2)) x w;
+              },
+              record {
+                owned =
+                    bound.send-S-Receipt.owned;
+                leaving = λ k x w. quiet_unseen (k (of_param 5)) x w;
+              },
+              record { shared = bound.sync-N.shared },
+              record { shared = bound.sync-S.shared },
+              record { shared = bound.sync-A.shared },
+              record { shared = bound.sync-R.shared },
+              record { shared = bound.sync-S-Receipt.shared },
+            ),
           ),
         ),
       );
