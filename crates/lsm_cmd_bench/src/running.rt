@@ -235,7 +235,6 @@ fn store_of<N: Boarded, S: Shelf, O: Origin>(
 }
 
 /// A shelf for each worker and one for batches; and one for the store's readers.
-#[tactic(auto, using(lsm_shelf::proofs::CallerLemmas::forked_then, lsm_shelf::proofs::CallerLemmas::forked_same, lsm_store::proofs::ForkLaws::forked_times, lsm_store::proofs::ForkLaws::forked_at_most))]
 fn shelves_for<N: Boarded, S: Shelf>(
     alloc: Global,
     shelf: &mut NamedShelf<N, S>,

@@ -8,7 +8,7 @@ use Rattle.lsm_shelf.specs.declared.shelf_fault.ShelfFault.TheVariants.{Device, 
 use Rattle.lsm_state.specs.Held.{Held}
 use Rattle.lsm_store.specs.Working.{HaveEndedBeside}
 use Rattle.lsm_store.specs.declared.worker_end.WorkerEnd.{WorkerEnd}
-use Rattle.lsm_store.proofs.ForkLaws.{forking_then}
+use Rattle.lsm_store.proofs.CallerLemmas.{forking_then}
 
 -- some, and then at most so many
 pub some_then_at_most : (n m k : ℕ) (a b c : Told) → k ≡ n + m → ForkedTimes n a b → ForkedAtMost m b c → ForkedAtMost k a c

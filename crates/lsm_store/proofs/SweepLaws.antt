@@ -72,8 +72,8 @@ pub last_lent : (given lent front : List Told) (was is fork : Told) → given �
     → LastForks given lent (Some fork)
 last_lent given lent front was is fork a b c f = record { front = front; was = was; is = is; before = a; behind = b; became = (c, f) }
 
-pub last_refused : (given lent front : List Told) (was is : Told) → given ≡ front ++ was ∷ [] → lent ≡ front ++ is ∷ [] → Becomes was is → LastForks given lent None
-last_refused given lent front was is a b c = inr record { front = front; was = was; is = is; before = a; behind = b; became = c }
+pub unlent : (given lent front : List Told) (was is : Told) → given ≡ front ++ was ∷ [] → lent ≡ front ++ is ∷ [] → Becomes was is → LastForks given lent None
+unlent given lent front was is a b c = inr record { front = front; was = was; is = is; before = a; behind = b; became = c }
 
 -- ---- what follows of sweeps
 

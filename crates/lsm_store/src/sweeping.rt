@@ -130,7 +130,7 @@ pub(crate) fn sweep_on<N: Boarded, S: Shelf, K: Invariant, R: Wait>(
 }
 
 /// A fork of the last shelf; none where there is no shelf, or the fork is refused.
-#[tactic(auto, using(crate::proofs::SweepLaws::none_lent, crate::proofs::SweepLaws::last_lent, crate::proofs::SweepLaws::last_refused))]
+#[tactic(auto, using(crate::proofs::SweepLaws::none_lent, crate::proofs::SweepLaws::last_lent, crate::proofs::SweepLaws::unlent))]
 pub(crate) fn fork_last<N: Boarded, S: Shelf>(
     alloc: Global,
     shelves: &mut Vec<NamedShelf<N, S>>,

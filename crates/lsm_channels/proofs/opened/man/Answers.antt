@@ -2,7 +2,7 @@ use Rattle.std.proofs.Common.{◌≡◌, ◌+◌, ◌*◌, arith, vec_len}
 use Rattle.std.proofs.lemmas.List.Elements.{All-push, All-same}
 use Rattle.lsm_channels.specs.Serving.{IsFresh}
 use Rattle.lsm_shelf.proofs.CallerLemmas.{forked_then}
-use Rattle.lsm_store.proofs.ForkLaws.{forked_times, forking_then}
+use Rattle.lsm_store.proofs.CallerLemmas.{forked_times, forking_then}
 use Rattle.lsm_channels.proofs.ForkLaws.{one_more_session}
 use Rattle.lsm_channels.proofs.opened.man.Goals as goal
 

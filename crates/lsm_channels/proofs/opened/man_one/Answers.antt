@@ -2,7 +2,7 @@ use Rattle.std.proofs.Common.{◌+◌, ap, refl, subst, sym, ◌∙◌}
 use Rattle.lsm_channels.specs.Served.{Served}
 use Rattle.lsm_channels.specs.Serving.{IsFresh}
 use Rattle.lsm_shelf.proofs.CallerLemmas.{forked_same}
-use Rattle.lsm_store.proofs.ForkLaws.{forked_times, forking_more}
+use Rattle.lsm_store.proofs.CallerLemmas.{forked_times, forking_more}
 use Rattle.lsm_channels.proofs.ForkLaws.{fork_next, untold_of}
 use Rattle.lsm_channels.proofs.opened.man_one.Goals as goal
 

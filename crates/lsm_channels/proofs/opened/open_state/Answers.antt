@@ -1,7 +1,7 @@
 use Rattle.std.proofs.Common.{◌+◌, ◌*◌, ap, refl, vec_len, ◌∙◌}
 use Rattle.lsm_shelf.specs.Told.{forks_behind}
 use Rattle.lsm_shelf.proofs.CallerLemmas.{forked_then}
-use Rattle.lsm_store.proofs.ForkLaws.{forked_at_most, forked_times, forking_then}
+use Rattle.lsm_store.proofs.CallerLemmas.{forked_at_most, forked_times, forking_then}
 use Rattle.lsm_channels.proofs.opened.open_state.Goals as goal
 
 pub returns-in_err-shelves-clause-forked : goal.returns-in_err-shelves-clause-forked

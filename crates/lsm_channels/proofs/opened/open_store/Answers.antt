@@ -1,7 +1,7 @@
 use Rattle.std.proofs.Common.{◌*◌, ap, refl, vec_len, ◌∙◌}
 use Rattle.lsm_channels.specs.Serving.{own_forks}
 use Rattle.lsm_shelf.proofs.CallerLemmas.{forked_once, forked_same, forked_then}
-use Rattle.lsm_store.proofs.ForkLaws.{forking_then}
+use Rattle.lsm_store.proofs.CallerLemmas.{forking_then}
 use Rattle.lsm_channels.proofs.opened.open_store.Goals as goal
 
 pub returns-in_err-reading-clause-forked : goal.returns-in_err-reading-clause-forked
