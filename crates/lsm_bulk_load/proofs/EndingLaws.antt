@@ -1,5 +1,6 @@
 -- What is left behind the lines, and why all is not done.
-use Rattle.std.proofs.Common.{◌≡◌, ◌≢◌, ◌==◌, not, true, Bool, ℕ, ◌+◌, List, [], ◌∷◌, ◌++◌, All, refl, sym, ap, ◌∙◌, subst, append_assoc, inl, inr}
+use Rattle.std.proofs.Common.{◌≡◌, ◌≢◌, ◌==◌, not, true, Bool, ℕ, ◌+◌, List, [], ◌∷◌, ◌++◌, All}
+use Rattle.std.proofs.Common.{refl, sym, ap, ◌∙◌, subst, append_assoc, inl, inr}
 use Rattle.std.proofs.lemmas.Bool.{eq-eqb, false≢true}
 use Rattle.std.specs.Prelude.{Result, Ok, Err, IfErr, OnErr, OnOk}
 use Rattle.lsm_codec.specs.Entries.{Entry}
@@ -20,7 +21,8 @@ use Rattle.lsm_store.specs.declared.worker_fault.WorkerFault.{WorkerFault}
 use Rattle.lsm_store.specs.Ends.{IsFaultless, IsFirstFault}
 use Rattle.lsm_bulk_load.specs.Ending.{IsLate, IsLooked, ReservesNone}
 use Rattle.lsm_shelf.specs.Told.{GivesForks}
-use Rattle.lsm_bulk_load.specs.Loading.{HaveEndedWell, HaveWorkedBeside, IsForkedFor, IsLoaded, IsStopped, IsUnloaded, SomeAreIn, SomeAreInToo, StopsBehind}
+use Rattle.lsm_bulk_load.specs.Loading.{HaveEndedWell, HaveWorkedBeside, IsForkedFor, IsLoaded}
+use Rattle.lsm_bulk_load.specs.Loading.{IsStopped, IsUnloaded, SomeAreIn, SomeAreInToo, StopsBehind}
 use Rattle.lsm_bulk_load.specs.Marks.{Marked, marked_in}
 use Rattle.lsm_bulk_load.specs.declared.load_fault.LoadFault.{LoadFault}
 use Rattle.lsm_bulk_load.specs.declared.load_fault.LoadFault.TheVariants.{OutOfMemory, Shelf, Line, Ingest, Other, Worker, Due}
@@ -194,20 +196,29 @@ unbegun {T} Refused Ended keeps old found mark now p (Err e) same held none late
 
 -- ---- who worked
 
-module _ (Honest : Type 0) (Refused : Asked → ShelfFault → Type 0) (keeps : Held → Type 0) (place : Place) (number workers : ℕ) where
+module _ (Honest : Type 0) (Refused : Asked → ShelfFault → Type 0) (keeps : Held → Type 0)
+    (place : Place) (number workers : ℕ) where
   -- the shelves of workers are the next forks
-  pub worked_beside : (shelves : List Told) (ends items : List WorkerEnd) → shelves ≡ forks_behind place number workers → ends ≡ items → HaveEndedBeside Honest Refused keeps shelves items
+  pub worked_beside : (shelves : List Told) (ends items : List WorkerEnd) → shelves
+      ≡ forks_behind place number workers → ends ≡ items
+      → HaveEndedBeside Honest Refused keeps shelves items
       → HaveWorkedBeside Honest Refused keeps place number workers ends
   worked_beside shelves ends items new same ended =
-      subst (λ (ts : List Told). HaveEndedBeside Honest Refused keeps ts ends) new (subst (λ (es : List WorkerEnd). HaveEndedBeside Honest Refused keeps shelves es) (sym same) ended)
+      subst (λ (ts : List Told). HaveEndedBeside Honest Refused keeps ts ends) new
+      (subst (λ (es : List WorkerEnd). HaveEndedBeside Honest Refused keeps shelves es)
+      (sym same) ended)
 
-  pub ended_well : {T : Type 0} (done : Result T LoadFault) (ends : List WorkerEnd) → OnOk done (All IsFaultless ends) → HaveWorkedBeside Honest Refused keeps place number workers ends
+  pub ended_well : {T : Type 0} (done : Result T LoadFault) (ends : List WorkerEnd)
+      → OnOk done (All IsFaultless ends) → HaveWorkedBeside Honest Refused keeps place number
+      workers ends
       → OnOk done (HaveEndedWell (HaveWorkedBeside Honest Refused keeps place number workers))
   ended_well (Ok x) ends none worked = (ends, none, worked)
   ended_well (Err e) ends none worked = tt
 
   -- where no worker began all is not done
-  pub none_well : {T : Type 0} (done loaded : Result T LoadFault) (e : LoadFault) → loaded ≡ Err e → OnOk done (OnErr loaded ⊥) → OnOk done (HaveEndedWell (HaveWorkedBeside Honest Refused keeps place number workers))
+  pub none_well : {T : Type 0} (done loaded : Result T LoadFault) (e : LoadFault) → loaded ≡ Err e
+      → OnOk done (OnErr loaded ⊥)
+      → OnOk done (HaveEndedWell (HaveWorkedBeside Honest Refused keeps place number workers))
   none_well {T} (Ok x) loaded e is none = let here : ⊥ = subst (λ (r : Result T LoadFault). OnErr r ⊥) is none in absurd here
   none_well (Err f) loaded e is none = tt
 
@@ -222,7 +233,9 @@ not_of_forks Other = Unit {0}
 not_of_forks (Worker fault) = Unit {0}
 not_of_forks Due = Unit {0}
 
-stopped_behind : (Refused : Asked → ShelfFault → Type 0) (keeps : Held → Type 0) (old : Pending) (found mark : Marked) (p : Progress) (e : LoadFault) → IsStopped Refused keeps old found mark p e → not_of_forks e
+stopped_behind : (Refused : Asked → ShelfFault → Type 0) (keeps : Held → Type 0) (old : Pending)
+    (found mark : Marked) (p : Progress) (e : LoadFault) → IsStopped Refused keeps old found mark p
+    e → not_of_forks e
 stopped_behind Refused keeps old found mark p (Shelf fault) s = absurd s
 stopped_behind Refused keeps old found mark p OutOfMemory s = tt
 stopped_behind Refused keeps old found mark p (Line fault) s = tt
@@ -231,7 +244,8 @@ stopped_behind Refused keeps old found mark p Other s = tt
 stopped_behind Refused keeps old found mark p (Worker fault) s = tt
 stopped_behind Refused keeps old found mark p Due s = tt
 
-late_behind : {T : Type 0} (mark now : Marked) (loaded : Result T LoadFault) (ends : List WorkerEnd) (e : LoadFault) → IfErr loaded not_of_forks → IsLate mark now loaded ends e → not_of_forks e
+late_behind : {T : Type 0} (mark now : Marked) (loaded : Result T LoadFault) (ends : List WorkerEnd)
+    (e : LoadFault) → IfErr loaded not_of_forks → IsLate mark now loaded ends e → not_of_forks e
 late_behind mark now loaded ends e stopped (inl k) = rw k.0 tt
 late_behind mark now (Err f) ends e stopped (inr k) = rw k.1 stopped
 late_behind mark now (Ok x) ends (Shelf fault) stopped (inr k) = absurd k.1
@@ -242,7 +256,8 @@ late_behind mark now (Ok x) ends Other stopped (inr k) = tt
 late_behind mark now (Ok x) ends (Worker fault) stopped (inr k) = tt
 late_behind mark now (Ok x) ends Due stopped (inr k) = tt
 
-forked_for : (count : ℕ) (e : LoadFault) (old new : Told) → not_of_forks e → GivesForks count old new → IsForkedFor count e old new
+forked_for : (count : ℕ) (e : LoadFault) (old new : Told) → not_of_forks e
+    → GivesForks count old new → IsForkedFor count e old new
 forked_for count (Shelf fault) old new other gives = absurd other
 forked_for count OutOfMemory old new other gives = gives
 forked_for count (Line fault) old new other gives = gives
@@ -251,19 +266,32 @@ forked_for count Other old new other gives = gives
 forked_for count (Worker fault) old new other gives = gives
 forked_for count Due old new other gives = gives
 
-pub forks_given : {T : Type 0} (done : Result T LoadFault) (count : ℕ) (old new : Told) → GivesForks count old new → OnOk done (GivesForks count old new)
+pub forks_given : {T : Type 0} (done : Result T LoadFault) (count : ℕ) (old new : Told)
+    → GivesForks count old new → OnOk done (GivesForks count old new)
 forks_given (Ok x) count old new gives = gives
 forks_given (Err e) count old new gives = tt
 
-pub forks_late : {T : Type 0} (Refused : Asked → ShelfFault → Type 0) (keeps : Held → Type 0) (old : Pending) (found mark now : Marked) (p : Progress) (ends : List WorkerEnd) (loaded done : Result T LoadFault) (count : ℕ) (was is : Told)
-    → IfErr loaded (λ e. IsStopped Refused keeps old found mark p e) → IfErr done (λ e. IsLate mark now loaded ends e) → GivesForks count was is → IfErr done (λ e. IsForkedFor count e was is)
-forks_late Refused keeps old found mark now p ends loaded (Ok x) count was is stopped late gives = tt
-forks_late Refused keeps old found mark now p ends (Ok y) (Err e) count was is stopped late gives = forked_for count e was is (late_behind mark now (Ok y) ends e tt late) gives
-forks_late {T} Refused keeps old found mark now p ends (Err f) (Err e) count was is stopped late gives =
-    forked_for count e was is (late_behind {T = T} mark now (Err f) ends e (stopped_behind Refused keeps old found mark p f stopped) late) gives
+pub forks_late : {T : Type 0} (Refused : Asked → ShelfFault → Type 0) (keeps : Held → Type 0)
+    (old : Pending) (found mark now : Marked) (p : Progress) (ends : List WorkerEnd)
+    (loaded done : Result T LoadFault) (count : ℕ) (was is : Told)
+    → IfErr loaded (λ e. IsStopped Refused keeps old found mark p e)
+    → IfErr done (λ e. IsLate mark now loaded ends e) → GivesForks count was is
+    → IfErr done (λ e. IsForkedFor count e was is)
+forks_late Refused keeps old found mark now p ends loaded (Ok x) count was is stopped late gives =
+    tt
+forks_late Refused keeps old found mark now p ends (Ok y) (Err e) count was is stopped late gives =
+    forked_for count e was is (late_behind mark now (Ok y) ends e tt late) gives
+forks_late {T} Refused keeps old found mark now p ends (Err f) (Err e) count was is stopped late
+    gives =
+    forked_for count e was is
+    (late_behind {T = T} mark now (Err f) ends e
+    (stopped_behind Refused keeps old found mark p f stopped) late) gives
 
 -- no worker began
-pub forks_unused : {T : Type 0} (mark now : Marked) (done : Result T LoadFault) (count : ℕ) (was is : Told) → IfErr done (λ e. IsLate {T = T} mark now (Err OutOfMemory) [] e) → GivesForks count was is
+pub forks_unused : {T : Type 0} (mark now : Marked) (done : Result T LoadFault) (count : ℕ)
+    (was is : Told) → IfErr done (λ e. IsLate {T = T} mark now (Err OutOfMemory) [] e)
+    → GivesForks count was is
     → IfErr done (λ e. IsForkedFor count e was is)
 forks_unused mark now (Ok x) count was is late gives = tt
-forks_unused {T} mark now (Err e) count was is late gives = forked_for count e was is (late_behind {T = T} mark now (Err OutOfMemory) [] e tt late) gives
+forks_unused {T} mark now (Err e) count was is late gives = forked_for count e was is
+    (late_behind {T = T} mark now (Err OutOfMemory) [] e tt late) gives

@@ -94,7 +94,8 @@ even_seated found was is at seated =
     subst (λ (h : Held). IsEven found (marked_in h)) (sym seated.1) (subst (λ (m : Marked). IsEven found m) at (even_first found))
 
 pub kept_seated : (keeps : Held → Type 0) (found : Marked) (was is : Held) → found ≡ marked_in was → ((h : Held) → IsTaken was h → keeps h) → IsSeated was is → IsKeptSince keeps found is
-kept_seated keeps found was is at first seated = (first is (inr seated), even_seated found was is at seated)
+kept_seated keeps found was is at first seated =
+    (first is (inr seated), even_seated found was is at seated)
 
 pub kept_compacting : (Honest : Type 0) (keeps : Held → Type 0) (found : Marked) → IsKeptByCompaction Honest keeps → IsKeptByCompaction Honest (IsKeptSince keeps found)
 kept_compacting Honest keeps found kept was is step k = (kept was is step k.0, omega (arith, k.1, ap length step.found.history, step.found.last))

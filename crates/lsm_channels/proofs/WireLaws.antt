@@ -163,6 +163,8 @@ all_first {X} P xs ys x first all = All-head P x ys (subst (λ (zs : List X). Al
 
 -- ---- forks for them
 
-pub told_for : {W : Type 0} (seen : W → End) (wires : List W) (workers : ℕ) (was is : Told) → ForkedTimes (forks_for (length wires) workers) was is
+pub told_for : {W : Type 0} (seen : W → End) (wires : List W) (workers : ℕ) (was is : Told)
+    → ForkedTimes (forks_for (length wires) workers) was is
     → ForkedTimes (forks_for (length (map seen wires)) workers) was is
-told_for seen wires workers was is p = subst (λ (n : ℕ). ForkedTimes (forks_for n workers) was is) (sym (length-map wires seen)) p
+told_for seen wires workers was is p = subst (λ (n : ℕ). ForkedTimes (forks_for n workers) was is)
+    (sym (length-map wires seen)) p

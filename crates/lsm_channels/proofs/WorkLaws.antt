@@ -15,7 +15,8 @@ use Rattle.lsm_store.specs.declared.picks.Picks.{Picks}
 use Rattle.lsm_store.specs.declared.worker_end.WorkerEnd.{WorkerEnd}
 use Rattle.lsm_store.specs.declared.worker_fault.WorkerFault.{WorkerFault}
 use Rattle.lsm_store.specs.declared.worker_fault.WorkerFault.TheVariants as worker
-use Rattle.lsm_channels.specs.Compacting.{AreWorkedBy, ClearsRange, IsAimed, IsCleared, IsCompactFault}
+use Rattle.lsm_channels.specs.Compacting.{AreWorkedBy, ClearsRange, IsAimed, IsCleared}
+use Rattle.lsm_channels.specs.Compacting.{IsCompactFault}
 use Rattle.lsm_channels.specs.Compacting.{IsLastWorker, IsWorkedBy, StopsRange, StopsWorking, Works}
 
 -- a worker's fault is one by which a compaction is refused
@@ -29,13 +30,18 @@ fault_met Honest e fault end is = of_end Honest e.installed fault (subst (λ (f 
 
 module _ (Honest : Type 0) (Refused : Asked → ShelfFault → Type 0) (keeps : Held → Type 0) (picks : Picks) where
   -- the only worker had the fork
-  pub worked_by : (was is : Told) (p : Place) (given : List Told) (ends : List WorkerEnd) (e : WorkerEnd) → ForkedTimes 1 was is → given ≡ fork_at p (was.forks + 1) ∷ [] → ends ≡ e ∷ []
-      → HaveEnded Honest Refused keeps (given_each picks true given) ends → IsWorkedBy Honest Refused keeps picks e was is
+  pub worked_by : (was is : Told) (p : Place) (given : List Told) (ends : List WorkerEnd)
+      (e : WorkerEnd) → ForkedTimes 1 was is → given ≡ fork_at p (was.forks + 1) ∷ [] → ends
+      ≡ e ∷ []
+      → HaveEnded Honest Refused keeps (given_each picks true given) ends
+      → IsWorkedBy Honest Refused keeps picks e was is
   worked_by was is p given ends e forked new only all = record {
     forked = forked;
     place = p;
-    ended = subst (λ (ts : List Told). HaveEnded Honest Refused keeps (given_each picks true ts) (e ∷ [])) new
-        (subst (λ (es : List WorkerEnd). HaveEnded Honest Refused keeps (given_each picks true given) es) only all);
+    ended = subst (λ (ts : List Told). HaveEnded Honest Refused keeps (given_each picks true ts)
+        (e ∷ [])) new
+        (subst (λ (es : List WorkerEnd). HaveEnded Honest Refused keeps
+        (given_each picks true given) es) only all);
   }
 
   pub one_worked : (was is : Told) (e : WorkerEnd) → e.fault ≡ None → IsWorkedBy Honest Refused keeps picks e was is → AreWorkedBy Honest Refused keeps picks 1 was is

@@ -54,19 +54,22 @@ unfinished Stored Refused Honest board found options e was begun is opened stopp
 -- nothing, or not all, was removed
 pub unswept : (Stored : ℕ → List ℕ → Type 0) (Refused : Asked → ShelfFault → Type 0) (Honest : Type 0) (board : TableId) (found left : Held) (options : CompactOptions)
     (e : CompactFault) (was begun ended is : Told) → IsOpened Honest board found was begun → Works Refused Honest (IsLeftByWorkers Honest found) was.place found options begun ended
-    → Clears (IsLeftByWorkers Honest found) found options.range → IsLeftByWorkers Honest found left → StopsSweeping Refused Honest board left e ended is → StopsCompacting Stored Refused Honest options e was is
-unswept Stored Refused Honest board found left options e was begun ended is opened worked cleared by stops = inr (inr (inl record {
-  board = board;
-  found = found;
-  left = left;
-  begun = begun;
-  opened = opened;
-  ended = ended;
-  worked = worked;
-  cleared = cleared;
-  leaves = leaves Honest found left by;
-  stops = stops;
-}))
+    → Clears (IsLeftByWorkers Honest found) found options.range → IsLeftByWorkers Honest found left
+    → StopsSweeping Refused Honest board left e ended is → StopsCompacting Stored Refused Honest
+    options e was is
+unswept Stored Refused Honest board found left options e was begun ended is opened worked cleared by
+    stops = inr (inr (inl record {
+      board = board;
+      found = found;
+      left = left;
+      begun = begun;
+      opened = opened;
+      ended = ended;
+      worked = worked;
+      cleared = cleared;
+      leaves = leaves Honest found left by;
+      stops = stops;
+    }))
 
 -- all was done
 pub compacts : (Refused : Asked → ShelfFault → Type 0) (Honest : Type 0) (board : TableId) (found left : Held) (options : CompactOptions) (installed : ℕ) (was begun ended read is : Told)

@@ -25,7 +25,8 @@ use Rattle.lsm_cmd_compact.specs.Compacting.{StopsWorking, Works}
 module _ (Refused : Asked → ShelfFault → Type 0) (Honest : Type 0) (keeps : Held → Type 0) (place : Place) (workers : ℕ) (picks : Picks) where
   -- workers ended over new forks
   pub round_of : (was is : Told) (shelves : List Told) (ends : List WorkerEnd)
-      → ForkedTimes workers was is → SameCounts was is → shelves ≡ forks_behind place was.forks workers
+      → ForkedTimes workers was is → SameCounts was is → shelves
+      ≡ forks_behind place was.forks workers
       → length ends ≡ workers → All (λ (e : WorkerEnd). IsWorkersEnd Honest e) ends
       → HaveEnded Honest Refused keeps (given_each picks true shelves) ends
       → IsRound Refused Honest keeps place workers picks ends was is
@@ -35,7 +36,8 @@ module _ (Refused : Asked → ShelfFault → Type 0) (Honest : Type 0) (keeps : 
     ends_are = record {
       count = count;
       each = each;
-      ended = subst (λ (ts : List Told). HaveEnded Honest Refused keeps (given_each picks true ts) ends) new ended;
+      ended = subst (λ (ts : List Told). HaveEnded Honest Refused keeps (given_each picks true ts)
+          ends) new ended;
     };
   }
 
@@ -43,14 +45,17 @@ module _ (Refused : Asked → ShelfFault → Type 0) (Honest : Type 0) (keeps : 
   pub faultless_round : (was is : Told) (ends judged : List WorkerEnd) → judged ≡ ends
       → IsRound Refused Honest keeps place workers picks ends was is → All IsFaultless judged
       → IsFaultlessRound Refused Honest keeps place workers picks was is
-  faultless_round was is ends judged same round none = (ends, subst (λ (es : List WorkerEnd). All IsFaultless es) same none, round)
+  faultless_round was is ends judged same round none =
+      (ends, subst (λ (es : List WorkerEnd). All IsFaultless es) same none, round)
 
   -- or one with this fault
-  pub faulty_round : (was is : Told) (ends judged : List WorkerEnd) (e : CompactFault) (fault : WorkerFault)
+  pub faulty_round : (was is : Told) (ends judged : List WorkerEnd) (e : CompactFault)
+      (fault : WorkerFault)
       → judged ≡ ends → IsRound Refused Honest keeps place workers picks ends was is
       → e ≡ Worker fault → IsFirstFault fault judged
       → IsFaultyRound Refused Honest keeps place workers picks e was is
-  faulty_round was is ends judged e fault same round its first = (fault, its, (ends, subst (λ (es : List WorkerEnd). IsFirstFault fault es) same first, round))
+  faulty_round was is ends judged e fault same round its first =
+      (fault, its, (ends, subst (λ (es : List WorkerEnd). IsFirstFault fault es) same first, round))
 
   -- ---- one more
 

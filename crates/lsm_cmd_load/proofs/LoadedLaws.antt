@@ -22,7 +22,8 @@ use Rattle.lsm_bulk_load.proofs.CallerLemmas.{reserves_still}
 use Rattle.lsm_opening.specs.Compactions.{IsSwept, Refuses}
 use Rattle.lsm_opening.specs.Starting.{IsStarted}
 use Rattle.lsm_opening.specs.declared.prepared.Start.{Start}
-use Rattle.lsm_cmd_load.specs.Loaded.{AreOfLoad, HasComeBy, IsOfLoad, IsToCome, IsUnswept, LoadsAll, LoadsWhole}
+use Rattle.lsm_cmd_load.specs.Loaded.{AreOfLoad, HasComeBy, IsOfLoad, IsToCome, IsUnswept, LoadsAll}
+use Rattle.lsm_cmd_load.specs.Loaded.{LoadsWhole}
 
 -- the lines that are still to come, behind those that were passed over
 pub to_come : (options : LoadOptions) (count : ℕ) (input : Option (List ℕ)) (old new : Pending) → old ≡ record { form = options.ingest.form; last = options.last_line; held = []; left = input }
@@ -52,7 +53,8 @@ pub record Behind (Refused : Asked → ShelfFault → Type 0) (Honest : Type 0) 
   pub same : marked_in left ≡ marked_in loaded
 
 -- what was told beside the lines, where no worker ended early
-pub record Beside (Refused : Asked → ShelfFault → Type 0) (Honest : Type 0) (pending : Pending) (found : Held) (place : Place) (workers : ℕ) (opened is : Told) : Type 0 where
+pub record Beside (Refused : Asked → ShelfFault → Type 0) (Honest : Type 0) (pending : Pending)
+    (found : Held) (place : Place) (workers : ℕ) (opened is : Told) : Type 0 where
   pub forked : GivesForks (workers + 1) opened is
   pub worked : HaveEndedWell (AreOfLoad Refused Honest pending found place opened.forks workers)
   pub own : Told
@@ -62,53 +64,71 @@ some_told : (T : Told → Type 0) (own : Option Told) → IsSome own → IfSome 
 some_told T (Some t) some told = (t, told)
 some_told T None some told = absurd (false≢true some)
 
-pub beside : (Refused : Asked → ShelfFault → Type 0) (Honest : Type 0) (pending : Pending) (found : Held) (here place : Place) (workers : ℕ) (own : Option Told) (opened is : Told) → here ≡ place → GivesForks (workers + 1) opened is
-    → HaveEndedWell (AreOfLoad Refused Honest pending found place opened.forks workers) → IsSome own → IfSome own (IsOfLoad Refused Honest pending found place (opened.forks + workers + 1))
+pub beside : (Refused : Asked → ShelfFault → Type 0) (Honest : Type 0) (pending : Pending)
+    (found : Held) (here place : Place) (workers : ℕ) (own : Option Told) (opened is : Told) → here
+    ≡ place → GivesForks (workers + 1) opened is
+    → HaveEndedWell (AreOfLoad Refused Honest pending found place opened.forks workers) → IsSome own
+    → IfSome own (IsOfLoad Refused Honest pending found place (opened.forks + workers + 1))
     → Beside Refused Honest pending found here workers opened is
 beside Refused Honest pending found here place workers own opened is at forked worked some told =
-    let its = some_told (IsOfLoad Refused Honest pending found place (opened.forks + workers + 1)) own some told in
-    subst (λ (p : Place). Beside Refused Honest pending found p workers opened is) (sym at) (record { forked = forked; worked = worked; own = its.0; told = its.1 })
+    let its = some_told (IsOfLoad Refused Honest pending found place (opened.forks + workers + 1))
+    own some told in
+    subst (λ (p : Place). Beside Refused Honest pending found p workers opened is) (sym at)
+    (record { forked = forked; worked = worked; own = its.0; told = its.1 })
 
 pub loads_all : (Refused : Asked → ShelfFault → Type 0) (Honest : Type 0) (start : Start) (logs : List FolderFile) (workers : ℕ) (pending : Pending) (p : Progress) (found loaded left : Held) (was opened is : Told)
-    → IsStarted Honest start logs found was opened → IsLoaded pending (marked_in found) (marked_in loaded) p → Behind Refused Honest pending found loaded left → Beside Refused Honest pending found was.place workers opened is
+    → IsStarted Honest start logs found was opened → IsLoaded pending (marked_in found)
+    (marked_in loaded) p → Behind Refused Honest pending found loaded left
+    → Beside Refused Honest pending found was.place workers opened is
     → LoadsAll Refused Honest start logs workers pending p left was is
-loads_all Refused Honest start logs workers pending p found loaded left was opened is started all behind told = record {
-  found = found;
-  mid = opened;
-  started = started;
-  behind = behind.behind;
-  come = behind.come;
-  looked = subst (λ (s : Slotted). Looked s left.slots) (ap (λ (h : Held). h.slots) behind.judged) behind.looked;
-  rest = both_rest behind.behind loaded left behind.judged behind.rest;
-  none = reserves_still behind.behind loaded left behind.none behind.rest;
-  loaded = subst (λ (m : Marked). IsLoaded pending (marked_in found) m p) (sym behind.same) all;
-  idle = behind.idle;
-  forked = told.forked;
-  worked = told.worked;
-  own = told.own;
-  told = told.told;
-}
+loads_all Refused Honest start logs workers pending p found loaded left was opened is started all
+    behind told = record {
+      found = found;
+      mid = opened;
+      started = started;
+      behind = behind.behind;
+      come = behind.come;
+      looked = subst (λ (s : Slotted). Looked s left.slots)
+          (ap (λ (h : Held). h.slots) behind.judged) behind.looked;
+      rest = both_rest behind.behind loaded left behind.judged behind.rest;
+      none = reserves_still behind.behind loaded left behind.none behind.rest;
+      loaded = subst (λ (m : Marked). IsLoaded pending (marked_in found) m p) (sym behind.same) all;
+      idle = behind.idle;
+      forked = told.forked;
+      worked = told.worked;
+      own = told.own;
+      told = told.told;
+    }
 
 pub loads_whole : (Refused : Asked → ShelfFault → Type 0) (Honest : Type 0) (start : Start) (logs : List FolderFile) (workers : ℕ) (pending : Pending) (p : Progress) (board : TableId) (found loaded left : Held) (was opened mid is : Told)
-    → IsStarted Honest start logs found was opened → IsLoaded pending (marked_in found) (marked_in loaded) p → Behind Refused Honest pending found loaded left → Beside Refused Honest pending found was.place workers opened mid
-    → IsSwept Honest board left mid is → LoadsWhole Refused Honest start logs workers pending p was is
-loads_whole Refused Honest start logs workers pending p board found loaded left was opened mid is started all behind told swept = record {
-  left = left;
-  mid = mid;
-  loads = loads_all Refused Honest start logs workers pending p found loaded left was opened mid started all behind told;
-  board = board;
-  swept = swept;
-}
+    → IsStarted Honest start logs found was opened → IsLoaded pending (marked_in found)
+    (marked_in loaded) p → Behind Refused Honest pending found loaded left
+    → Beside Refused Honest pending found was.place workers opened mid
+    → IsSwept Honest board left mid is → LoadsWhole Refused Honest start logs workers pending p was
+    is
+loads_whole Refused Honest start logs workers pending p board found loaded left was opened mid is
+    started all behind told swept = record {
+      left = left;
+      mid = mid;
+      loads = loads_all Refused Honest start logs workers pending p found loaded left was opened mid
+          started all behind told;
+      board = board;
+      swept = swept;
+    }
 
 pub unswept : (Refused : Asked → ShelfFault → Type 0) (Honest : Type 0) (start : Start) (logs : List FolderFile) (workers : ℕ) (pending : Pending) (p : Progress) (fault : StateFault) (board : TableId)
     (found loaded left : Held) (was opened mid is : Told) → IsStarted Honest start logs found was opened → IsLoaded pending (marked_in found) (marked_in loaded) p
-    → Behind Refused Honest pending found loaded left → Beside Refused Honest pending found was.place workers opened mid
-    → Refuses Refused Honest board left fault mid is → IsUnswept Refused Honest start logs workers pending fault was is
-unswept Refused Honest start logs workers pending p fault board found loaded left was opened mid is started all behind told refuses = record {
-  p = p;
-  left = left;
-  mid = mid;
-  loads = loads_all Refused Honest start logs workers pending p found loaded left was opened mid started all behind told;
-  board = board;
-  refuses = refuses;
-}
+    → Behind Refused Honest pending found loaded left
+    → Beside Refused Honest pending found was.place workers opened mid
+    → Refuses Refused Honest board left fault mid is → IsUnswept Refused Honest start logs workers
+    pending fault was is
+unswept Refused Honest start logs workers pending p fault board found loaded left was opened mid is
+    started all behind told refuses = record {
+      p = p;
+      left = left;
+      mid = mid;
+      loads = loads_all Refused Honest start logs workers pending p found loaded left was opened mid
+          started all behind told;
+      board = board;
+      refuses = refuses;
+    }

@@ -1,5 +1,6 @@
 -- A conversation beside workers.
-use Rattle.std.proofs.Common.{◌≡◌, ◌≤◌, ◌+◌, ℕ, Bool, List, All, length, Option, None, IfErr, OnOk, sym, subst, inr}
+use Rattle.std.proofs.Common.{◌≡◌, ◌≤◌, ◌+◌, ℕ, Bool, List, All, length, Option, None, IfErr, OnOk}
+use Rattle.std.proofs.Common.{sym, subst, inr}
 use Rattle.std.specs.Prelude.{Result, Ok, Err}
 use Rattle.lsm_codec.specs.Entries.{Entry}
 use Rattle.lsm_shelf.specs.Asked.{Asked}
@@ -21,7 +22,8 @@ use Rattle.lsm_bulk_load.specs.Loading.{HaveWorkedBeside}
 use Rattle.lsm_opening.specs.Starting.{IsStarted}
 use Rattle.lsm_opening.specs.declared.prepared.Start.{Start}
 use Rattle.lsm_cmd_shell.specs.Beside.{IsLent, IsTalkedBeside, waiting}
-use Rattle.lsm_cmd_shell.specs.Conversing.{ConversesBeside, IsBesideFault, IsConversedBeside, IsOfEnds}
+use Rattle.lsm_cmd_shell.specs.Conversing.{ConversesBeside, IsBesideFault, IsConversedBeside}
+use Rattle.lsm_cmd_shell.specs.Conversing.{IsOfEnds}
 use Rattle.lsm_cmd_shell.specs.Keeping.{HasComeTo}
 use Rattle.lsm_cmd_shell.specs.declared.shell_fault.ShellFault.{ShellFault}
 use Rattle.lsm_cmd_shell.specs.declared.talk_fault.TalkFault.{TalkFault}
@@ -31,32 +33,50 @@ pub lent : (honest : Type 0) (known : List Entry) (h k : Held) → k ≡ h → I
 lent honest known h k same later reads = record { later = later; reads = subst (λ (x : Held). honest → ReadsAs (plain x) x.history) same reads }
 
 -- the shelves of workers are the next forks
-pub worked_beside : (honest : Type 0) (Refused : Asked → ShelfFault → Type 0) (keeps : Held → Type 0) (place : Place) (number workers : ℕ) (shelves : List Told) (ends : List WorkerEnd) → shelves ≡ forks_behind place number workers
-    → HaveEndedBeside honest Refused keeps shelves ends → HaveWorkedBeside honest Refused keeps place number workers ends
-worked_beside honest Refused keeps place number workers shelves ends new ended = subst (λ (ts : List Told). HaveEndedBeside honest Refused keeps ts ends) new ended
+pub worked_beside : (honest : Type 0) (Refused : Asked → ShelfFault → Type 0)
+    (keeps : Held → Type 0) (place : Place) (number workers : ℕ) (shelves : List Told)
+    (ends : List WorkerEnd) → shelves ≡ forks_behind place number workers
+    → HaveEndedBeside honest Refused keeps shelves ends → HaveWorkedBeside honest Refused keeps
+    place number workers ends
+worked_beside honest Refused keeps place number workers shelves ends new ended =
+    subst (λ (ts : List Told). HaveEndedBeside honest Refused keeps ts ends) new ended
 
 pub conversed : (Refused : Asked → ShelfFault → Type 0) (honest : Type 0) (start : Start) (logs : List FolderFile) (form : Form) (bails : Bool) (workers : ℕ) (input : Option (List ℕ)) (r : Result (Unit {0}) TalkFault) (ends items : List WorkerEnd)
-    (was mid is own : Told) (old : Option (List ℕ)) (state left : Held) (desk : OnDesk) (place : Place) → was.place ≡ place → IsStarted honest start logs state was mid → GivesForks (workers + 1) mid is → desk ≡ clear
-    → IsTalkedBeside honest (HasComeTo honest form input state) form bails input r (waiting state.history (fork_at place (mid.forks + workers + 1)) desk None) own old → ∥ HasComeTo honest form input state left ∥₁ → ends ≡ items → (workers ≤ length ends) × (length ends ≤ workers + 1)
-    → All (IsWorkersEnd honest) items → HaveWorkedBeside honest Refused (HasComeTo honest form input state) place mid.forks workers items
+    (was mid is own : Told) (old : Option (List ℕ)) (state left : Held) (desk : OnDesk)
+    (place : Place) → was.place ≡ place → IsStarted honest start logs state was mid
+    → GivesForks (workers + 1) mid is → desk ≡ clear
+    → IsTalkedBeside honest (HasComeTo honest form input state) form bails input r
+    (waiting state.history (fork_at place (mid.forks + workers + 1)) desk None) own old
+    → ∥ HasComeTo honest form input state left ∥₁ → ends ≡ items → (workers ≤ length ends)
+    × (length ends ≤ workers + 1)
+    → All (IsWorkersEnd honest) items → HaveWorkedBeside honest Refused
+    (HasComeTo honest form input state) place mid.forks workers items
     → ConversesBeside Refused honest start logs form bails workers input r ends was is old
-conversed Refused honest start logs form bails workers input r ends items was mid is own old state left desk place here started forked desk_is talk come same count each worked = record {
-  state = state;
-  mid = mid;
-  started = started;
-  forked = forked;
-  own = own;
-  talk =
-      subst (λ (p : Place). IsTalkedBeside honest (HasComeTo honest form input state) form bails input r (waiting state.history (fork_at p (mid.forks + workers + 1)) clear None) own old) (sym here)
-      (subst (λ (d : OnDesk). IsTalkedBeside honest (HasComeTo honest form input state) form bails input r (waiting state.history (fork_at place (mid.forks + workers + 1)) d None) own old) desk_is talk);
-  left = left;
-  come = come;
-  count = count;
-  each = subst (λ (es : List WorkerEnd). All (IsWorkersEnd honest) es) (sym same) each;
-  worked =
-      subst (λ (p : Place). HaveWorkedBeside honest Refused (HasComeTo honest form input state) p mid.forks workers ends) (sym here)
-      (subst (λ (es : List WorkerEnd). HaveWorkedBeside honest Refused (HasComeTo honest form input state) place mid.forks workers es) (sym same) worked);
-}
+conversed Refused honest start logs form bails workers input r ends items was mid is own old state
+    left desk place here started forked desk_is talk come same count each worked = record {
+      state = state;
+      mid = mid;
+      started = started;
+      forked = forked;
+      own = own;
+      talk =
+          subst (λ (p : Place). IsTalkedBeside honest (HasComeTo honest form input state) form bails
+          input r (waiting state.history (fork_at p (mid.forks + workers + 1)) clear None) own old)
+          (sym here)
+          (subst
+          (λ (d : OnDesk). IsTalkedBeside honest (HasComeTo honest form input state) form bails
+          input r (waiting state.history (fork_at place (mid.forks + workers + 1)) d None) own old)
+          desk_is talk);
+      left = left;
+      come = come;
+      count = count;
+      each = subst (λ (es : List WorkerEnd). All (IsWorkersEnd honest) es) (sym same) each;
+      worked =
+          subst (λ (p : Place). HaveWorkedBeside honest Refused
+          (HasComeTo honest form input state) p mid.forks workers ends) (sym here)
+          (subst (λ (es : List WorkerEnd). HaveWorkedBeside honest Refused
+          (HasComeTo honest form input state) place mid.forks workers es) (sym same) worked);
+    }
 
 -- how that is judged
 pub judged_done : (Refused : Asked → ShelfFault → Type 0) (honest : Type 0) (start : Start) (logs : List FolderFile) (form : Form) (bails : Bool) (workers : ℕ) (input : Option (List ℕ)) (r : Result (Unit {0}) TalkFault) (ends : List WorkerEnd) (was is : Told)

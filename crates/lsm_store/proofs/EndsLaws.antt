@@ -9,7 +9,8 @@ use Rattle.lsm_store.specs.Ends.{IsFaultless, IsFirstFault}
 split_at : (ends : List WorkerEnd) (i : ℕ) (d : WorkerEnd) → i < length ends → ends ≡ take i ends ++ get_or ends i d ∷ drop (i + 1) ends
 split_at ends i d lt = sym (take-append-drop i ends) ∙ ap (λ (es : List WorkerEnd). take i ends ++ es) (drop_more ends i d lt)
 
-pub first_fault : (ends : List WorkerEnd) (i : ℕ) (d : WorkerEnd) (fault : WorkerFault) → i < length ends → All IsFaultless (take i ends)
+pub first_fault : (ends : List WorkerEnd) (i : ℕ) (d : WorkerEnd) (fault : WorkerFault)
+    → i < length ends → All IsFaultless (take i ends)
     → (get_or ends i d).fault ≡ Some fault → IsFirstFault fault ends
 first_fault ends i d fault lt before its = record {
   front = take i ends;

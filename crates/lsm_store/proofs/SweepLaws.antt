@@ -1,5 +1,6 @@
 -- What is left of a sweep.
-use Rattle.std.proofs.Common.{◌≡◌, ℕ, zero, suc, ◌+◌, ◌<◌, Bool, true, false, List, [], ◌∷◌, ◌++◌, get_or, length, take, refl, sym, ap, ◌∙◌, subst, inl, inr, arith, ◌⊎◌}
+use Rattle.std.proofs.Common.{◌≡◌, ℕ, zero, suc, ◌+◌, ◌<◌, Bool, true, false, List, [], ◌∷◌, ◌++◌}
+use Rattle.std.proofs.Common.{get_or, length, take, refl, sym, ap, ◌∙◌, subst, inl, inr, arith, ◌⊎◌}
 use Rattle.std.specs.Prelude.{Err, None, Some}
 use Rattle.std.proofs.lemmas.List.{append_assoc, take_more}
 use Rattle.lsm_codec.proofs.CallerLemmas.{has_cases}
@@ -7,12 +8,14 @@ use Rattle.lsm_shelf.specs.Asked.{Asked, ListTables, Remove}
 use Rattle.lsm_shelf.specs.Told.{Told, Becomes, forking, listing, next_fork, removed_by, removing}
 use Rattle.lsm_shelf.specs.declared.shelf_fault.ShelfFault.{ShelfFault}
 use Rattle.lsm_shelf.specs.declared.shelf_fault.ShelfFault.TheVariants as why
-use Rattle.lsm_state.specs.Collecting.{HasLookedAround, IsKeptNumber, IsRemoveRefusal, IsRemovedOrKept}
+use Rattle.lsm_state.specs.Collecting.{HasLookedAround, IsKeptNumber, IsRemoveRefusal}
+use Rattle.lsm_state.specs.Collecting.{IsRemovedOrKept}
 use Rattle.lsm_state.specs.Held.{Held, plain}
 use Rattle.lsm_state.specs.declared.state_fault.StateFault.{StateFault}
 use Rattle.lsm_state.specs.declared.state_fault.StateFault.TheVariants.{OutOfMemory, Shelf, Read, BadLevel, EmptyBatch, KeyOrder, TooLarge, LevelZeroFull, SequencesSpent, Halted, UnknownSnapshot, Conflict, UnknownTicket, NumbersSpent, Stale, SlotsHeld, VersionsSpent, PinsSpent}
 use Rattle.lsm_store.specs.Compacting.{IsCompactingStep}
-use Rattle.lsm_store.specs.Sweeping.{HasSwept, IsSwept, IsSweptOften, IsUnkeptRemoval, LastForks, Leaves, OnlyRemoves, Removes, RemovesEach, TriesToRemove}
+use Rattle.lsm_store.specs.Sweeping.{HasSwept, IsSwept, IsSweptOften, IsUnkeptRemoval, LastForks}
+use Rattle.lsm_store.specs.Sweeping.{Leaves, OnlyRemoves, Removes, RemovesEach, TriesToRemove}
 use Rattle.lsm_store.proofs.CompactingLaws.{adds_looked, found_looked, step_none}
 
 -- ---- looks under the lock
@@ -68,12 +71,22 @@ swept_more Refused keeps was mid is before one = (suc before.0, (mid, before.1, 
 pub none_lent : (given lent : List Told) → given ≡ [] → lent ≡ [] → LastForks given lent None
 none_lent given lent a b = inl (a, b)
 
-pub last_lent : (given lent front : List Told) (was is fork : Told) → given ≡ front ++ was ∷ [] → lent ≡ front ++ is ∷ [] → Becomes (forking 1 was) is → fork ≡ next_fork was
+pub last_lent : (given lent front : List Told) (was is fork : Told) → given ≡ front ++ was ∷ []
+    → lent ≡ front ++ is ∷ [] → Becomes (forking 1 was) is → fork ≡ next_fork was
     → LastForks given lent (Some fork)
-last_lent given lent front was is fork a b c f = record { front = front; was = was; is = is; before = a; behind = b; became = (c, f) }
+last_lent given lent front was is fork a b c f =
+    record { front = front; was = was; is = is; before = a; behind = b; became = (c, f) }
 
-pub unlent : (given lent front : List Told) (was is : Told) → given ≡ front ++ was ∷ [] → lent ≡ front ++ is ∷ [] → Becomes was is → LastForks given lent None
-unlent given lent front was is a b c = inr record { front = front; was = was; is = is; before = a; behind = b; became = c }
+pub unlent : (given lent front : List Told) (was is : Told) → given ≡ front ++ was ∷ [] → lent
+    ≡ front ++ is ∷ [] → Becomes was is → LastForks given lent None
+unlent given lent front was is a b c = inr record {
+  front = front;
+  was = was;
+  is = is;
+  before = a;
+  behind = b;
+  became = c;
+}
 
 -- ---- what follows of sweeps
 

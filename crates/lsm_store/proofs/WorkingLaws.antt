@@ -26,7 +26,8 @@ use Rattle.lsm_journal.specs.Difference.{Difference, changed_by}
 use Rattle.lsm_journal.specs.Sending.{Sends}
 use Rattle.lsm_version.specs.Versions.{Levels}
 use Rattle.lsm_state.specs.Changing.{IsChangeRefusal, IsSlotRefusal}
-use Rattle.lsm_state.specs.Gathering.{Gathers, IsGatherRefusal, IsGatherRefusedAtOnce, IsRefusedIn, gathered}
+use Rattle.lsm_state.specs.Gathering.{Gathers, IsGatherRefusal, IsGatherRefusedAtOnce, IsRefusedIn}
+use Rattle.lsm_state.specs.Gathering.{gathered}
 use Rattle.lsm_state.specs.Held.{Held}
 use Rattle.lsm_state.specs.Ingesting.{with_number}
 use Rattle.lsm_state.specs.Options.{sizes_of}
@@ -38,7 +39,11 @@ use Rattle.lsm_state.specs.declared.state_fault.StateFault.TheVariants as state
 use Rattle.lsm_store.specs.Picking.{IsPickedUnder}
 use Rattle.lsm_store.specs.WorkerFault.{of_gather}
 use Rattle.lsm_store.specs.Workers.{IsOfInstalling, IsOfReserving, IsOfTurn}
-use Rattle.lsm_store.specs.Working.{AreReturned, Given, IsCompaction, IsCounted, IsCountedIf, IsDone, IsWorked, given_one, IsLast, IsLook, IsLookRefused, IsPutOrSent, IsRefusedBy, IsReturned, IsStoppedBy, IsTaken, IsTurn, IsUndone, LooksUnder, OnlyPutsAndSends, Turns, compactions, given_each}
+use Rattle.lsm_store.specs.Working.{AreReturned, Given, IsCompaction, IsCounted, IsCountedIf}
+use Rattle.lsm_store.specs.Working.{IsDone, IsWorked, given_one, IsLast, IsLook, IsLookRefused}
+use Rattle.lsm_store.specs.Working.{IsPutOrSent, IsRefusedBy, IsReturned, IsStoppedBy, IsTaken}
+use Rattle.lsm_store.specs.Working.{IsTurn, IsUndone, LooksUnder, OnlyPutsAndSends, Turns}
+use Rattle.lsm_store.specs.Working.{compactions, given_each}
 use Rattle.lsm_store.specs.declared.look.Look.{Look}
 use Rattle.lsm_store.specs.declared.look.Look.TheVariants as look
 use Rattle.lsm_store.specs.declared.picks.Picks.{Picks}

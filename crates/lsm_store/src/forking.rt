@@ -41,8 +41,8 @@ pub struct Shelves<N: Boarded, S: Shelf> {
 }
 
 impl<N: Boarded, S: Shelf> Shelves<N, S> {
-    /// The next forks of a shelf, those of so many workers first, and no more. Nothing else is asked
-    /// of it, and once one is refused, no other.
+    /// The next forks of a shelf, those of so many workers first, and no more. Nothing else is
+    /// asked of it, and once one is refused, no other.
     pub fn of(
         alloc: Global,
         shelf: &mut NamedShelf<N, S>,

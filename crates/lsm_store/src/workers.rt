@@ -286,8 +286,9 @@ pub fn run_workers_returning<
 }
 
 /// As `run_workers_returning`, but each worker takes what is picked (`Picks`), and the shelves are
-/// let go. Workers that compact a range end where no file of it is left at its levels, or all that is
-/// left waits for a live job; a deletion with nothing below it goes, but where a snapshot needs it.
+/// let go. Workers that compact a range end where no file of it is left at its levels, or all that
+/// is left waits for a live job; a deletion with nothing below it goes, but where a snapshot needs
+/// it.
 pub fn run_workers_by<N: Boarded, S: Shelf, K: Invariant, G: Gate + Sync, R: Threads + Wait + Sync>(
     rt: &R,
     alloc: Global,

@@ -67,7 +67,8 @@ left_unchanged Honest found left l = record {
   reads = l.as_found.answers;
 }
 
-pub left_so : (Honest : Type 0) (found h : Held) → ((found h : Held) → ∥ IsLeftByWorkers Honest found h ∥₁ → IsLeftByWorkers Honest found h)
+pub left_so : (Honest : Type 0) (found h : Held)
+    → ((found h : Held) → ∥ IsLeftByWorkers Honest found h ∥₁ → IsLeftByWorkers Honest found h)
     → ∥ IsLeftByWorkers Honest found h ∥₁ → IsUnchanged Honest found h
 left_so Honest found h out kept = left_unchanged Honest found h (out found h kept)
 

@@ -19,16 +19,22 @@ returns-in-Some-clause-stopped g c =
     inl (
       c.end_of.result,
       c.in-Some.is,
-      worked_by g.S.Shelf.honest (g.S.Shelf.refuses g.N.Naming.place) g.K.Invariant.keeps c.args.picks.now _ _ g.N.Naming.place _ _ c.end_of.result c.in-Ok.ensures.ok c.in-Ok.ensures.new c.end_of.ensures
+      worked_by g.S.Shelf.honest (g.S.Shelf.refuses g.N.Naming.place) g.K.Invariant.keeps
+          c.args.picks.now _ _ g.N.Naming.place _ _ c.end_of.result c.in-Ok.ensures.ok
+          c.in-Ok.ensures.new c.end_of.ensures
           c.in-Ok-compact.ensures.ended,
     )
 
 pub returns-in-Some-clause-refused : goal.returns-in-Some-clause-refused
 returns-in-Some-clause-refused g c =
-    fault_met g.S.Shelf.honest c.end_of.result c.in-Some.fault (all_first (IsWorkersEnd g.S.Shelf.honest) _ _ _ c.end_of.ensures c.in-Ok-compact.ensures.ends) c.in-Some.is
+    fault_met g.S.Shelf.honest c.end_of.result c.in-Some.fault
+    (all_first (IsWorkersEnd g.S.Shelf.honest) _ _ _ c.end_of.ensures
+    c.in-Ok-compact.ensures.ends) c.in-Some.is
 
 pub returns-in-None-clause-worked : goal.returns-in-None-clause-worked
 returns-in-None-clause-worked g c =
     one_worked g.S.Shelf.honest (g.S.Shelf.refuses g.N.Naming.place) g.K.Invariant.keeps c.args.picks.now _ _ c.end_of.result c.in-None.is
-    (worked_by g.S.Shelf.honest (g.S.Shelf.refuses g.N.Naming.place) g.K.Invariant.keeps c.args.picks.now _ _ g.N.Naming.place _ _ c.end_of.result c.in-Ok.ensures.ok c.in-Ok.ensures.new c.end_of.ensures
+    (worked_by g.S.Shelf.honest (g.S.Shelf.refuses g.N.Naming.place) g.K.Invariant.keeps
+    c.args.picks.now _ _ g.N.Naming.place _ _ c.end_of.result c.in-Ok.ensures.ok
+    c.in-Ok.ensures.new c.end_of.ensures
     c.in-Ok-compact.ensures.ended)

@@ -13,13 +13,21 @@ loop-reader-preserved g c =
     let more : 2 * vec_len c.push.new.self ≡ 2 * vec_len c.loop-reader.sessions + 2 = omega arith in
     record {
       fresh = All-same fresh _ _ c.in_ok-push.ensures.items (All-push fresh _ c.in_ok-session.session c.loop-reader.invariant.fresh c.in_ok-session.ensures.fresh);
-      own = one_more_session g.N.Naming.place c.args.shelf.now.forks (vec_len c.loop-reader.sessions) c.loop-reader.shelf.forks (vec_len c.push.new.self) c.loop-reader.sessions.items c.push.new.self.items c.in_ok-session.session
-          c.loop-reader.invariant.own c.in_ok-session.ensures.own c.loop-reader.invariant.told.forks longer c.in_ok-push.ensures.items;
-      told = forking_then (2 * vec_len c.loop-reader.sessions) 2 _ _ _ _ more c.loop-reader.invariant.told c.in_ok-session.ensures.told;
+      own = one_more_session g.N.Naming.place c.args.shelf.now.forks
+          (vec_len c.loop-reader.sessions) c.loop-reader.shelf.forks (vec_len c.push.new.self)
+          c.loop-reader.sessions.items c.push.new.self.items c.in_ok-session.session
+          c.loop-reader.invariant.own c.in_ok-session.ensures.own c.loop-reader.invariant.told.forks
+          longer c.in_ok-push.ensures.items;
+      told = forking_then (2 * vec_len c.loop-reader.sessions) 2 _ _ _ _ more
+          c.loop-reader.invariant.told c.in_ok-session.ensures.told;
     }
 
 pub returns-in_err-session-clause-forked : goal.returns-in_err-session-clause-forked
-returns-in_err-session-clause-forked g c = forked_then _ _ _ (forked_times (2 * vec_len c.loop-reader.sessions) _ _ c.loop-reader.invariant.told) c.man_one.ensures.forked
+returns-in_err-session-clause-forked g c = forked_then _ _ _
+    (forked_times (2 * vec_len c.loop-reader.sessions) _ _ c.loop-reader.invariant.told)
+    c.man_one.ensures.forked
 
 pub returns-in_err-push-clause-forked : goal.returns-in_err-push-clause-forked
-returns-in_err-push-clause-forked g c = forked_then _ _ _ (forked_times (2 * vec_len c.loop-reader.sessions) _ _ c.loop-reader.invariant.told) c.man_one.ensures.forked
+returns-in_err-push-clause-forked g c = forked_then _ _ _
+    (forked_times (2 * vec_len c.loop-reader.sessions) _ _ c.loop-reader.invariant.told)
+    c.man_one.ensures.forked

@@ -8,7 +8,9 @@ use Rattle.lsm_channels.proofs.opened.man_one.Goals as goal
 
 pub new-requires-clause-fork : goal.new-requires-clause-fork
 new-requires-clause-fork g c κs within =
-    fork_next g.N.Naming.place _ _ c.in_ok-own.own c.in_ok-blocks.blocks c.in_ok-own.ensures.fork (c.in_ok-blocks.ensures ∙ c.in_ok-reading.ensures.fork) (ap (λ n. n + 1) c.in_ok-own.ensures.ok.forks)
+    fork_next g.N.Naming.place _ _ c.in_ok-own.own c.in_ok-blocks.blocks c.in_ok-own.ensures.fork
+    (c.in_ok-blocks.ensures ∙ c.in_ok-reading.ensures.fork)
+    (ap (λ n. n + 1) c.in_ok-own.ensures.ok.forks)
 
 pub returns-clause-fresh : goal.returns-clause-fresh
 returns-clause-fresh g c =
@@ -28,7 +30,9 @@ pub returns-in_err-own-clause-forked : goal.returns-in_err-own-clause-forked
 returns-in_err-own-clause-forked g c = forked_same _ _ c.in_err-own.ensures.err
 
 pub returns-in_err-blocks-clause-forked : goal.returns-in_err-blocks-clause-forked
-returns-in_err-blocks-clause-forked g c = forked_times 2 _ _ (forking_more 1 _ _ _ c.in_ok-own.ensures.ok c.in_ok-reading.ensures.ok)
+returns-in_err-blocks-clause-forked g c = forked_times 2 _ _
+    (forking_more 1 _ _ _ c.in_ok-own.ensures.ok c.in_ok-reading.ensures.ok)
 
 pub returns-clause-forked : goal.returns-clause-forked
-returns-clause-forked g c = forked_times 2 _ _ (forking_more 1 _ _ _ c.in_ok-own.ensures.ok c.in_ok-reading.ensures.ok)
+returns-clause-forked g c = forked_times 2 _ _
+    (forking_more 1 _ _ _ c.in_ok-own.ensures.ok c.in_ok-reading.ensures.ok)

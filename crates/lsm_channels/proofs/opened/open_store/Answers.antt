@@ -14,7 +14,11 @@ pub returns-in_ok-sessions-in-Ok-clause-forked : goal.returns-in_ok-sessions-in-
 returns-in_ok-sessions-in-Ok-clause-forked g c = forked_then _ _ _ (forked_once _ _ c.in_ok-reading.ensures.ok) c.in_ok-sessions-in-Ok.ensures.forked
 
 pub returns-in_ok-sessions-in-Ok-clause-own : goal.returns-in_ok-sessions-in-Ok-clause-own
-returns-in_ok-sessions-in-Ok-clause-own g c = c.in_ok-sessions-in-Ok.ensures.own ∙ ap (λ n. own_forks g.N.Naming.place n (vec_len c.in_ok-sessions-in-Ok.sessions)) c.in_ok-reading.ensures.ok.forks
+returns-in_ok-sessions-in-Ok-clause-own g c = c.in_ok-sessions-in-Ok.ensures.own
+    ∙ ap (λ n. own_forks g.N.Naming.place n (vec_len c.in_ok-sessions-in-Ok.sessions))
+    c.in_ok-reading.ensures.ok.forks
 
 pub returns-in_ok-sessions-in-Ok-clause-told : goal.returns-in_ok-sessions-in-Ok-clause-told
-returns-in_ok-sessions-in-Ok-clause-told g c = forking_then 1 (2 * vec_len c.in_ok-sessions-in-Ok.sessions) _ _ _ _ refl c.in_ok-reading.ensures.ok c.in_ok-sessions-in-Ok.ensures.told
+returns-in_ok-sessions-in-Ok-clause-told g c =
+    forking_then 1 (2 * vec_len c.in_ok-sessions-in-Ok.sessions) _ _ _ _ refl
+    c.in_ok-reading.ensures.ok c.in_ok-sessions-in-Ok.ensures.told

@@ -5,7 +5,9 @@ use Rattle.lsm_shelf.specs.Told.{ForkedTimes}
 use Rattle.lsm_channels.proofs.serving.serve_state.Goals as goal
 
 pub returns-in-Ok-serve_opened-clause-told : goal.returns-in-Ok-serve_opened-clause-told
-returns-in-Ok-serve_opened-clause-told g c = subst (λ n. ForkedTimes (forks_for n c.args.workers) c.args.shelf.now c.open_state.new.shelf) c.in-Ok-serve_opened.ensures.each c.in-Ok.ensures.told
+returns-in-Ok-serve_opened-clause-told g c =
+    subst (λ n. ForkedTimes (forks_for n c.args.workers) c.args.shelf.now c.open_state.new.shelf)
+    c.in-Ok-serve_opened.ensures.each c.in-Ok.ensures.told
 
 pub returns-in-Err-serve_opened-clause-fault : goal.returns-in-Err-serve_opened-clause-fault
 returns-in-Err-serve_opened-clause-fault g c = inl c.in-Err-serve_opened.ensures.fault

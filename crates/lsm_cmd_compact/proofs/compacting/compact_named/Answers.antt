@@ -73,7 +73,14 @@ returns-in_err-sweep_all-clause-fault g c =
     let left : IsLeftByWorkers Honest found after = law.looked found c.in_ok-left.left after (law.out found c.in_ok-left.left c.in_ok-left.ensures.kept) c.in_err-sweep_all.ensures.looked c.in_err-sweep_all.ensures.rest in
     let named : IsNamed after c.compact_state.new.shelf c.find_manifest.new.shelf = named_still c.in_ok-left.left after _ _ c.in_err-sweep_all.ensures.rest c.in_ok-find_manifest.ensures.named in
     rw (p.1, p.2) (unswept Stored Refused Honest g.N.Boarded.board found after c.args.options.now _ _ _ _ _ opened worked
-    c.in_ok-left.ensures.cleared left (inr (c.in_err-sweep_all.field-0.0, c.find_manifest.new.shelf, refl, named, c.in_err-sweep_all.ensures.refused)))
+    c.in_ok-left.ensures.cleared left
+    (inr (
+      c.in_err-sweep_all.field-0.0,
+      c.find_manifest.new.shelf,
+      refl,
+      named,
+      c.in_err-sweep_all.ensures.refused,
+    )))
 
 pub returns-in_err-find_manifest-clause-left : goal.returns-in_err-find_manifest-clause-left
 returns-in_err-find_manifest-clause-left g c =

@@ -15,10 +15,13 @@ returns-in_err-judge_ends-clause-refused g c =
     let was = c.args.shelf.now in
     let is = c.forks.new.shelf in
     let ended = c.in-Ok-run_all in
-    let count : length ended.ends.items ≡ workers = ap length (sym c.deref.ensures.value) ∙ c.deref.ensures.len ∙ ended.ensures.len ∙ c.in-Ok.ensures.count in
-    let round = round_of Refused Honest keeps place workers picks was is c.in-Ok.shelves.items ended.ends.items c.in-Ok.ensures.just
+    let count : length ended.ends.items ≡ workers = ap length (sym c.deref.ensures.value)
+    ∙ c.deref.ensures.len ∙ ended.ensures.len ∙ c.in-Ok.ensures.count in
+    let round = round_of Refused Honest keeps place workers picks was is c.in-Ok.shelves.items
+    ended.ends.items c.in-Ok.ensures.just
     c.in-Ok.ensures.counts c.in-Ok.ensures.new count ended.ensures.ends ended.ensures.ended in
-    rw (p.1, p.2) (inr (faulty_round Refused Honest keeps place workers picks was is ended.ends.items c.deref.result.now _ c.in_err-judge_ends.field-0.0
+    rw (p.1, p.2) (inr (faulty_round Refused Honest keeps place workers picks was is
+    ended.ends.items c.deref.result.now _ c.in_err-judge_ends.field-0.0
     c.deref.ensures.value round refl c.in_err-judge_ends.ensures.first))
 
 pub returns-clause-round : goal.returns-clause-round
@@ -32,8 +35,11 @@ returns-clause-round g c =
     let was = c.args.shelf.now in
     let is = c.forks.new.shelf in
     let ended = c.in-Ok-run_all in
-    let count : length ended.ends.items ≡ workers = ap length (sym c.deref.ensures.value) ∙ c.deref.ensures.len ∙ ended.ensures.len ∙ c.in-Ok.ensures.count in
-    let round = round_of Refused Honest keeps place workers picks was is c.in-Ok.shelves.items ended.ends.items c.in-Ok.ensures.just
+    let count : length ended.ends.items ≡ workers = ap length (sym c.deref.ensures.value)
+    ∙ c.deref.ensures.len ∙ ended.ensures.len ∙ c.in-Ok.ensures.count in
+    let round = round_of Refused Honest keeps place workers picks was is c.in-Ok.shelves.items
+    ended.ends.items c.in-Ok.ensures.just
     c.in-Ok.ensures.counts c.in-Ok.ensures.new count ended.ensures.ends ended.ensures.ended in
-    faultless_round Refused Honest keeps place workers picks was is ended.ends.items c.deref.result.now c.deref.ensures.value round
+    faultless_round Refused Honest keeps place workers picks was is ended.ends.items
+    c.deref.result.now c.deref.ensures.value round
     c.in_ok-judge_ends.ensures.faultless

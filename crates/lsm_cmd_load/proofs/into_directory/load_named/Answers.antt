@@ -35,13 +35,17 @@ returns-clause-fault g c = (
     looked = c.load_beside-done.ensures.kept.2;
     none = c.load_beside-done.ensures.kept.3;
     unloaded =
-        subst (λ (at : Place). IsUnloaded (g.S.Shelf.refuses g.N.Naming.place) (AreOfLoad (g.S.Shelf.refuses g.N.Naming.place) g.S.Shelf.honest c.args.lines c.in_ok-state.state at c.start.new.shelf.forks c.args.options.workers)
+        subst (λ (at : Place). IsUnloaded (g.S.Shelf.refuses g.N.Naming.place)
+        (AreOfLoad (g.S.Shelf.refuses g.N.Naming.place) g.S.Shelf.honest c.args.lines
+        c.in_ok-state.state at c.start.new.shelf.forks c.args.options.workers)
         (HasComeBy (g.S.Shelf.refuses g.N.Naming.place) g.S.Shelf.honest c.args.lines c.in_ok-state.state) c.args.lines (marked_in c.in_ok-state.state) (marked_in c.load_beside-done.result.state)
         c.load_beside-done.result.progress c.in-Err.fault) (sym c.requires.shelf) (rw c.in-Err.is at c.load_beside-done.ensures.refused);
     forked = rw c.in-Err.is at c.load_beside-done.ensures.forked;
     own = c.load_beside-done.result.own;
     told =
-        subst (λ (at : Place). IfSome c.load_beside-done.result.own (IsOfLoad (g.S.Shelf.refuses g.N.Naming.place) g.S.Shelf.honest c.args.lines c.in_ok-state.state at (c.start.new.shelf.forks + c.args.options.workers + 1)))
+        subst (λ (at : Place). IfSome c.load_beside-done.result.own
+        (IsOfLoad (g.S.Shelf.refuses g.N.Naming.place) g.S.Shelf.honest c.args.lines
+        c.in_ok-state.state at (c.start.new.shelf.forks + c.args.options.workers + 1)))
         (sym c.requires.shelf) c.load_beside-done.ensures.told;
   },
 )
@@ -51,8 +55,12 @@ returns-in_err-sweep-in-Ok-clause-fault g c =
     let p = err_from_is_err_and c.from_residual-in_err-sweep-in-Ok.result c.from_residual-in_err-sweep-in-Ok.ensures.1 in
     let loaded = rw c.in-Ok.is at c.load_beside-done.ensures.loaded in
     let idle = rw c.in-Ok.is at c.load_beside-done.ensures.idle in
-    let told = beside (g.S.Shelf.refuses g.N.Naming.place) g.S.Shelf.honest c.args.lines c.in_ok-state.state c.args.shelf.now.place g.N.Naming.place c.args.options.workers c.load_beside-done.result.own c.start.new.shelf
-    c.load_beside-done.new.shelf c.requires.shelf (rw c.in-Ok.is at c.load_beside-done.ensures.just) (rw c.in-Ok.is at c.load_beside-done.ensures.worked) (rw c.in-Ok.is at c.load_beside-done.ensures.own)
+    let told = beside (g.S.Shelf.refuses g.N.Naming.place) g.S.Shelf.honest c.args.lines
+    c.in_ok-state.state c.args.shelf.now.place g.N.Naming.place c.args.options.workers
+    c.load_beside-done.result.own c.start.new.shelf
+    c.load_beside-done.new.shelf c.requires.shelf (rw c.in-Ok.is at c.load_beside-done.ensures.just)
+    (rw c.in-Ok.is at c.load_beside-done.ensures.worked)
+    (rw c.in-Ok.is at c.load_beside-done.ensures.own)
     c.load_beside-done.ensures.told in
     rw (p.1, p.2) (unswept (g.S.Shelf.refuses g.N.Naming.place) g.S.Shelf.honest c.args.prepared.now.start c.args.prepared.now.logs.items c.args.options.workers c.args.lines c.load_beside-done.result.progress
     c.in_err-sweep-in-Ok.field-0.0 g.N.Boarded.board c.in_ok-state.state c.load_beside-done.result.state c.sweep.new.state c.args.shelf.now c.start.new.shelf c.load_beside-done.new.shelf
@@ -76,8 +84,12 @@ pub returns-in-Ok-reply-clause-done : goal.returns-in-Ok-reply-clause-done
 returns-in-Ok-reply-clause-done g c =
     let loaded = rw c.in-Ok.is at c.load_beside-done.ensures.loaded in
     let idle = rw c.in-Ok.is at c.load_beside-done.ensures.idle in
-    let told = beside (g.S.Shelf.refuses g.N.Naming.place) g.S.Shelf.honest c.args.lines c.in_ok-state.state c.args.shelf.now.place g.N.Naming.place c.args.options.workers c.load_beside-done.result.own c.start.new.shelf
-    c.load_beside-done.new.shelf c.requires.shelf (rw c.in-Ok.is at c.load_beside-done.ensures.just) (rw c.in-Ok.is at c.load_beside-done.ensures.worked) (rw c.in-Ok.is at c.load_beside-done.ensures.own)
+    let told = beside (g.S.Shelf.refuses g.N.Naming.place) g.S.Shelf.honest c.args.lines
+    c.in_ok-state.state c.args.shelf.now.place g.N.Naming.place c.args.options.workers
+    c.load_beside-done.result.own c.start.new.shelf
+    c.load_beside-done.new.shelf c.requires.shelf (rw c.in-Ok.is at c.load_beside-done.ensures.just)
+    (rw c.in-Ok.is at c.load_beside-done.ensures.worked)
+    (rw c.in-Ok.is at c.load_beside-done.ensures.own)
     c.load_beside-done.ensures.told in (
       c.load_beside-done.result.progress,
       loads_whole (g.S.Shelf.refuses g.N.Naming.place) g.S.Shelf.honest c.args.prepared.now.start c.args.prepared.now.logs.items c.args.options.workers c.args.lines c.load_beside-done.result.progress g.N.Boarded.board c.in_ok-state.state
@@ -99,8 +111,12 @@ pub returns-in-Ok-clause-fault : goal.returns-in-Ok-clause-fault
 returns-in-Ok-clause-fault g c =
     let loaded = rw c.in-Ok.is at c.load_beside-done.ensures.loaded in
     let idle = rw c.in-Ok.is at c.load_beside-done.ensures.idle in
-    let told = beside (g.S.Shelf.refuses g.N.Naming.place) g.S.Shelf.honest c.args.lines c.in_ok-state.state c.args.shelf.now.place g.N.Naming.place c.args.options.workers c.load_beside-done.result.own c.start.new.shelf
-    c.load_beside-done.new.shelf c.requires.shelf (rw c.in-Ok.is at c.load_beside-done.ensures.just) (rw c.in-Ok.is at c.load_beside-done.ensures.worked) (rw c.in-Ok.is at c.load_beside-done.ensures.own)
+    let told = beside (g.S.Shelf.refuses g.N.Naming.place) g.S.Shelf.honest c.args.lines
+    c.in_ok-state.state c.args.shelf.now.place g.N.Naming.place c.args.options.workers
+    c.load_beside-done.result.own c.start.new.shelf
+    c.load_beside-done.new.shelf c.requires.shelf (rw c.in-Ok.is at c.load_beside-done.ensures.just)
+    (rw c.in-Ok.is at c.load_beside-done.ensures.worked)
+    (rw c.in-Ok.is at c.load_beside-done.ensures.own)
     c.load_beside-done.ensures.told in (
       c.load_beside-done.result.progress,
       loads_whole (g.S.Shelf.refuses g.N.Naming.place) g.S.Shelf.honest c.args.prepared.now.start c.args.prepared.now.logs.items c.args.options.workers c.args.lines c.load_beside-done.result.progress g.N.Boarded.board c.in_ok-state.state

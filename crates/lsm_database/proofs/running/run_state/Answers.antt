@@ -3,7 +3,8 @@ use Rattle.lsm_codec.specs.Entries.{Entry}
 use Rattle.lsm_state.specs.Held.{Held}
 use Rattle.lsm_store.specs.Compacting.{IsSeated}
 use Rattle.lsm_database.specs.Keeping.{HasComeTo}
-use Rattle.lsm_database.proofs.ForkLaws.{at_most_more, beside_of, counted_then, gives_then, some_then_at_most, untold_of}
+use Rattle.lsm_database.proofs.ForkLaws.{at_most_more, beside_of, counted_then, gives_then}
+use Rattle.lsm_database.proofs.ForkLaws.{some_then_at_most, untold_of}
 use Rattle.lsm_database.proofs.KeepingLaws.{come_seated}
 use Rattle.lsm_database.proofs.running.run_state.Goals as goal
 
@@ -44,8 +45,10 @@ returns-in-Err-cache_over-clause-refused g c = inr (
   c.of_shelf-in-Err-cache_over.ensures,
   c.in-Err-cache_over.ensures.cause,
   (
-    some_then_at_most _ _ _ _ _ _ (omega arith) c.in-Ok.ensures.just c.in-Err-cache_over.ensures.fewer,
-    counted_then c.in-Err-cache_over.fault _ _ _ c.in-Ok.ensures.counts c.in-Err-cache_over.ensures.counts,
+    some_then_at_most _ _ _ _ _ _ (omega arith) c.in-Ok.ensures.just
+        c.in-Err-cache_over.ensures.fewer,
+    counted_then c.in-Err-cache_over.fault _ _ _ c.in-Ok.ensures.counts
+        c.in-Err-cache_over.ensures.counts,
   ),
 )
 
@@ -64,14 +67,18 @@ pub returns-in-Some-clause-ended : goal.returns-in-Some-clause-ended
 returns-in-Some-clause-ended g c =
     let Refused = g.S.Shelf.refuses g.N.Naming.place in
     let honest = g.S.Shelf.honest in
-    beside_of honest Refused (HasComeTo Refused honest g.A.Asking.asks g.A.Asking.found) c.in-Ok.shelves.shelves.items _ c.in-Some.run'.1.items c.in-Ok.ensures.new c.in-Some.ensures.ended
+    beside_of honest Refused (HasComeTo Refused honest g.A.Asking.asks g.A.Asking.found)
+    c.in-Ok.shelves.shelves.items _ c.in-Some.run'.1.items c.in-Ok.ensures.new
+    c.in-Some.ensures.ended
 
 pub returns-in-Some-clause-just : goal.returns-in-Some-clause-just
 returns-in-Some-clause-just g c =
-    gives_then _ _ _ _ _ _ (omega arith) c.in-Ok.ensures.just c.in-Ok.ensures.counts c.in-Ok-cache_over.ensures.just c.in-Ok-cache_over.ensures.counts
+    gives_then _ _ _ _ _ _ (omega arith) c.in-Ok.ensures.just c.in-Ok.ensures.counts
+    c.in-Ok-cache_over.ensures.just c.in-Ok-cache_over.ensures.counts
 
 pub returns-clause-refused : goal.returns-clause-refused
 returns-clause-refused g c = inl (
   refl,
-  gives_then _ _ _ _ _ _ (omega arith) c.in-Ok.ensures.just c.in-Ok.ensures.counts c.in-Ok-cache_over.ensures.just c.in-Ok-cache_over.ensures.counts,
+  gives_then _ _ _ _ _ _ (omega arith) c.in-Ok.ensures.just c.in-Ok.ensures.counts
+      c.in-Ok-cache_over.ensures.just c.in-Ok-cache_over.ensures.counts,
 )

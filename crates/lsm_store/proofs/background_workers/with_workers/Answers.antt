@@ -14,7 +14,8 @@ returns-in-Ok-with_workers_returning-clause-ends g c =
     let came = c.in-Ok-with_workers_returning in
     let of_each : All IsEnd c.ends_of-ends.result.items = All-same IsEnd _ _ c.ends_of-ends.ensures.ends
     (all_mapped (λ (r : WorkerEnd × Option Told). r.0) IsEnd came.done.1.items came.ensures.ends) in
-    All-same IsEnd _ _ c.with_gathered.ensures.ends (All-append IsEnd _ _ of_each c.with_gathered.ensures.each)
+    All-same IsEnd _ _ c.with_gathered.ensures.ends
+    (All-append IsEnd _ _ of_each c.with_gathered.ensures.each)
 
 pub returns-in-Ok-with_workers_returning-clause-ended : goal.returns-in-Ok-with_workers_returning-clause-ended
 returns-in-Ok-with_workers_returning-clause-ended g c =
@@ -23,6 +24,7 @@ returns-in-Ok-with_workers_returning-clause-ended g c =
       returned = came.done.1.items;
       gathered = came.done.2;
       swept = came.done.3;
-      ends_are = c.with_gathered.ensures.ends ∙ ap (λ (es : List WorkerEnd). es ++ end_of came.done.2) c.ends_of-ends.ensures.ends;
+      ends_are = c.with_gathered.ensures.ends
+          ∙ ap (λ (es : List WorkerEnd). es ++ end_of came.done.2) c.ends_of-ends.ensures.ends;
       are = came.ensures.beside;
     }

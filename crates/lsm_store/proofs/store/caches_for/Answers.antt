@@ -15,7 +15,11 @@ loop-number-preserved g c =
       told = forked_then _ _ _ before.told c.new-in-loop-number.ensures.told;
       same = c.new-in-loop-number.ensures.same ∙ before.same;
       caches = All-same IsAt _ _ c.in_ok-push.ensures.items
-          (All-push IsAt _ c.in_ok-cache.cache before.caches (number, c.in_ok-cache.ensures.cache ∙ ap (λ (h : Held). known_by h place number) before.same));
+          (All-push IsAt _ c.in_ok-cache.cache before.caches (
+            number,
+            c.in_ok-cache.ensures.cache
+                ∙ ap (λ (h : Held). known_by h place number) before.same,
+          ));
       len = c.in_ok-push.ensures.len ∙ ap (λ n. n + 1) before.len;
     }
 

@@ -14,7 +14,8 @@ invariant-loop-pinner g l =
       enough : into_iter_len left ≤ vec_len l.caches;
       room : vec_len l.readers + into_iter_len left ≤ vec_capacity l.readers;
       all : vec_len l.readers + into_iter_len left ≡ vec_len l.fn.pinners;
-      readers : map unnumbered l.readers.items ++ map (seated l.fn.state place) (into_iter_items left) ≡ map (seated l.fn.state place) l.fn.pinners.items;
+      readers : map unnumbered l.readers.items ++ map (seated l.fn.state place)
+          (into_iter_items left) ≡ map (seated l.fn.state place) l.fn.pinners.items;
       same : known_at l.state place ≡ known_at l.fn.state place;
       rest : l.state ≡ record l.fn.state { slots = record l.fn.state.slots { board = l.state.slots.board } };
       others : (p : Known) → seated l.state place p ≡ seated l.fn.state place p;

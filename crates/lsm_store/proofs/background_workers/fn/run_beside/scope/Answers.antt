@@ -13,11 +13,13 @@ returns g c =
     let Refused = g.S.Shelf.refuses g.N.Naming.place in
     let keeps = g.K.Invariant.keeps in
     let lent = c.fork_last-fork.new.shelves.items in
-    let joins = ap (λ (p : Picks). given_each p c.captures.background.now.bell.to_the_end lent) c.requires.joining in
+    let joins = ap (λ (p : Picks). given_each p c.captures.background.now.bell.to_the_end lent)
+    c.requires.joining in
     let stays = ap (λ (b : Bool). given_each Joining b lent) c.requires.bell in
     record {
       answer = (search);
-      len = c.join_all-returned.ensures.len ∙ c.start_all-threads.ensures.len ∙ c.fork_last-fork.ensures.len ∙ c.fork_last-broom.ensures.len;
+      len = c.join_all-returned.ensures.len ∙ c.start_all-threads.ensures.len
+          ∙ c.fork_last-fork.ensures.len ∙ c.fork_last-broom.ensures.len;
       ends = c.join_all-returned.ensures.ends;
       beside = record {
         lent = lent;
@@ -28,10 +30,14 @@ returns g c =
           once = c.fork_last-broom.ensures.lent;
           again = c.fork_last-fork.ensures.lent;
         };
-        each = subst (λ (gs : List Given). AreReturned honest Refused keeps gs c.join_all-returned.result.items) (c.start_all-threads.ensures.given ∙ joins ∙ stays)
+        each = subst (λ (gs : List Given). AreReturned honest Refused keeps gs
+            c.join_all-returned.result.items) (c.start_all-threads.ensures.given ∙ joins ∙ stays)
             c.join_all-returned.ensures.returned;
-        gathers = subst (λ (s : Option Told). HasGathered honest Refused keeps s c.join_gathering-gathered.result) c.start_gathering-gatherer.ensures.given c.join_gathering-gathered.ensures.returned;
-        sweeps = subst (λ (s : Option Told). IsBroughtBack Refused keeps s c.join.result) c.start-sweeper.ensures.given c.join.ensures;
+        gathers = subst (λ (s : Option Told). HasGathered honest Refused keeps s
+            c.join_gathering-gathered.result) c.start_gathering-gatherer.ensures.given
+            c.join_gathering-gathered.ensures.returned;
+        sweeps = subst (λ (s : Option Told). IsBroughtBack Refused keeps s c.join.result)
+            c.start-sweeper.ensures.given c.join.ensures;
       };
       gathered = c.join_gathering-gathered.ensures.end;
       back = tt;
