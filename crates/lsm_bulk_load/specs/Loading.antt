@@ -72,8 +72,8 @@ pub record TakesBatch (old new : Pending) (was now : Marked) (p q : Progress) (e
 
 -- ---- what shelves were told
 
--- So many workers ended so, each over a fork of these contents, the next ones behind this number,
--- and the one that only gathered over a fork of the last of these; and each was told just what its
+-- So many workers ended so, as they may over forks of these contents, the next ones behind this
+-- number, and the one that only gathered over a fork of the last of these: each told just what its
 -- worker did.
 abbrev pub HaveWorkedBeside : Type 0 → (Asked → ShelfFault → Type 0) → (Held → Type 0) → Place
     → (number workers : ℕ) → List WorkerEnd → Type 0

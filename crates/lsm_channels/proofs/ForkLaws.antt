@@ -1,13 +1,10 @@
 -- Forks of a shelf, in their order.
 use Rattle.std.proofs.Common.{◌≡◌, ℕ, zero, suc, ◌+◌, ◌*◌, List, [], ◌∷◌, ◌++◌, map, refl, sym}
-use Rattle.std.proofs.Common.{ap, ◌∙◌, subst, arith}
+use Rattle.std.proofs.Common.{ap, ◌∙◌, arith}
 use Rattle.lsm_shelf.specs.Place.{Place}
 use Rattle.lsm_shelf.specs.Told.{Told, fork_at, next_fork}
 use Rattle.lsm_channels.specs.Served.{Served}
-use Rattle.lsm_channels.specs.Serving.{IsUntoldFork, own_forks}
-
-pub untold_of : (t : Told) (p : Place) (number : ℕ) → t ≡ fork_at p number → IsUntoldFork t
-untold_of t p number e = subst IsUntoldFork (sym e) refl
+use Rattle.lsm_channels.specs.Serving.{own_forks}
 
 -- the fork behind one
 pub fork_next : (p : Place) (number after : ℕ) (own fork : Told) → own ≡ fork_at p number → fork

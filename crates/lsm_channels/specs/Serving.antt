@@ -7,7 +7,7 @@ use Rattle.lsm_frames.specs.Answers.{Nothing}
 use Rattle.lsm_frames.specs.Requests.{Asked}
 use Rattle.lsm_shelf.specs.Asked as shelf
 use Rattle.lsm_shelf.specs.declared.shelf_fault.ShelfFault.{ShelfFault}
-use Rattle.lsm_shelf.specs.Told.{Forked, ForkedTimes, NotNamed, Place, Told, fork_at}
+use Rattle.lsm_shelf.specs.Told.{Forked, ForkedTimes, IsUntoldFork, NotNamed, Place, Told, fork_at}
 use Rattle.lsm_state.specs.Held.{Held}
 use Rattle.lsm_state.specs.declared.options.Options.{Options}
 use Rattle.lsm_state.specs.declared.state_fault.StateFault.TheVariants as state
@@ -32,10 +32,6 @@ Answers Honest Refused keeps asked before after frame =
     IsAnswered Honest Refused keeps asked before after frame × IsKnown keeps after.known
 
 -- ---- one channel
-
--- a fork, to which nothing was told yet
-abbrev pub IsUntoldFork : Told → Type 0
-IsUntoldFork t = t ≡ fork_at t.place t.forks
 
 -- A session that took no snapshot, whose shelf is a fork to which nothing was told yet, and which
 -- knows what had come in in a state of which the lock's fact held.

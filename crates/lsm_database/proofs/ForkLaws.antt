@@ -1,9 +1,9 @@
 -- Forks for a program and its workers.
-use Rattle.std.proofs.Common.{◌≡◌, ℕ, ◌+◌, List, refl, sym, ap, ◌∙◌, arith, subst}
+use Rattle.std.proofs.Common.{◌≡◌, ℕ, ◌+◌, List, refl, ap, ◌∙◌, arith, subst}
 use Rattle.std.specs.Prelude.{Ok, Err}
 use Rattle.lsm_shelf.specs.Asked.{Asked}
-use Rattle.lsm_shelf.specs.Told.{CountedBy, ForkedAtMost, ForkedTimes, GivesForks, Place, Told}
-use Rattle.lsm_shelf.specs.Told.{fork_at, next_count}
+use Rattle.lsm_shelf.specs.Told.{CountedBy, ForkedAtMost, ForkedTimes, GivesForks, Told}
+use Rattle.lsm_shelf.specs.Told.{next_count}
 use Rattle.lsm_shelf.specs.declared.shelf_fault.ShelfFault.{ShelfFault}
 use Rattle.lsm_shelf.specs.declared.shelf_fault.ShelfFault.TheVariants.{Device, Missing}
 use Rattle.lsm_shelf.specs.declared.shelf_fault.ShelfFault.TheVariants.{OutOfMemory, Taken}
@@ -42,10 +42,6 @@ counted_then OutOfMemory a b c p q = (q.0 ∙ p.0, q.1 ∙ p.1)
 counted_then Device a b c p q = (q.0 ∙ ap next_count p.0, q.1 ∙ p.1)
 counted_then Missing a b c p q = (q.0 ∙ p.0, q.1 ∙ ap next_count p.1)
 counted_then (Taken n) a b c p q = (q.0 ∙ p.0, q.1 ∙ ap next_count p.1)
-
--- a fork, by whatever name
-pub untold_of : (t : Told) (p : Place) (n : ℕ) → t ≡ fork_at p n → t ≡ fork_at t.place t.forks
-untold_of t p n e = subst (λ (x : Told). x ≡ fork_at x.place x.forks) (sym e) refl
 
 -- workers over these shelves, by whatever name
 pub beside_of : (honest : Type 0) (Refused : Asked → ShelfFault → Type 0) (keeps : Held → Type 0)

@@ -8,7 +8,7 @@ use Rattle.lsm_model.specs.Runs.{Agrees}
 use Rattle.lsm_model.specs.Scanning.{IsScan, Pair}
 use Rattle.lsm_iterators.specs.Seeking.{at_or_past}
 use Rattle.lsm_shelf.specs.Asked.{Asked}
-use Rattle.lsm_shelf.specs.Told.{Becomes, Told, fork_at}
+use Rattle.lsm_shelf.specs.Told.{Becomes, IsUntoldFork, Told}
 use Rattle.lsm_shelf.specs.declared.shelf_fault.ShelfFault.{ShelfFault}
 use Rattle.lsm_table.specs.ReadFault.{IsMemoryOrShelf, ReadCounted}
 use Rattle.lsm_table.specs.declared.read_fault.ReadFault.{ReadFault}
@@ -33,8 +33,7 @@ seen known told read = record { known = known; told = told; read = read }
 
 -- Its shelves are forks, to which nothing was told yet.
 abbrev pub IsUntold : Seen → Type 0
-IsUntold d = (d.told ≡ fork_at d.told.place d.told.forks)
-    × (d.read ≡ fork_at d.read.place d.read.forks)
+IsUntold d = IsUntoldFork d.told × IsUntoldFork d.read
 
 -- A state that is lent has all that was known, and all that had come in in it is known then. Over
 -- an honest shelf none of that is later than its last sequence, and each read of it that is

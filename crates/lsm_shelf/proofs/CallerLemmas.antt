@@ -1,7 +1,8 @@
 -- Calls of a shelf one after another.
-use Rattle.std.proofs.Common.{◌≡◌, ◌+◌, refl, ◌∙◌, arith}
+use Rattle.std.proofs.Common.{◌≡◌, ℕ, ◌+◌, refl, sym, ◌∙◌, arith, subst}
 use Rattle.lsm_shelf.specs.Refusals.{IsWantOr}
-use Rattle.lsm_shelf.specs.Told.{Told, Becomes, Counted, Forked, forking}
+use Rattle.lsm_shelf.specs.Told.{Place, Told, Becomes, Counted, Forked, IsUntoldFork, fork_at}
+use Rattle.lsm_shelf.specs.Told.{forking}
 use Rattle.lsm_shelf.specs.declared.shelf_fault.ShelfFault.{ShelfFault}
 use Rattle.lsm_shelf.specs.declared.shelf_fault.ShelfFault.TheVariants as why
 
@@ -78,6 +79,10 @@ forked_then a b c p q = (
 
 pub forked_place : (a b : Told) → Forked a b → b.place ≡ a.place
 forked_place a b p = p.1.place
+
+-- a fork of this number is one
+pub untold_of : (t : Told) (p : Place) (number : ℕ) → t ≡ fork_at p number → IsUntoldFork t
+untold_of t p number e = subst IsUntoldFork (sym e) refl
 
 -- a refusal after forks
 pub counted_after_forks : (e : ShelfFault) (a b c : Told) → Forked a b → Counted e b c → Counted e a c

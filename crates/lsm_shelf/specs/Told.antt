@@ -61,6 +61,10 @@ fresh p = record {
 abbrev pub fork_at : Place → ℕ → Told
 fork_at p number = record (fresh p) { forks = number }
 
+-- a fork, to which nothing was told yet
+abbrev pub IsUntoldFork : Told → Type 0
+IsUntoldFork t = t ≡ fork_at t.place t.forks
+
 -- the fork that it gives next
 abbrev pub next_fork : Told → Told
 next_fork t = fork_at t.place (t.forks + 1)

@@ -1,9 +1,9 @@
 use Rattle.std.proofs.Common.{◌+◌, ap, refl, subst, sym, ◌∙◌}
 use Rattle.lsm_channels.specs.Served.{Served}
 use Rattle.lsm_channels.specs.Serving.{IsFresh}
-use Rattle.lsm_shelf.proofs.CallerLemmas.{forked_same}
+use Rattle.lsm_shelf.proofs.CallerLemmas.{forked_same, untold_of}
 use Rattle.lsm_store.proofs.CallerLemmas.{forked_times, forking_more}
-use Rattle.lsm_channels.proofs.ForkLaws.{fork_next, untold_of}
+use Rattle.lsm_channels.proofs.ForkLaws.{fork_next}
 use Rattle.lsm_channels.proofs.opened.man_one.Goals as goal
 
 pub new-requires-clause-fork : goal.new-requires-clause-fork

@@ -4,7 +4,8 @@ use Rattle.lsm_state.specs.Held.{Held}
 use Rattle.lsm_store.specs.Compacting.{IsSeated}
 use Rattle.lsm_database.specs.Keeping.{HasComeTo}
 use Rattle.lsm_database.proofs.ForkLaws.{at_most_more, beside_of, counted_then, gives_then}
-use Rattle.lsm_database.proofs.ForkLaws.{some_then_at_most, untold_of}
+use Rattle.lsm_database.proofs.ForkLaws.{some_then_at_most}
+use Rattle.lsm_shelf.proofs.CallerLemmas.{untold_of}
 use Rattle.lsm_database.proofs.KeepingLaws.{come_seated}
 use Rattle.lsm_database.proofs.running.run_state.Goals as goal
 
