@@ -11,4 +11,6 @@ mod TableFacts
 mod Blocks
 mod SkipFacts
 mod WordLaws
+mod VectorLaws
+mod LaneLaws
 pub mod CallerLemmas

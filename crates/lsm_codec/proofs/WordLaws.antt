@@ -7,7 +7,7 @@ use Rattle.std.specs.Int.{w64, from_le_bytes}
 use lib.Bits.{xor_assoc, xor_zero_r}
 use Rattle.lsm_codec.specs.Crc.{register_after}
 use Rattle.lsm_codec.specs.Turns.{turns}
-use Rattle.lsm_codec.specs.Words.{number, after_words, xor_words}
+use Rattle.lsm_codec.specs.Words.{number, after_parts, xor_parts}
 use Rattle.lsm_codec.proofs.Shifts.{xor_cross, turns-xor, turns-turns, turns-zero, turns-split, turns-more, register_after-cons, register_after-nil, register_after-append}
 
 -- a text is one large number
@@ -21,55 +21,68 @@ register_after-number (byte ∷ bytes) register fits =
     ∙ turns-more (length bytes * 8) register byte (number bytes) (fits 0)
     ∙ ap (λ (x : ℕ). turns x (bit_xor register (byte + number bytes * 256))) count
 
-turns-swap : (m n x : ℕ) → turns m (turns n x) ≡ turns n (turns m x)
+pub turns-swap : (m n x : ℕ) → turns m (turns n x) ≡ turns n (turns m x)
 turns-swap m n x =
     let e : n + m ≡ m + n = omega arith in
     turns-turns m n x ∙ ap (λ (k : ℕ). turns k x) e ∙ sym (turns-turns n m x)
 
 -- the division is linear
-pub after_words-xor : (xs ys : List ℕ) (r q : ℕ) → length xs ≡ length ys → after_words (bit_xor r q) (xor_words xs ys) ≡ bit_xor (after_words r xs) (after_words q ys)
-unfolding after_words xor_words
-after_words-xor [] [] r q e = refl
-after_words-xor [] (y ∷ ys) r q e = absurd (omega arith)
-after_words-xor (x ∷ xs) [] r q e = absurd (omega arith)
-after_words-xor (x ∷ xs) (y ∷ ys) r q e =
-    ap (λ (k : ℕ). after_words k (xor_words xs ys)) (ap (turns 64) (xor_cross r q x y) ∙ turns-xor 64 (bit_xor r x) (bit_xor q y))
-    ∙ after_words-xor xs ys (turns 64 (bit_xor r x)) (turns 64 (bit_xor q y)) (omega arith)
+pub after_parts-xor : (width : ℕ) (xs ys : List ℕ) (r q : ℕ) → length xs ≡ length ys
+    → after_parts width (bit_xor r q) (xor_parts xs ys)
+    ≡ bit_xor (after_parts width r xs) (after_parts width q ys)
+unfolding after_parts xor_parts
+after_parts-xor width [] [] r q e = refl
+after_parts-xor width [] (y ∷ ys) r q e = absurd (omega arith)
+after_parts-xor width (x ∷ xs) [] r q e = absurd (omega arith)
+after_parts-xor width (x ∷ xs) (y ∷ ys) r q e =
+    ap (λ (k : ℕ). after_parts width k (xor_parts xs ys))
+    (ap (turns width) (xor_cross r q x y) ∙ turns-xor width (bit_xor r x) (bit_xor q y))
+    ∙ after_parts-xor width xs ys (turns width (bit_xor r x)) (turns width (bit_xor q y))
+    (omega arith)
 
-pub after_words-turns : (k : ℕ) (xs : List ℕ) (r : ℕ) → after_words (turns k r) (map (turns k) xs) ≡ turns k (after_words r xs)
-unfolding after_words
-after_words-turns k [] r = refl
-after_words-turns k (x ∷ xs) r =
-    ap (λ (n : ℕ). after_words n (map (turns k) xs)) (ap (turns 64) (sym (turns-xor k r x)) ∙ turns-swap 64 k (bit_xor r x))
-    ∙ after_words-turns k xs (turns 64 (bit_xor r x))
+pub after_parts-turns : (width k : ℕ) (xs : List ℕ) (r : ℕ)
+    → after_parts width (turns k r) (map (turns k) xs) ≡ turns k (after_parts width r xs)
+unfolding after_parts
+after_parts-turns width k [] r = refl
+after_parts-turns width k (x ∷ xs) r =
+    ap (λ (n : ℕ). after_parts width n (map (turns k) xs))
+    (ap (turns width) (sym (turns-xor k r x)) ∙ turns-swap width k (bit_xor r x))
+    ∙ after_parts-turns width k xs (turns width (bit_xor r x))
 
 xor_zero_l : (n : ℕ) → bit_xor 0 n ≡ n
 xor_zero_l n = xor_comm 0 n ∙ xor_zero_r n
 
--- what stands in the register comes in as if with the first word
-pub after_words-start : (xs : List ℕ) (r : ℕ) → after_words r xs ≡ bit_xor (turns (length xs * 64) r) (after_words 0 xs)
-unfolding after_words turns
-after_words-start [] r = sym (xor_zero_r r)
-after_words-start (x ∷ xs) r =
-    let count : 64 + length xs * 64 ≡ suc (length xs) * 64 = omega arith in
-    after_words-start xs (turns 64 (bit_xor r x))
-    ∙ ap (λ (n : ℕ). bit_xor n (after_words 0 xs))
-    (turns-turns (length xs * 64) 64 (bit_xor r x) ∙ ap (λ (n : ℕ). turns n (bit_xor r x)) count ∙ turns-xor (suc (length xs) * 64) r x)
-    ∙ xor_assoc (turns (suc (length xs) * 64) r) (turns (suc (length xs) * 64) x) (after_words 0 xs)
-    ∙ ap (bit_xor (turns (suc (length xs) * 64) r))
-    (ap (λ (n : ℕ). bit_xor n (after_words 0 xs))
-    (ap (λ (n : ℕ). turns n x) (sym count) ∙ sym (turns-turns (length xs * 64) 64 x) ∙ ap (λ (n : ℕ). turns (length xs * 64) (turns 64 n)) (sym (xor_zero_l x)))
-    ∙ sym (after_words-start xs (turns 64 (bit_xor 0 x))))
+-- what stands in the register comes in as if with the first part
+pub after_parts-start : (width : ℕ) (xs : List ℕ) (r : ℕ)
+    → after_parts width r xs ≡ bit_xor (turns (length xs * width) r) (after_parts width 0 xs)
+unfolding after_parts turns
+after_parts-start width [] r =
+    let none : 0 ≡ 0 * width = omega arith in
+    sym (xor_zero_r r) ∙ ap (λ (n : ℕ). bit_xor (turns n r) 0) none
+after_parts-start width (x ∷ xs) r =
+    let count : width + length xs * width ≡ suc (length xs) * width = omega arith in
+    let far = length xs * width in
+    let all = suc (length xs) * width in
+    after_parts-start width xs (turns width (bit_xor r x))
+    ∙ ap (λ (n : ℕ). bit_xor n (after_parts width 0 xs))
+    (turns-turns far width (bit_xor r x) ∙ ap (λ (n : ℕ). turns n (bit_xor r x)) count
+    ∙ turns-xor all r x)
+    ∙ xor_assoc (turns all r) (turns all x) (after_parts width 0 xs)
+    ∙ ap (bit_xor (turns all r))
+    (ap (λ (n : ℕ). bit_xor n (after_parts width 0 xs))
+    (ap (λ (n : ℕ). turns n x) (sym count) ∙ sym (turns-turns far width x)
+    ∙ ap (λ (n : ℕ). turns far (turns width n)) (sym (xor_zero_l x)))
+    ∙ sym (after_parts-start width xs (turns width (bit_xor 0 x))))
 
 -- One stride: the words so far are moved on by a stride, each by itself, and the new words are
 -- added.
 pub stride : (state block : List ℕ) → length state ≡ length block
-    → after_words (after_words 0 state) block ≡ after_words 0 (xor_words (map (turns (length block * 64)) state) block)
+    → after_parts 64 (after_parts 64 0 state) block ≡ after_parts 64 0 (xor_parts (map (turns (length block * 64)) state) block)
 stride state block e =
     let n = length block * 64 in
-    after_words-start block (after_words 0 state)
-    ∙ ap (λ (x : ℕ). bit_xor x (after_words 0 block)) (sym (after_words-turns n state 0) ∙ ap (λ (x : ℕ). after_words x (map (turns n) state)) (turns-zero n))
-    ∙ sym (after_words-xor (map (turns n) state) block 0 0 (length-map state (turns n) ∙ e))
+    after_parts-start 64 block (after_parts 64 0 state)
+    ∙ ap (λ (x : ℕ). bit_xor x (after_parts 64 0 block)) (sym (after_parts-turns 64 n state 0) ∙ ap (λ (x : ℕ). after_parts 64 x (map (turns n) state)) (turns-zero n))
+    ∙ sym (after_parts-xor 64 (map (turns n) state) block 0 0 (length-map state (turns n) ∙ e))
 
 -- the bytes of a word, as the code takes them
 masks : (t0 t1 t2 t3 t4 t5 t6 t7 n : ℕ) (f : ℕ → ℕ → ℕ)
@@ -125,12 +138,22 @@ word_is xs register len fits =
 pub pieces : (k : ℕ) (xs : List ℕ) (register : ℕ) → register_after register xs ≡ register_after (register_after register (take k xs)) (drop k xs)
 pieces k xs register = ap (register_after register) (sym (take-append-drop k xs)) ∙ register_after-append (take k xs) (drop k xs) register
 
+-- a block in front, absorbed
+pub joins : (k before after : ℕ) (bytes block rest : List ℕ) → block ≡ take k bytes
+    → rest ≡ drop k bytes → register_after before block ≡ after
+    → register_after after rest ≡ register_after before bytes
+joins k before after bytes block rest front back e =
+    ap (register_after after) back
+    ∙ ap (λ (r : ℕ). register_after r (drop k bytes))
+    (sym e ∙ ap (register_after before) front)
+    ∙ sym (pieces k bytes before)
+
 abbrev pub IsWord : List ℕ → ℕ → Type 0
 IsWord bytes word = (register : ℕ) → register_after register bytes ≡ turns 64 (bit_xor register word)
 
 pub four_words : (block : List ℕ) (a b c d register : ℕ) → IsWord (take 8 block) a → IsWord (take 8 (drop 8 block)) b → IsWord (take 8 (drop 8 (drop 8 block))) c → IsWord (drop 8 (drop 8 (drop 8 block))) d
-    → register_after register block ≡ after_words register (a ∷ b ∷ c ∷ d ∷ [])
-unfolding after_words
+    → register_after register block ≡ after_parts 64 register (a ∷ b ∷ c ∷ d ∷ [])
+unfolding after_parts
 four_words block a b c d register ha hb hc hd =
     pieces 8 block register ∙ ap (λ (r : ℕ). register_after r (drop 8 block)) (ha register)
     ∙ pieces 8 (drop 8 block) (turns 64 (bit_xor register a)) ∙ ap (λ (r : ℕ). register_after r (drop 8 (drop 8 block))) (hb (turns 64 (bit_xor register a)))
@@ -139,14 +162,14 @@ four_words block a b c d register ha hb hc hd =
 
 -- one stride of four words
 pub stride_four : (a b c d e f g h : ℕ)
-    → after_words (after_words 0 (a ∷ b ∷ c ∷ d ∷ [])) (e ∷ f ∷ g ∷ h ∷ []) ≡ after_words 0 (bit_xor (turns 256 a) e ∷ bit_xor (turns 256 b) f ∷ bit_xor (turns 256 c) g ∷ bit_xor (turns 256 d) h ∷ [])
-unfolding xor_words
+    → after_parts 64 (after_parts 64 0 (a ∷ b ∷ c ∷ d ∷ [])) (e ∷ f ∷ g ∷ h ∷ []) ≡ after_parts 64 0 (bit_xor (turns 256 a) e ∷ bit_xor (turns 256 b) f ∷ bit_xor (turns 256 c) g ∷ bit_xor (turns 256 d) h ∷ [])
+unfolding xor_parts
 stride_four a b c d e f g h = stride (a ∷ b ∷ c ∷ d ∷ []) (e ∷ f ∷ g ∷ h ∷ []) refl
 
-pub start_four : (register a b c d : ℕ) → after_words register (a ∷ b ∷ c ∷ d ∷ []) ≡ after_words 0 (bit_xor register a ∷ b ∷ c ∷ d ∷ [])
-unfolding after_words
-start_four register a b c d = ap (λ (n : ℕ). after_words (turns 64 n) (b ∷ c ∷ d ∷ [])) (sym (xor_zero_l (bit_xor register a)))
+pub start_four : (register a b c d : ℕ) → after_parts 64 register (a ∷ b ∷ c ∷ d ∷ []) ≡ after_parts 64 0 (bit_xor register a ∷ b ∷ c ∷ d ∷ [])
+unfolding after_parts
+start_four register a b c d = ap (λ (n : ℕ). after_parts 64 (turns 64 n) (b ∷ c ∷ d ∷ [])) (sym (xor_zero_l (bit_xor register a)))
 
-pub joined_four : (a b c d : ℕ) → turns 64 (bit_xor (turns 64 (bit_xor (turns 64 (bit_xor (turns 64 a) b)) c)) d) ≡ after_words 0 (a ∷ b ∷ c ∷ d ∷ [])
-unfolding after_words
+pub joined_four : (a b c d : ℕ) → turns 64 (bit_xor (turns 64 (bit_xor (turns 64 (bit_xor (turns 64 a) b)) c)) d) ≡ after_parts 64 0 (a ∷ b ∷ c ∷ d ∷ [])
+unfolding after_parts
 joined_four a b c d = ap (λ (n : ℕ). turns 64 (bit_xor (turns 64 (bit_xor (turns 64 (bit_xor (turns 64 n) b)) c)) d)) (sym (xor_zero_l a))

@@ -4,7 +4,7 @@ ghost use Rattle.std.specs.Prelude.{◌≡◌, ◌++◌, ℕ, List};
 ghost use Rattle.lsm_codec.specs.Crc.{crc_of, crc_after};
 ghost use Rattle.lsm_codec.specs.Mask.{masked, unmasked};
 
-use crate::stridewise::absorb_strides;
+use crate::vectorwise::absorb_vectors;
 
 /// The CRC-32C of the bytes: Castagnoli's polynomial 0x82F63B78, reflected, start 0xFFFFFFFF, final
 /// inversion (LevelDB's `util/crc32c.h`, RFC 3720). Takes time in proportion to the length, 32
@@ -12,7 +12,7 @@ use crate::stridewise::absorb_strides;
 pub fn crc32c(bytes: &[u8]) -> u32
     ensures { result ≡ crc_of bytes.now }
 {
-    !absorb_strides(!0, bytes)
+    !absorb_vectors(!0, bytes)
 }
 
 /// The CRC-32C of a text whose front has the checksum so far, and which goes on with the bytes
@@ -22,7 +22,7 @@ pub fn crc_extend(checksum: u32, bytes: &[u8]) -> u32
     ensures joins { (front : List ℕ) → checksum ≡ crc_of front
         → result ≡ crc_of (front ++ bytes.now) }
 {
-    !absorb_strides(!checksum, bytes)
+    !absorb_vectors(!checksum, bytes)
 }
 
 /// A checksum as files store it: turned right by 15 bits, and a constant added modulo 2^32 (`Mask`

@@ -3,8 +3,8 @@
 //! entries answers to a read, and what a reader answers that may run out of memory.
 //!
 //! Stands on `std`, and on `thiserror` for its fault. Data flows from `varint` and `internal_key`
-//! to the formats above; `checksum` goes by `stridewise`, then `wordwise`, then `bytewise`, over
-//! `stride_tables` and `byte_tables`.
+//! to the formats above; `checksum` goes by `vectorwise`, then `stridewise`, `wordwise` and
+//! `bytewise`, over `stride_tables` and `byte_tables`.
 //!
 //! Its contract: bytes and numbers, keys, checksums by the grammar, both ways, and each refusal
 //! exactly where it is due.
@@ -22,6 +22,8 @@ mod kind;
 
 // Checksums.
 mod checksum;
+// By vectors of 32 bytes.
+mod vectorwise;
 // In strides of 32 bytes.
 mod stridewise;
 // Word by word.

@@ -4,7 +4,7 @@
 ghost use Rattle.std.specs.Prelude.{◌≡◌, [], ◌∷◌, ◌++◌, ◌<◌, ◌≤◌, ◌^◌, ℕ, List, length, bit_xor};
 ghost use Rattle.lsm_codec.specs.Crc.{register_after, crc_of, crc_after};
 ghost use Rattle.lsm_codec.specs.Turns.{turns};
-ghost use Rattle.lsm_codec.specs.Words.{after_words};
+ghost use Rattle.lsm_codec.specs.Words.{after_parts};
 
 use crate::byte_tables::{at_0, at_1, at_2, at_3, at_4, at_5, at_6, at_7};
 use crate::stride_tables::{skip_0, skip_1, skip_2, skip_3, skip_4, skip_5, skip_6, skip_7};
@@ -61,7 +61,7 @@ struct Words {
 fn read(block: &[u8]) -> Words
     requires { length block.now ≡ 32 }
     ensures { (register : ℕ) → register_after register block.now
-        ≡ after_words register (result.first ∷ result.second ∷ result.third ∷ result.fourth ∷ []) }
+        ≡ after_parts 64 register (result.first ∷ result.second ∷ result.third ∷ result.fourth ∷ []) }
 {
     let (first, after) = block.split_at(8);
     let (second, later) = after.split_at(8);
@@ -78,8 +78,8 @@ fn read(block: &[u8]) -> Words
 fn stride(state: Words, block: &[u8]) -> Words
     requires { length block.now ≡ 32 }
     ensures { register_after
-        (after_words 0 (state.first ∷ state.second ∷ state.third ∷ state.fourth ∷ [])) block.now
-        ≡ after_words 0 (result.first ∷ result.second ∷ result.third ∷ result.fourth ∷ []) }
+        (after_parts 64 0 (state.first ∷ state.second ∷ state.third ∷ state.fourth ∷ [])) block.now
+        ≡ after_parts 64 0 (result.first ∷ result.second ∷ result.third ∷ result.fourth ∷ []) }
 {
     let new = read(block);
     Words {
@@ -94,7 +94,7 @@ fn stride(state: Words, block: &[u8]) -> Words
 fn start(register: u32, block: &[u8]) -> Words
     requires { length block.now ≡ 32 }
     ensures { register_after register block.now
-        ≡ after_words 0 (result.first ∷ result.second ∷ result.third ∷ result.fourth ∷ []) }
+        ≡ after_parts 64 0 (result.first ∷ result.second ∷ result.third ∷ result.fourth ∷ []) }
 {
     let new = read(block);
     Words {
@@ -108,7 +108,7 @@ fn start(register: u32, block: &[u8]) -> Words
 /// The register that four words stand for.
 fn joined(state: Words) -> u32
     ensures { result
-        ≡ after_words 0 (state.first ∷ state.second ∷ state.third ∷ state.fourth ∷ []) }
+        ≡ after_parts 64 0 (state.first ∷ state.second ∷ state.third ∷ state.fourth ∷ []) }
 {
     let first = near(state.first);
     let second = near(first as u64 ^ state.second);
