@@ -8,9 +8,10 @@ ghost use Rattle.lsm_cmd_levels.specs.Sums.{files_at};
 
 use crate::reaching::reach;
 use crate::span::KeySpan;
-use crate::sums::{WHOLE, files_at, weight};
+use crate::sums::{files_at, weight};
 use lsm_codec::{Bytes, key_parts};
 use lsm_manifest::{FileMeta, Shape};
+use lsm_picker::limit;
 use std::alloc::AllocError;
 use std::cmp::Ordering;
 
@@ -29,7 +30,7 @@ fn due_level(shape: &Shape) -> Result<Option<usize>, AllocError>
     ensures { IfOk result (λ level. IsFirstDue shape.now level) }
 {
     let mut best = None;
-    let mut most = WHOLE - 1;
+    let mut most = limit(5) - 1;
     for level in 0..6 {
         let weight = weight(level, files_at(shape, level))?;
         if weight > most {

@@ -10,9 +10,10 @@ ghost use Rattle.lsm_cmd_levels.specs.Lines.{taken_word, taken_words, two_decima
 
 use crate::due::{Due, is_taken};
 use crate::folder_sums::FolderSums;
-use crate::sums::{WHOLE, all_bytes, all_files, bytes_of, files_at, product_of, weight};
+use crate::sums::{all_bytes, all_files, bytes_of, files_at, product_of, weight};
 use crate::totals::Totals;
 use lsm_manifest::{FileMeta, Shape};
+use lsm_picker::limit;
 use lsm_text::Form;
 use std::alloc::{AllocError, Global};
 
@@ -69,7 +70,7 @@ fn push_score(out: &mut Vec<u8>, level: usize, files: &[FileMeta]) -> Result<(),
     }
     let parts = product_of(weight(level, files)?, 100)?;
     out.extend_from_slice(b" score ")?;
-    push_hundredths(out, parts / WHOLE)
+    push_hundredths(out, parts / limit(5))
 }
 
 /// Appends what a level counts.

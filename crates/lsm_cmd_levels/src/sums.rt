@@ -4,14 +4,11 @@
 ghost use Rattle.std.specs.Prelude.{◌≡◌, ◌+◌, ◌*◌, ◌≤◌, IfOk, cond, length};
 ghost use Rattle.std.specs.List.{sum_by};
 ghost use Rattle.lsm_cmd_levels.specs.Sums.{bytes_of, files_at, load, weight};
-ghost use Rattle.lsm_picker.specs.Scores.{scale};
 
 use lsm_codec::List;
 use lsm_manifest::{FileMeta, Shape};
+use lsm_picker::scale;
 use std::alloc::AllocError;
-
-/// A score of 1: the limit of level 5.
-pub(crate) const WHOLE: u128 = 104_857_600_000;
 
 /// The sum of two numbers.
 pub(crate) fn sum_of(a: u128, b: u128) -> Result<u128, AllocError>
@@ -90,26 +87,11 @@ fn load(level: usize, files: &[FileMeta]) -> Result<u128, AllocError>
     }
 }
 
-/// How often the limit of a level, 0 to 5, goes into that of level 5.
-fn scale(level: usize) -> u128
-    requires { level ≤ 5 }
-    ensures { result ≡ scale level }
-{
-    match level {
-        0 => 26_214_400_000,
-        1 => 10_000,
-        2 => 1_000,
-        3 => 100,
-        4 => 10,
-        _ => 1,
-    }
-}
-
 /// The score of a level, 0 to 5, over the limit of level 5.
 #[tactic(auto, unfolding(crate::specs::Sums::weight))]
 pub(crate) fn weight(level: usize, files: &[FileMeta]) -> Result<u128, AllocError>
     requires { level ≤ 5 }
     ensures { IfOk result (λ n. n ≡ weight level files.now) }
 {
-    product_of(load(level, files)?, scale(level))
+    product_of(load(level, files)?, scale(level as u8))
 }

@@ -22,7 +22,7 @@ use Rattle.lsm_inflate.specs.PackedTable.{PackedBlock, PackedBlocks}
 use Rattle.lsm_inflate.specs.PackedReading.{filled_at, handle_behind, block_there, block_behind, data_at}
 use Rattle.lsm_inflate.proofs.PlainReading.{block_ok, ok_is as plain_is}
 use Rattle.lsm_inflate.proofs.StepLaws.{bind_ok, guard_ok, ok_is, done, lifted_ok}
-use Rattle.lsm_inflate.proofs.HandleLaws.{handle_takes, handle_again}
+use Rattle.lsm_table.proofs.CallerLemmas.{handle_takes, handle_again}
 use Rattle.lsm_inflate.proofs.StoredLaws.{contents_takes, contents_again, contents_fit}
 use Rattle.lsm_inflate.proofs.FillingLaws.{filled_takes, filled_again}
 

@@ -1,7 +1,5 @@
 mod PlainReading
 mod StepLaws
-mod HandleLaws
-mod FooterLaws
 mod StoredLaws
 mod FillingLaws
 mod DataLaws

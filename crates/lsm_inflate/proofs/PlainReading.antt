@@ -3,21 +3,16 @@ use Rattle.std.proofs.Common.{◌≡◌, ℕ, Bool, true, false, List, Result, O
 use Rattle.std.specs.Prelude.{◌&&◌}
 use Rattle.std.specs.Str.{bytes_eq}
 use Rattle.std.proofs.lemmas.Slice.Eq.{bytes_eq-Decides}
-use Rattle.lsm_codec.specs.declared.fault.CodecFault.{CodecFault}
 use Rattle.lsm_codec.specs.Entries.{Entry}
 use Rattle.lsm_block.specs.declared.fault.BlockFault.{BlockFault}
 use Rattle.lsm_table.specs.declared.table_fault.TableFault.{TableFault}
-use Rattle.lsm_table.specs.Reading.{◌>>=◌, number_or}
+use Rattle.lsm_table.specs.Reading.{◌>>=◌}
 use Rattle.lsm_table.specs.TableReading.{block_or}
 pub use Rattle.lsm_table.proofs.CallerLemmas.{done, ok_is, guard_ok}
 
 pub bind_ok : {A B : Type 0} (r : Result A TableFault) (f : A → Result B TableFault) (y : B) → (r >>= f) ≡ Ok y → (x : A) × (r ≡ Ok x) × (f x ≡ Ok y)
 bind_ok (Ok x) f y e = (x, refl, e)
 bind_ok (Err fault) f y e = absurd cc
-
-pub number_ok : (fault : TableFault) (r : Result (ℕ × List ℕ) CodecFault) (x : ℕ × List ℕ) → number_or fault r ≡ Ok x → r ≡ Ok x
-number_ok fault (Ok y) x e = ap (λ (z : ℕ × List ℕ). Ok z) (ok_is y x e)
-number_ok fault (Err d) x e = absurd cc
 
 pub block_ok : (r : Result (List Entry) BlockFault) (x : List Entry) → block_or r ≡ Ok x → r ≡ Ok x
 block_ok (Ok y) x e = ap (λ (z : List Entry). Ok z) (ok_is y x e)

@@ -12,7 +12,7 @@ use Rattle.lsm_inflate.specs.Reading.{lifted}
 use Rattle.lsm_inflate.specs.PackedTable.{IsPackedTable, PackedBlocks}
 use Rattle.lsm_inflate.specs.PackedReading.{data_at, index_at, entries_at}
 use Rattle.lsm_inflate.proofs.StepLaws.{bind_ok, ok_is, lifted_ok}
-use Rattle.lsm_inflate.proofs.FooterLaws.{footer_takes, footer_again, ends}
+use Rattle.lsm_table.proofs.CallerLemmas.{footer_takes, footer_again, ends}
 use Rattle.lsm_inflate.proofs.DataLaws.{block_values, there_takes, there_again, data_takes, data_again, one_groups}
 
 pub entries_takes : (options : TableOptions) (bytes : List ℕ) (es : List Entry) → IsBytes bytes → entries_at options bytes ≡ Ok es → IsPackedTable bytes es

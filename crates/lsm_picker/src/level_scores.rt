@@ -67,7 +67,7 @@ pub(crate) fn load<N: Naming, S: Shelf>(
 }
 
 /// What a level, 0 to 5, may hold: files at level 0, bytes at the others.
-pub(crate) fn limit(level: u8) -> u128
+pub fn limit(level: u8) -> u128
     requires { level ≤ 5 }
     ensures { result ≡ limit level }
 {
@@ -83,7 +83,7 @@ pub(crate) fn limit(level: u8) -> u128
 
 /// How often the limit of a level, 0 to 5, goes into that of level 5: loads times this are scores
 /// over one denominator.
-pub(crate) fn scale(level: u8) -> u128
+pub fn scale(level: u8) -> u128
     requires { level ≤ 5 }
     ensures scale { result ≡ scale level }
     ensures small { result < 2 ^ 35 }

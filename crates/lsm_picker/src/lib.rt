@@ -40,7 +40,7 @@ pub use conflicts::conflict;
 pub use deep_ranges::ranges_below;
 pub use gathering::{level_zero_is_ready, to_gather};
 pub use joining::span_to_join;
-pub use level_scores::scores;
+pub use level_scores::{limit, scale, scores};
 pub use manual::{is_cleared, span_to_clear};
 pub use move_rule::{is_large_move, is_move};
 pub use outermost::outermost_span;

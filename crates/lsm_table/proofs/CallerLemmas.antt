@@ -1,5 +1,7 @@
--- What a caller's proof cites: of tables and what they name, of a search, of what opening reads, of
--- a shelf's calls.
+-- What a caller's proof cites: of places and footers, of tables and what they name, of a search, of
+-- what opening reads, of a shelf's calls.
+pub use Rattle.lsm_table.proofs.HandleLaws.{handle_takes, handle_again}
+pub use Rattle.lsm_table.proofs.FooterLaws.{footer_takes, footer_again, ends}
 pub use Rattle.lsm_table.proofs.ReadingLaws.{done, ok_is, guard_ok}
 pub use Rattle.lsm_table.proofs.KeyOrder.{key_cmp_total}
 pub use Rattle.lsm_table.proofs.IndexLaws.{data_ascends}
