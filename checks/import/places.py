@@ -27,10 +27,13 @@ def ranges(path, place, is_compressed):
     if place == LOG:
         return [(0, path.stat().st_size)]
     table = path.read_bytes()
-    blocks = [(at, size + 5) for at, size in reading.handles(table, is_judged=False)]
+    try:
+        blocks = [(at, size + 5) for at, size in reading.handles(table, is_judged=False)]
+    except reading.Damaged:  # what a compaction that was cut left
+        return []
     if place == BLOCK:
         return [(at, size) for at, size in blocks if not is_compressed or table[at + size - 5] == 1]
-    behind = sum(blocks[-1])
+    behind = sum(blocks[-1]) if blocks else 0
     return [(behind, len(table) - behind)]
 
 
