@@ -238,7 +238,7 @@ def hurt(folder):
     elif how == 6:
         paths[number].write_bytes(paths[number].read_bytes() + b"\0" * drawn.randrange(1, 9))
     elif how == 7:  # another table under its name, of its size
-        shutil.copy(paths[other], paths[number])
+        paths[number].write_bytes(paths[other].read_bytes())
         put_manifest(folder, tables | {number: (level, tables[other][1], smallest, largest)}, last)
     elif how == 8:  # another level
         put_manifest(folder, tables | {number: (drawn.randrange(7), size, smallest, largest)}, last)
