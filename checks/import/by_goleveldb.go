@@ -2,9 +2,10 @@
 // log that is not flushed; with PLAIN set not compressed.
 //
 //	by_goleveldb kinds | make DIR KIND | scan DIR
-//	by_goleveldb put DIR KEY VALUE | open DIR | compact DIR | recover DIR
+//	by_goleveldb put DIR KEY VALUE | open DIR | compact DIR | recover DIR | deep DIR
 //
-// `open` writes nothing of its own; `recover` makes a new manifest of the tables that are there.
+// `open` writes nothing of its own; `recover` makes a new manifest of the tables that are there, and compacts none; `deep`
+// makes a folder with levels so small that it needs more than seven of them.
 package main
 
 import (
@@ -136,8 +137,21 @@ func main() {
 		must(database.CompactRange(util.Range{}))
 		must(database.Close())
 		return
+	case "deep":
+		small := options(kind{buffer: 1 << 12})
+		small.CompactionTableSize, small.CompactionTotalSize, small.CompactionTotalSizeMultiplier = 1<<12, 1<<12, 1.5
+		database, fault := leveldb.OpenFile(words[1], small)
+		must(fault)
+		for i := 0; i < 20000; i++ {
+			must(database.Put([]byte(fmt.Sprintf("%06d", i*7919%20000)), []byte(strings.Repeat("v", 40)), nil))
+		}
+		must(database.CompactRange(util.Range{}))
+		must(database.Close())
+		return
 	case "recover":
-		database, fault := leveldb.RecoverFile(words[1], options(kind{}))
+		still := options(kind{})
+		still.CompactionL0Trigger = 1 << 20
+		database, fault := leveldb.RecoverFile(words[1], still)
 		must(fault)
 		must(database.Close())
 		return

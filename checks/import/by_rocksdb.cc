@@ -1,7 +1,7 @@
 // Folders by RocksDB (Debian's librocksdb-dev), not compressed, in the oldest form of its tables; a log that is
 // not flushed.
 //
-//   by_rocksdb kinds | make DIR KIND
+//   by_rocksdb kinds | make DIR KIND    its kinds that were never flushed, which LevelDB's tools read
 //   by_rocksdb scan DIR              prints each live key with its value, as KEY=VALUE in hex
 #include <rocksdb/db.h>
 #include <rocksdb/options.h>
@@ -72,7 +72,9 @@ static void Print(const rocksdb::Slice& bytes) {
 int main(int count, char** words) {
   const std::string word = count > 1 ? words[1] : "";
   if (word == "kinds") {
-    for (const Kind& kind : kKinds) std::printf("%s\n", kind.name);
+    for (const Kind& kind : kKinds) {
+      if (!kind.flushed) std::printf("%s\n", kind.name);
+    }
     return 0;
   }
   if (word == "make" && count == 4) {
