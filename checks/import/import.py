@@ -124,12 +124,12 @@ def damaged(sources):
         if done.returncode != 0 or not told:
             sys.exit(f"{name}: status {done.returncode}: {done.stderr.decode()}")
         pairs = pairs_of(target)
-        if pairs == wanted:
+        if pairs == wanted and place != places.BLOCK:
             ends[place]["same"] += 1
         elif path.suffix == ".log" and (int(told[4]) > 0 or " cut " in what) and pairs == pairs_by_leveldb(folder):
             ends[place]["rest"] += 1
         else:
-            sys.exit(f"{name}: the copy has other pairs than the whole folder has, and than LevelDB reads")
+            sys.exit(f"{name}: a damaged block came in, or other pairs than the whole folder has, and than LevelDB reads")
     return ends
 
 
@@ -141,8 +141,8 @@ def main():
     logs, blocks, rest = (ends[place] for place in places.PLACES)
     print(f"{counted(len(kinds), 'kind')} of folders imported: the same pairs by their makers and by lsm; of"
           f" {logs.total()} damaged logs {logs['refused']} refused, {logs['same']} the same, {logs['rest']} as LevelDB"
-          f" reads a cut log; of {blocks.total()} compressed blocks {blocks['refused']} refused, {blocks['same']} the"
-          f" same; of {rest.total()} tables elsewhere {rest['refused']} and {rest['same']} (seed {SEED})")
+          f" reads a cut log; of {blocks.total()} compressed blocks {blocks['refused']}; of {rest.total()} tables elsewhere"
+          f" {rest['refused']}, the others the same (seed {SEED})")
 
 
 main()

@@ -18,8 +18,12 @@ def shared_out(count):
     return [place for place, share in zip(PLACES, shares) for _ in range(share)]
 
 
-def files(folder, ending):
-    return sorted(path for path in folder.iterdir() if path.suffix == ending and path.stat().st_size > 0)
+def files(folder, place):
+    """The logs of a folder that are not empty, or the tables that its manifest names."""
+    if place == LOG:
+        return sorted(path for path in folder.glob("*.log") if path.stat().st_size > 0)
+    tables, _ = reading.version((folder / (folder / "CURRENT").read_text().strip()).read_bytes())
+    return [folder / f"{number:06}.ldb" for number in sorted(tables)]
 
 
 def ranges(path, place, is_compressed):
@@ -28,8 +32,8 @@ def ranges(path, place, is_compressed):
         return [(0, path.stat().st_size)]
     table = path.read_bytes()
     try:
-        blocks = [(at, size + 5) for at, size in reading.handles(table, is_judged=False)]
-    except reading.Damaged:  # what a compaction that was cut left
+        blocks = [(at, size + 5) for _, at, size in reading.index(table, is_judged=False)]
+    except reading.Damaged:
         return []
     if place == BLOCK:
         return [(at, size) for at, size in blocks if not is_compressed or table[at + size - 5] == 1]
@@ -40,7 +44,7 @@ def ranges(path, place, is_compressed):
 def damage(drawn, folder, place, is_compressed=False):
     """Damages a file of the folder there: the file, and what was done to it; none where the folder has no such
     place. With `is_compressed` blocks are those that Snappy compressed."""
-    for path in drawn.sample(found := files(folder, ".log" if place == LOG else ".ldb"), len(found)):
+    for path in drawn.sample(found := files(folder, place), len(found)):
         parts = ranges(path, place, is_compressed)
         if not parts:
             continue

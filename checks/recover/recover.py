@@ -175,12 +175,12 @@ def damaged(sources):
             ends[place]["rest"] += 1
             continue
         pairs = pairs_of(folder)
-        if pairs == wanted:
+        if pairs == wanted and place != places.BLOCK:
             ends[place]["same"] += 1
         elif path.suffix == ".log" and (told[2] > 0 or " cut " in what) and pairs == theirs:
             ends[place]["rest"] += 1
         else:
-            sys.exit(f"{name}: it has other pairs than the whole folder has, and than LevelDB reads")
+            sys.exit(f"{name}: a damaged block came in, or other pairs than the whole folder has, and than LevelDB reads")
     return ends
 
 
@@ -217,8 +217,8 @@ def main():
     logs, blocks, rest = (ends[place] for place in places.PLACES)
     print(f"{counted(len(kinds), 'kind')} of folders recovered: the same pairs by LevelDB and by lsm; of {logs.total()}"
           f" damaged logs {logs['refused']} refused, {logs['same']} the same, {logs['rest']} as LevelDB reads a cut log; of"
-          f" {blocks.total()} data blocks {blocks['refused']} refused, {blocks['same']} the same; of {rest.total()} tables"
-          f" elsewhere {rest['refused']} and {rest['same']}; of {KILLS} that were killed {stopped} in time, nothing was lost"
+          f" {blocks.total()} data blocks {blocks['refused']}; of {rest.total()} tables elsewhere {rest['refused']}, the others"
+          f" the same; of {KILLS} that were killed {stopped} in time, nothing was lost"
           f" (seed {SEED})")
 
 
