@@ -141,7 +141,7 @@ def main():
     logs, blocks, rest = (ends[place] for place in places.PLACES)
     print(f"{counted(len(kinds), 'kind')} of folders imported: the same pairs by their makers and by lsm; of"
           f" {logs.total()} damaged logs {logs['refused']} refused, {logs['same']} the same, {logs['rest']} as LevelDB"
-          f" reads a cut log; of {blocks.total()} compressed blocks {blocks['refused']}; of {rest.total()} tables elsewhere"
+          f" reads a cut log; of {blocks.total()} compressed blocks {blocks['refused']} refused; of {rest.total()} tables elsewhere"
           f" {rest['refused']}, the others the same (seed {SEED})")
 
 

@@ -217,7 +217,7 @@ def main():
     logs, blocks, rest = (ends[place] for place in places.PLACES)
     print(f"{counted(len(kinds), 'kind')} of folders recovered: the same pairs by LevelDB and by lsm; of {logs.total()}"
           f" damaged logs {logs['refused']} refused, {logs['same']} the same, {logs['rest']} as LevelDB reads a cut log; of"
-          f" {blocks.total()} data blocks {blocks['refused']}; of {rest.total()} tables elsewhere {rest['refused']}, the others"
+          f" {blocks.total()} data blocks {blocks['refused']} refused; of {rest.total()} tables elsewhere {rest['refused']}, the others"
           f" the same; of {KILLS} that were killed {stopped} in time, nothing was lost"
           f" (seed {SEED})")
 
