@@ -35,7 +35,7 @@ With goleveldb (golang-go, golang-github-syndtr-goleveldb-dev) and LevelDB:
 
 - A table that was added twice: one opening by LevelDB cures it, and two by goleveldb, without a write.
 - Old ages, by `RecoverFile`: a compaction in either.
-- More than seven levels: no compaction in goleveldb helps, and `RepairDB` does.
+- More than seven levels: no compaction in goleveldb helps, and `RepairDB` with a compaction does.
 
 With RocksDB (librocksdb-dev), before it has flushed a table: `lsm import` copies all pairs; behind that the folder is
 refused, and the pairs are printed by a program of RocksDB's and loaded.
@@ -371,8 +371,10 @@ def of_goleveldb(folder):
         judge(count_of(folder, name) == str(pairs), f"a compaction does not cure old ages in {name}, of {pairs} pairs")
     printed(f"{go} deep deep; {go} compact deep", folder)
     judge("refused 23 BadLevel 7" in count_of(folder, "deep"), "a compaction in goleveldb cures a level 7")
-    by_leveldb(folder, "plyvel.repair_db('deep')")
-    judge(count_of(folder, "deep") == "20000", "RepairDB does not cure a level 7")
+    # (RepairDB takes obsolete tables too, so that a key may be there twice until a compaction)
+    by_leveldb(folder, "plyvel.repair_db('deep')\ndb = plyvel.DB('deep', compression=None)\ndb.compact_range()\ndb.close()")
+    left = count_of(folder, "deep")
+    judge(left == "20000", f"RepairDB and a compaction do not cure a level 7: {left}")
 
 
 def of_rocksdb(folder):
