@@ -25,7 +25,7 @@ below:
   the refusal has copies all pairs.
 - A log that is not flushed: `lsm put` is refused; once LevelDB has opened the folder without
   compression, all is read, and the put comes in.
-- A lost manifest: after LevelDB's `RepairDB` all is read.
+- A lost manifest: after LevelDB's `RepairDB`, and a compaction, all is read.
 - A damaged table: after `RepairDB` with `paranoid_checks` what was not in the damaged block is read; without them
   nothing helps.
 - Handles with zeros behind them, as iq80 writes them: after `RepairDB` and a compaction all is read.
@@ -281,20 +281,27 @@ def logged(folder):
     judge(printed("./lsm scan unflushed --count --strict", folder) == "100", f"the line of `lsm recover` does not cure: {said}")
 
 
+def by_leveldb(folder, lines):
+    return printed(f"python3 -c \"import plyvel\n{lines}\"", folder)
+
+
 def repaired(folder):
     begin(folder, "broken")
     printed("rm broken/CURRENT broken/MANIFEST-*", folder)
     judge(printed("./lsm scan broken", folder).startswith("refused 10 Missing"), "a lost manifest is not refused")
     printed("python3 -c \"import plyvel; plyvel.repair_db('broken')\"", folder)
     judge(printed("./lsm scan broken", folder) == "61=31\n62=32", f"RepairDB does not cure: {printed('./lsm scan broken', folder)}")
+    # (it puts each table at level 0, older ones too, so that ages may be open until a compaction)
+    open_it = "db = plyvel.DB('worn', compression=None)"
+    writes = "for i in range(60000):\n  key = b'%05d' % (i * 7919 % 9001)\n  db.put(key, b'%d' % i + bytes(i % 90))"
+    by_leveldb(folder, f"{open_it}\n{writes}\ndb.close()\n{open_it}\ndb.close()")
+    before = printed("./lsm scan worn | cksum", folder)
+    by_leveldb(folder, f"import glob, os\nfor name in glob.glob('worn/MANIFEST-*'): os.remove(name)\nplyvel.repair_db('worn')\n{open_it}\ndb.compact_range()\ndb.close()")
+    judge(printed("./lsm scan worn | cksum", folder) == before, f"RepairDB and a compaction: {printed('./lsm scan worn --count', folder)}")
 
 
 def count_of(folder, name):
     return printed(f"./lsm scan {name} --count", folder)
-
-
-def by_leveldb(folder, lines):
-    return printed(f"python3 -c \"import plyvel\n{lines}\"", folder)
 
 
 def damaged(folder):
