@@ -4,16 +4,17 @@
 
 REFUSALS is checks/refusals/refusals.txt, READER what reader.cc makes, LEVELDB what
 checks/leveldb_directories/directory.cc makes, WORK an empty folder. Looked at are the folders that the rows
-of REFUSALS make; COUNT copies of LevelDB's, each with one damage; COUNT whose tables, of right checksums, hold
-entries, index keys and bounds that were drawn; and tables that spell far more bytes than they have.
+of REFUSALS make; LevelDB's, of each kind; COUNT copies of some of these, each with one damage; COUNT whose
+tables, of right checksums, hold entries, index keys and bounds that were drawn; and tables that spell far
+more bytes than they have.
 
 Of each folder:
 
 - a command ends within a minute, with status 0 or 1;
 - where `lsm check` is done, `--quick` prints what is printed without it, to the byte;
 - status 0 of `list` has the tables of the manifest, as reading.py reads it;
-- a value, and each line of a scan, also of one that is refused in the midst, stands in a whole block of a table
-  of the version, as reading.py reads them;
+- where it is not, a value, and each line of a scan, also of one that is refused in the midst, stands in a whole
+  block of a table of the version, as reading.py reads them;
 - status 0 of `get` has what LevelDB's `Get`, or its scan, reads there, `absent` too; that of `scan` what its scan
   reads, which passed nothing over; lines of a scan that is refused are the first that it reads. But not where a
   table's entries are not in order, or beyond the keys of its index or of the manifest.
@@ -186,12 +187,12 @@ class Looks:
             stop(path, f"list prints {listed[1]}, and the manifest has {there.list()}")
         others = []
         for at, (key, (status, out, _)) in enumerate(zip(keys, gets)):
-            if status == 0 and out != "absent\n" and not there.holds(key, bytes_of(out.split()[1])):
+            if checked and status == 0 and out != "absent\n" and not there.holds(key, bytes_of(out.split()[1])):
                 stop(path, f"the value of {spell(key)} stands in no table: {out}")
             if status == 0 and theirs and out.strip() not in (theirs[0][at], scanned(theirs, key)):
                 others.append(f"of {spell(key)} get answers {out}, and LevelDB {theirs[0][at]}, by a scan {scanned(theirs, key)}")
         lines = scan[1].splitlines()
-        for line in lines:
+        for line in lines if checked else []:
             key, value = map(bytes_of, line.split("="))
             if not there.holds(key, value):
                 stop(path, f"a line of the scan stands in no table: {line}")
@@ -288,9 +289,16 @@ def hurt(folder):
         path.write_bytes(data)
 
 
-def of_leveldb(looks):
-    for kind in KINDS:
+def of_whole_kinds(looks):
+    kinds = subprocess.run([LEVELDB, "kinds"], capture_output=True, text=True, check=True).stdout.split()
+    for kind in kinds if COUNT >= len(kinds) else KINDS:
         subprocess.run([LEVELDB, "make", WORK / kind, kind], check=True)
+        looks.look(WORK / kind)
+        if kind not in KINDS:
+            shutil.rmtree(WORK / kind)
+
+
+def of_damaged_kinds(looks):
     for turn in range(COUNT):
         folder = WORK / "db"
         shutil.rmtree(folder, ignore_errors=True)
@@ -371,7 +379,7 @@ def of_large_spellings(looks):
 
 def main():
     looks = Looks()
-    for part in (of_rows, of_leveldb, of_drawn_tables, of_large_spellings):
+    for part in (of_rows, of_whole_kinds, of_damaged_kinds, of_drawn_tables, of_large_spellings):
         before = looks.count
         part(looks)
         print(f"{part.__name__.replace('_', ' ')}: {looks.count - before} folders", flush=True)

@@ -6,9 +6,9 @@
 The folder is made there: COUNT tables of 2 MiB with two keys each at level 6, sparse: a data block, an
 index and a footer, the rest a hole. In each but one a byte of the data block and of the index block is
 another one. `get --quick` of a key of the whole one has to answer, within 40 microseconds of processor
-time a table and 30 ms, twice that for an unproved build, and of a key of another one to be refused; so a table that the key is not in is not read. A table that is gone,
-or is a byte longer, is refused with its number at once. Prints the processor time. Ends with status 1
-where it is not so.
+time a table and 30 ms, twice that for an unproved build, and of a key of another one to be refused; so
+a table that the key is not in is not read. A table that is gone, or is a byte longer, is refused with
+its number at once. Prints the processor time. Ends with status 1 where it is not so.
 """
 import os
 import resource
