@@ -4,9 +4,9 @@
 
 REFUSALS is checks/refusals/refusals.txt, READER what reader.cc makes, LEVELDB what
 checks/leveldb_directories/directory.cc makes, WORK an empty folder. Looked at are the folders that the rows
-of REFUSALS make; LevelDB's, of each kind; COUNT copies of some of these, each with one damage; COUNT whose
-tables, of right checksums, hold entries, index keys and bounds that were drawn; and tables that spell far
-more bytes than they have.
+of REFUSALS make; those of CASES, whose answers are known; pipes in the place of tables; LevelDB's, of each
+kind; COUNT copies of some of these, each with one damage; COUNT whose tables, of right checksums, hold
+entries, index keys and bounds that were drawn; and tables that spell far more bytes than they have.
 
 Of each folder:
 
@@ -185,6 +185,7 @@ class Looks:
                 stop(path, f"`check` is done, and --quick prints other things: {gets}, {scan[2]}, {listed[2]}")
         if listed[0] == 0 and sorted(listed[1].splitlines()[:-1]) != there.list():
             stop(path, f"list prints {listed[1]}, and the manifest has {there.list()}")
+        self.look_at_count(path, scan)
         others = []
         for at, (key, (status, out, _)) in enumerate(zip(keys, gets)):
             if checked and status == 0 and out != "absent\n" and not there.holds(key, bytes_of(out.split()[1])):
@@ -204,6 +205,13 @@ class Looks:
         self.compared += theirs is not None
         if checked:
             self.tell(refusal(why), gets, scan, listed)
+
+    def look_at_count(self, path, scan):
+        """A count ends as the scan does, and says nothing where that is refused."""
+        status, out, err = run(path, "scan", path, "--count", "--quick")
+        wanted = "" if scan[0] else f"{scan[1].count(chr(10))}\n"
+        if (status, out, err) != (scan[0], wanted, scan[2]):
+            stop(path, f"scan --count prints {out}{err}, and scan has {scan[1].count(chr(10))} lines: {scan[2]}")
 
     def tell(self, why, gets, scan, listed):
         row = self.rows.setdefault(why, {name: collections.Counter() for name in ("get", "scan", "list")})
@@ -354,6 +362,78 @@ def of_drawn_tables(looks):
         looks.look(folder)
 
 
+A_TO_E = [[("a@1+", b"A"), ("b@1+", b"B")], [("c@1+", b"C"), ("d@1+", b"D")], [("e@1+", b"E")]]
+CASES = (  # tables by number: level, blocks, bounds; which byte of table 4 is damaged; what check, get, scan and list answer
+    ({4: (1, A_TO_E, "a@1+", "e@1+")}, 60, "15", "A B 15 15 E", "aA bB 15", "all"),
+    ({4: (1, A_TO_E, "a@1+", "e@1+")}, -60, "15", "15 15 15 15 15", "15", "all"),
+    ({4: (1, A_TO_E, "a@1+", "e@1+")}, -1, "13", "13 13 13 13 13", "13", "all"),
+    ({4: (1, [[("b@1+", b"B"), ("a@1+", b"A")]], "a@1+", "b@1+")}, None, "8", "8 - - - -", "8", "all"),
+    ({4: (1, [[("a@9+", b"X"), ("a@1+", b"A")]], "a@9+", "a@1+")}, None, "32", "A - - - -", "aA", "all"),
+    ({4: (1, A_TO_E, "b@1+", "d@1+")}, None, "32", "- B C D -", "aA bB cC dD eE", "all"),
+    ({4: (1, A_TO_E, "a@1+", "f@1+")}, None, "32", "A B C D E", "aA bB cC dD eE", "all"),
+    ({4: (0, [[("a@1+", b"A")]], "a@1+", "a@1+"), 5: (1, [[("a@2+", b"N")]], "a@2+", "a@2+")}, None, "33", "A - - - -", "aN", "all"),
+    ({4: (0, [[("a@2+", b"N")]], "a@2+", "a@2+"), 5: (0, [[("a@1+", b"A")]], "a@1+", "a@1+")}, None, "33", "A - - - -", "aN", "all"),
+    ({4: (1, A_TO_E, "a@1+", "e@1+"), 5: (1, A_TO_E, "a@1+", "e@1+")}, None, "31", "31 31 31 31 31", "31", "31"),
+    ({4: (1, A_TO_E, "e@1+", "a@1+")}, None, "32", "32 32 32 32 32", "32", "32"),
+)
+
+
+def table_of(blocks):
+    """A table of these blocks, each as its last key has it in the index."""
+    made, index, ends = b"", [], []
+    for block in blocks:
+        text = files.block([(files.internal_key(key), value) for key, value in block])
+        index.append((files.internal_key(block[-1][0]), files.handle(len(made), len(text))))
+        made += text + b"\0" + files.masked_crc(text + b"\0")
+    for text in (files.block([]), files.block(index)):
+        ends.append(files.handle(len(made), len(text)))
+        made += text + b"\0" + files.masked_crc(text + b"\0")
+    return made + b"".join(ends).ljust(40, b"\0") + files.MAGIC.to_bytes(8, "little")
+
+
+def short(status, out, err):
+    """An answer, as CASES write it."""
+    said = [line.replace("=", "") for line in out.replace("value ", "").replace("absent", "-").splitlines()]
+    return " ".join(said + ([err.split()[1]] if status else []))
+
+
+def of_named_cases(looks):
+    folder = WORK / "db"
+    for tables, damaged, *wanted in CASES:
+        shutil.rmtree(folder, ignore_errors=True)
+        folder.mkdir()
+        made = {number: table_of(blocks) for number, (_, blocks, *_) in tables.items()}
+        put_manifest(folder, {it: (tables[it][0], len(made[it]), *map(files.internal_key, tables[it][2:])) for it in tables}, 5)
+        for number, text in made.items():
+            text = bytearray(text)
+            if damaged is not None:
+                text[damaged] ^= 1
+            (folder / f"{number:06}.ldb").write_bytes(text)
+        path = str(folder)
+        gets = [short(*run(path, "get", path, key, "--text", "--quick")) for key in "abcde"]
+        listed = run(path, "list", path, "--quick")
+        found = [run(path, "check", path)[2].split()[1], " ".join(gets), short(*run(path, "scan", path, "--text", "--quick"))]
+        found.append("all" if listed[0] == 0 else listed[2].split()[1])
+        if found != wanted:
+            stop(path, f"{tables} answers {found}, and not {wanted}")
+        looks.look(folder)
+
+
+def of_no_files(looks):
+    """A pipe, a folder and a link to nothing where the manifest has a table."""
+    folder, table = WORK / "db", WORK / "db" / "000004.ldb"
+    for make in (os.mkfifo, os.mkdir, lambda path: os.symlink("nothing", path)):
+        shutil.rmtree(folder, ignore_errors=True)
+        folder.mkdir()
+        put_manifest(folder, {4: (1, 4096, files.internal_key("a@1+"), files.internal_key("e@1+"))}, 5)
+        make(table)
+        for words in (["get", str(folder), "61"], ["scan", str(folder)], ["list", str(folder)]):
+            status, out, err = run(str(folder), *words, "--quick")
+            if status != 1 or out or refusal(err) not in ("9 Device", "10 Missing", "32 WrongRange"):
+                stop(str(folder), f"{words} --quick has status {status}, prints {out}{err}")
+        looks.count += 1
+
+
 def of_large_spellings(looks):
     """A table whose blocks share bytes, and one whose keys share nearly all of a long one."""
     folder = WORK / "db"
@@ -379,7 +459,7 @@ def of_large_spellings(looks):
 
 def main():
     looks = Looks()
-    for part in (of_rows, of_whole_kinds, of_damaged_kinds, of_drawn_tables, of_large_spellings):
+    for part in (of_rows, of_named_cases, of_no_files, of_whole_kinds, of_damaged_kinds, of_drawn_tables, of_large_spellings):
         before = looks.count
         part(looks)
         print(f"{part.__name__.replace('_', ' ')}: {looks.count - before} folders", flush=True)
