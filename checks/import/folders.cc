@@ -56,6 +56,7 @@ const Kind kKinds[] = {
     {"no_restarts", 30000, 10000, 50, 8, 8, 1, 1, false, true, 1 << 17, 4096, 1000, false},
     {"two_logs", 3000, 900, 60, 8, 7, 3, 0, false, false, 1 << 16, 4096, 16, true},
     {"tables_and_two_logs", 40000, 9000, 60, 8, 7, 3, 3, false, false, 1 << 17, 4096, 16, true},
+    {"log_of_64_mib", 20000, 8000, 7000, 8, 9, 5, 0, false, false, 1 << 28, 4096, 16, false},
 };
 
 // LevelDB asks for its flushes here, and they are not done.

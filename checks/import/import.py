@@ -1,5 +1,9 @@
-"""Imports folders of LevelDB, whole and damaged ones: import.py LSM LEVELDB WORK SEED FLIPS [KIND..]"""
+"""Imports folders of LevelDB, whole and damaged ones: import.py LSM MAKERS WORK SEED FLIPS [KIND..]
 
+MAKERS are programs, with a colon between two: each tells its `kinds`, and makes a folder of one; the first is
+LevelDB, which reads the folders."""
+
+import collections
 import random
 import re
 import shutil
@@ -7,7 +11,10 @@ import subprocess
 import sys
 from pathlib import Path
 
-LSM, LEVELDB = sys.argv[1:3]
+import places
+
+LSM, MAKERS = sys.argv[1], sys.argv[2].split(":")
+LEVELDB = MAKERS[0]
 WORK = Path(sys.argv[3])
 SEED, FLIPS = int(sys.argv[4]), int(sys.argv[5])
 LINE = re.compile(rb"tables (\d+) logs (\d+) entries (\d+) rest (\d+)\n")
@@ -30,11 +37,15 @@ def files_of(folder):
     return {path.name: path.read_bytes() for path in folder.iterdir()}
 
 
-def pairs_by_leveldb(folder):
-    """What LevelDB reads of a copy of the folder, or none where it refuses it."""
+def pairs_by(maker, folder):
+    """What a maker reads of a copy of the folder, or none where it refuses it."""
     shutil.copytree(folder, fresh("scanned"))
-    done = run(LEVELDB, "scan", WORK / "scanned", status=None)
+    done = run(maker, "scan", WORK / "scanned", status=None)
     return done.stdout if done.returncode == 0 else None
+
+
+def pairs_by_leveldb(folder):
+    return pairs_by(LEVELDB, folder)
 
 
 def imported(source):
@@ -58,14 +69,19 @@ def pairs_of(target):
     return ours
 
 
+def is_of_another(kind):
+    """Whether a maker that is not of LevelDB's kin says what the folder has."""
+    return kind.startswith(("rocksdb_", "goleveldb_"))
+
+
 def counted(many, word):
     return f"{many} {word}" if many == 1 else f"{many} {word}s"
 
 
-def whole(kind):
+def whole(maker, kind):
     source = fresh(f"whole_{kind}")
-    run(LEVELDB, "make", source, kind)
-    wanted = pairs_by_leveldb(source)
+    run(maker, "make", source, kind)
+    wanted = pairs_by(maker if is_of_another(kind) else LEVELDB, source)
     done, target = imported(source)
     told = LINE.fullmatch(done.stdout)
     if done.returncode != 0 or not told or done.stderr.replace(b"lsm: unproved build\n", b""):
@@ -83,35 +99,18 @@ def whole(kind):
     return source, wanted
 
 
-def damage(drawn, source, target):
-    """Copies the source with a table or a log damaged: the file, and what was done to it."""
-    shutil.copytree(source, target)
-    files = sorted(path for path in target.iterdir() if path.suffix in (".ldb", ".log"))
-    files = [path for path in files if path.stat().st_size > 0]
-    logs = [path for path in files if path.suffix == ".log"]
-    path = drawn.choice(logs if logs and drawn.random() < 0.5 else files)
-    data = bytearray(path.read_bytes())
-    if drawn.random() < 0.15:
-        place = drawn.randrange(len(data))
-        path.write_bytes(data[:place])
-        return path, f"{path.name} cut at {place}"
-    place = drawn.randrange(len(data))
-    if path.suffix == ".ldb" and drawn.random() < 0.3:
-        place = len(data) - 1 - drawn.randrange(min(len(data), 300))
-    data[place] ^= 1 << drawn.randrange(8)
-    path.write_bytes(data)
-    return path, f"a bit of byte {place} of {path.name} flipped"
-
-
 def damaged(sources):
-    drawn = random.Random(SEED)
-    refused = same = rest = 0
-    sources = [source for source in sources if any(p.suffix == ".ldb" or p.stat().st_size > 0
-               for p in source[0].glob("*.l*"))]
-    for turn in range(FLIPS if sources else 0):
-        source, wanted = drawn.choice(sources)
-        folder = fresh("damaged")
-        path, what = damage(drawn, source, folder)
+    """By the place of the damage, how the imports ended."""
+    drawn, ends = random.Random(SEED), {place: collections.Counter() for place in places.PLACES}
+    sources = [source for source in sources if not source[0].name.startswith("whole_rocksdb")]
+    for turn, place in enumerate(places.shared_out(FLIPS if sources else 0)):
+        hurt = None
+        while hurt is None:
+            source, wanted = drawn.choice(sources)
+            folder = fresh("damaged")
+            shutil.copytree(source, folder)
+            hurt = places.damage(drawn, folder, place, is_compressed=True)
+        path, what = hurt
         name = f"{source.name.removeprefix('whole_')}, turn {turn}, {what} (seed {SEED})"
         done, target = imported(folder)
         if done.returncode == 1:
@@ -119,27 +118,31 @@ def damaged(sources):
                 sys.exit(f"{name}: refused, and a database is there, or a line was printed")
             if b"refused " not in done.stderr:
                 sys.exit(f"{name}: {done.stderr.decode()}")
-            refused += 1
+            ends[place]["refused"] += 1
             continue
         told = LINE.fullmatch(done.stdout)
         if done.returncode != 0 or not told:
             sys.exit(f"{name}: status {done.returncode}: {done.stderr.decode()}")
         pairs = pairs_of(target)
-        if pairs == wanted:
-            same += 1
+        if pairs == wanted and place != places.BLOCK:
+            ends[place]["same"] += 1
         elif path.suffix == ".log" and (int(told[4]) > 0 or " cut " in what) and pairs == pairs_by_leveldb(folder):
-            rest += 1
+            ends[place]["rest"] += 1
         else:
-            sys.exit(f"{name}: the copy has other pairs than the whole folder has, and than LevelDB reads")
-    return refused, same, rest
+            sys.exit(f"{name}: a damaged block came in, or other pairs than the whole folder has, and than LevelDB reads")
+    return ends
 
 
 def main():
-    kinds = sys.argv[6:] or run(LEVELDB, "kinds").stdout.decode().split()
-    sources = [whole(kind) for kind in kinds]
-    refused, same, rest = damaged(sources)
-    print(f"{counted(len(kinds), 'kind')} of folders imported: the same pairs by LevelDB and by lsm; of {FLIPS} with"
-          f" damage {refused} refused, {same} the same, {rest} as LevelDB reads a cut log (seed {SEED})")
+    known = [(maker, kind) for maker in MAKERS for kind in run(maker, "kinds").stdout.decode().split()]
+    kinds = [(maker, kind) for maker, kind in known if kind in (sys.argv[6:] or [kind])]
+    sources = [whole(maker, kind) for maker, kind in kinds]
+    ends = damaged(sources)
+    logs, blocks, rest = (ends[place] for place in places.PLACES)
+    print(f"{counted(len(kinds), 'kind')} of folders imported: the same pairs by their makers and by lsm; of"
+          f" {logs.total()} damaged logs {logs['refused']} refused, {logs['same']} the same, {logs['rest']} as LevelDB"
+          f" reads a cut log; of {blocks.total()} compressed blocks {blocks['refused']} refused; of {rest.total()} tables elsewhere"
+          f" {rest['refused']}, the others the same (seed {SEED})")
 
 
 main()

@@ -6,7 +6,7 @@
 LSM is the program, LEVELDB the program that checks/leveldb_directories/directory.cc makes, KILL the library that kill.c makes, FOLDER an empty folder for the
 directories. Half of the kills come after a random time, half at a random one of the calls that change files, or half-way in a write.
 After each kill: `lsm check` is done; `lsm scan` gives all that was answered, and of the killed batch all or nothing (all, where its
-reply was printed). After every 20th kill, after each that left a manifest which ends within a record, and at a directory's end, LevelDB
+reply was printed); `scan`, `list` and `get` print the same with --quick. After every 20th kill, after each that left a manifest which ends within a record, and at a directory's end, LevelDB
 opens it and gives the same. Ends with status 1 at the first difference, and names the directory.
 """
 import os
@@ -93,6 +93,9 @@ class Killer:
         status, out, err = self.run(["scan", self.path])
         if status != 0 or plain.besides_crash(err):
             self.stop(f"lsm scan: status {status}, says: {err[:300]}")
+        differs = plain.quick_differs(lambda *words: self.run(list(words)), self.path, self.content, self.rng)
+        if differs:
+            self.stop(differs)
         return out.splitlines()
 
     def look(self, *contents):

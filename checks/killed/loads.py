@@ -6,7 +6,8 @@
 LSM is the program, LEVELDB the program that checks/leveldb_directories/directory.cc makes, KILL the library that kill.c makes, FOLDER an
 empty folder. Half of the kills come after a random time, half at a random one of the calls that change files, or half-way in a write.
 A directory gets LINES drawn lines; each run goes on behind the last line that is in. After each kill `lsm check` is done, and `lsm scan`
-gives what the first lines come to, up to some line M: all lines that the run said were in are among these. LevelDB gives the same after
+gives what the first lines come to, up to some line M: all lines that the run said were in are among these; `scan`, `list` and `get` print
+the same with --quick. LevelDB gives the same after
 every tenth kill and at each directory's end. Ends with status 1 at the first difference, and names the directory.
 """
 import os
@@ -77,6 +78,9 @@ class Loads:
         status, out, err = self.call("scan", self.path)
         if status or plain.besides_crash(err):
             self.stop(f"lsm scan: status {status}, says: {err[:300]}")
+        differs = plain.quick_differs(self.call, self.path, self.content, self.rng)
+        if differs:
+            self.stop(differs)
         there = dict((bytes.fromhex(key), value) for key, value in (line.split("=") for line in out.splitlines()))
         seen = max([int(bytes.fromhex(value[:16])) for value in there.values()], default=0)
         last = max(seen, told, self.at)

@@ -142,6 +142,16 @@ def main(words):
     sys.stdout.writelines(f"{line}\n" for line in lines)
 
 
+def quick_differs(run, path, content, rng):
+    """The first of `scan`, `list` and `get` that prints other things with --quick, or none; `run` takes the words."""
+    key = rng.choice(sorted(content)) if content and rng.random() < 0.8 else b"no key"
+    for words in (["scan", path], ["list", path], ["get", path, spell(key)]):
+        whole, quick = run(*words), run(*words, "--quick")
+        if whole != quick:
+            return f"lsm {' '.join(words)} has status {whole[0]}, and with --quick {quick[0]}, says: {quick[2][:200]}"
+    return None
+
+
 def besides_crash(said):
     """What is said beside the notes of what a crash leaves: a manifest that ends within a record, and
     one that was begun, and that `CURRENT` does not name yet."""

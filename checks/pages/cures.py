@@ -9,7 +9,8 @@ Without LevelDB:
 - A batch of `shell` that has no room: `commit`, `begin`, and the write once more.
 - Locks: a folder that another program holds, by `flock` as goleveldb or by `fcntl` as LevelDB, is
   `refused 52 Locked`, and done once that has ended.
-- A manifest that was cut short: `check` tells the rest.
+- A manifest that was cut short: `check` tells the rest, and `compact` is refused; once the longer one is put
+  back, all is read, and `recover` brings the log in.
 - A log: what reads tells of it, what writes is refused, `--beside-log` writes all the same, and
   `compact` and `clean` leave it.
 - The commands of examples/README.md, and the picture of `levels`; what README says of `rt version`,
@@ -24,7 +25,20 @@ below:
   the refusal has copies all pairs.
 - A log that is not flushed: `lsm put` is refused; once LevelDB has opened the folder without
   compression, all is read, and the put comes in.
-- A lost manifest: after LevelDB's `RepairDB` all is read.
+- A lost manifest: after LevelDB's `RepairDB`, and a compaction, all is read.
+- A damaged table: after `RepairDB` with `paranoid_checks` what was not in the damaged block is read; without them
+  nothing helps.
+- Handles with zeros behind them, as iq80 writes them: after `RepairDB` and a compaction all is read.
+- Another comparator: the pairs, printed by a program of LevelDB's and loaded.
+
+With goleveldb (golang-go, golang-github-syndtr-goleveldb-dev) and LevelDB:
+
+- A table that was added twice: one opening by LevelDB cures it, and two by goleveldb, without a write.
+- Old ages, by `RecoverFile`: a compaction in either.
+- More than seven levels: no compaction in goleveldb helps, and `RepairDB` with a compaction does.
+
+With RocksDB (librocksdb-dev), before it has flushed a table: `lsm import` copies all pairs; behind that the folder is
+refused, and the pairs are printed by a program of RocksDB's and loaded.
 
 Where the library or the program is not there, what needs it is not judged.
 """
@@ -41,26 +55,47 @@ from pathlib import Path
 
 from markdown import TOP
 
+sys.path.append(str(TOP / "checks" / "refusals"))
+import files  # noqa: E402
+import reading  # noqa: E402
+
 PAIRS = 5000
 PLYVEL = '''
 import ctypes, ctypes.util
 lib = ctypes.CDLL(ctypes.util.find_library("leveldb"))
-for name in ("options_create", "readoptions_create", "writeoptions_create", "open", "create_iterator", "iter_key", "iter_value"):
+for name in ("options_create", "readoptions_create", "writeoptions_create", "open", "create_iterator", "iter_key", "iter_value", "comparator_create"):
     getattr(lib, "leveldb_" + name).restype = ctypes.c_void_p
 lib.leveldb_iter_valid.restype = ctypes.c_ubyte
 lib.leveldb_iter_key.restype = lib.leveldb_iter_value.restype = ctypes.POINTER(ctypes.c_char)
 
-def repair_db(path):
-    error = ctypes.c_char_p()
-    lib.leveldb_repair_db(ctypes.c_void_p(lib.leveldb_options_create()), path.encode(), ctypes.byref(error))
+def repair_db(path, paranoid_checks=False):
+    options, error = ctypes.c_void_p(lib.leveldb_options_create()), ctypes.c_char_p()
+    lib.leveldb_options_set_compression(options, 0)
+    lib.leveldb_options_set_paranoid_checks(options, paranoid_checks)
+    lib.leveldb_repair_db(options, path.encode(), ctypes.byref(error))
     assert error.value is None, error.value
 
+@ctypes.CFUNCTYPE(ctypes.c_int, ctypes.c_void_p, ctypes.c_void_p, ctypes.c_size_t, ctypes.c_void_p, ctypes.c_size_t)
+def compare(state, one, length, other, size):
+    one, other = ctypes.string_at(one, length)[::-1], ctypes.string_at(other, size)[::-1]
+    return (one > other) - (one < other)
+
+@ctypes.CFUNCTYPE(ctypes.c_char_p, ctypes.c_void_p)
+def name_of(state):
+    return b"idb_cmp1"
+
+@ctypes.CFUNCTYPE(None, ctypes.c_void_p)
+def end(state):
+    return None
+
 class DB:
-    def __init__(self, path, compression="snappy"):
+    def __init__(self, path, compression="snappy", is_backwards=False):
         options, error = ctypes.c_void_p(lib.leveldb_options_create()), ctypes.c_char_p()
         lib.leveldb_options_set_create_if_missing(options, 1)
         lib.leveldb_options_set_write_buffer_size(options, ctypes.c_size_t(1 << 16))
         lib.leveldb_options_set_compression(options, 1 if compression else 0)
+        if is_backwards:
+            lib.leveldb_options_set_comparator(options, ctypes.c_void_p(lib.leveldb_comparator_create(None, end, compare, name_of)))
         self.db = ctypes.c_void_p(lib.leveldb_open(options, path.encode(), ctypes.byref(error)))
         assert error.value is None, error.value
 
@@ -170,6 +205,17 @@ def cut_manifest(folder):
     printed("truncate -s -1 cut/MANIFEST-000001", folder)
     rest = re.search(r"^rest (\d+)$", printed("./lsm check cut", folder), re.M)
     judge(rest is not None and int(rest[1]) > 0, "check does not tell a rest")
+    begin(folder, "longer")
+    printed("./lsm put longer 63 33; ./lsm put longer 64 34; cp longer/MANIFEST-* whole; truncate -s -1 longer/MANIFEST-*", folder)
+    write = (7).to_bytes(8, "little") + (1).to_bytes(4, "little") + b"\1\1e\0015"
+    (folder / "longer" / "000009.log").write_bytes(files.record(write))
+    judge(printed("./lsm scan longer 2> /dev/null", folder).count("=") == 3, "a cut manifest does not hide a table")
+    judge("refused 61 TornManifest" in printed("./lsm compact longer", folder), "compact behind a cut manifest is not refused")
+    printed("cp whole longer/$(cat longer/CURRENT)", folder)
+    said = printed("./lsm compact longer && ./lsm recover longer", folder)
+    judge(said.endswith("logs 1 entries 1 rest 0"), f"behind the longer manifest compact and recover say {said}")
+    said = printed("./lsm scan longer --strict", folder)
+    judge(said == "\n".join(f"6{it}=3{it}" for it in range(1, 6)), f"the longer manifest does not bring all back: {said}")
 
 
 def beside_log(folder):
@@ -235,12 +281,126 @@ def logged(folder):
     judge(printed("./lsm scan unflushed --count --strict", folder) == "100", f"the line of `lsm recover` does not cure: {said}")
 
 
+def by_leveldb(folder, lines):
+    return printed(f"python3 -c \"import plyvel\n{lines}\"", folder)
+
+
 def repaired(folder):
     begin(folder, "broken")
     printed("rm broken/CURRENT broken/MANIFEST-*", folder)
     judge(printed("./lsm scan broken", folder).startswith("refused 10 Missing"), "a lost manifest is not refused")
     printed("python3 -c \"import plyvel; plyvel.repair_db('broken')\"", folder)
     judge(printed("./lsm scan broken", folder) == "61=31\n62=32", f"RepairDB does not cure: {printed('./lsm scan broken', folder)}")
+    # (it puts each table at level 0, older ones too, so that ages may be open until a compaction)
+    open_it = "db = plyvel.DB('worn', compression=None)"
+    writes = "for i in range(60000):\n  key = b'%05d' % (i * 7919 % 9001)\n  db.put(key, b'%d' % i + bytes(i % 90))"
+    by_leveldb(folder, f"{open_it}\n{writes}\ndb.close()\n{open_it}\ndb.close()")
+    before = printed("./lsm scan worn | cksum", folder)
+    by_leveldb(folder, f"import glob, os\nfor name in glob.glob('worn/MANIFEST-*'): os.remove(name)\nplyvel.repair_db('worn')\n{open_it}\ndb.compact_range()\ndb.close()")
+    judge(printed("./lsm scan worn | cksum", folder) == before, f"RepairDB and a compaction: {printed('./lsm scan worn --count', folder)}")
+
+
+def count_of(folder, name):
+    return printed(f"./lsm scan {name} --count", folder)
+
+
+def damaged(folder):
+    printed("mkdir hurt; for i in {10000..19999}; do echo $i=value; done | ./lsm ingest hurt - --text", folder)
+    table = next((folder / "hurt").glob("*.ldb"))
+    data = bytearray(table.read_bytes())
+    data[50] ^= 1
+    table.write_bytes(data)
+    judge("refused 15 BadChecksum" in count_of(folder, "hurt"), "a damaged table is not refused")
+    printed("cp -r hurt hurt2", folder)
+    by_leveldb(folder, "plyvel.repair_db('hurt2')")
+    judge("refused 15 BadChecksum" in count_of(folder, "hurt2"), "RepairDB looks at checksums without paranoid_checks")
+    by_leveldb(folder, "plyvel.repair_db('hurt', paranoid_checks=True)")
+    left = count_of(folder, "hurt")
+    judge(left.isdigit() and 9500 < int(left) < 10000, f"behind RepairDB with paranoid_checks: {left}")
+
+
+def padded(folder):
+    """Handles of 20 bytes in the index of each table, and the manifest that has their new sizes."""
+    begin(folder, "padded")
+    place = folder / "padded"
+    manifest = place / (place / "CURRENT").read_text().strip()
+    tables, last = reading.version(manifest.read_bytes())
+    edit = files.field("comparator=leveldb.BytewiseComparator") + b"".join(map(files.field, ("log=0", "next=9", f"last={last}")))
+    for number, (_, _, *ends) in tables.items():
+        path = place / f"{number:06}.ldb"
+        table = path.read_bytes()
+        at = 0
+        for _ in range(2):
+            _, at = reading.varint(table[-48:], at)
+        meta, (offset, at) = table[-48:][:at], reading.varint(table[-48:], at)
+        found = reading.entries(reading.block(table, offset, reading.varint(table[-48:], at)[0]))
+        index = files.block([(key, handle.ljust(20, b"\0")) for key, handle in found])
+        made = table[:offset] + index + b"\0" + files.masked_crc(index + b"\0")
+        made += (meta + files.handle(offset, len(index))).ljust(40, b"\0") + files.MAGIC.to_bytes(8, "little")
+        path.write_bytes(made)
+        # (at level 2, below which nothing is: a compaction alone leaves it)
+        edit += b"\7" + b"".join(map(files.varint, (2, number, len(made)))) + b"".join(map(files.with_length, ends))
+    manifest.write_bytes(files.record(edit))
+    judge("refused 18 BadIndex" in count_of(folder, "padded"), "a handle with zeros behind it is not refused")
+    compact = "db = plyvel.DB('padded', compression=None)\ndb.compact_range()\ndb.close()"
+    by_leveldb(folder, compact)
+    judge("refused 18 BadIndex" in count_of(folder, "padded"), "a compaction alone cures padded handles of the last level")
+    by_leveldb(folder, "plyvel.repair_db('padded')")
+    by_leveldb(folder, compact)
+    said = printed("./lsm scan padded", folder)
+    judge(said == "61=31\n62=32", f"RepairDB and a compaction do not cure padded handles: {said}")
+
+
+def backwards(folder):
+    database = "db = plyvel.DB('backwards', is_backwards=True)"
+    by_leveldb(folder, f"{database}\nfor i in range(300): db.put(b'%03d' % i, b'v%d' % i)\ndb.compact_range()\ndb.close()")
+    judge("refused 29 OtherComparator" in count_of(folder, "backwards"), "another comparator is not refused")
+    by_leveldb(folder, f"{database}\nwith open('copied', 'w') as file:\n  for key, value in db: print(key.hex(), value.hex(), sep='=', file=file)")
+    printed("mkdir forwards; ./lsm load forwards copied", folder)
+    judge(count_of(folder, "forwards") == "300", "pairs of another comparator are not loaded")
+    judge(printed("./lsm get forwards 123 --text", folder) == "value v123", "a pair of another comparator is not loaded")
+
+
+def of_goleveldb(folder):
+    go = "PLAIN=1 ./makers/by_goleveldb"
+    printed(f"for key in a b c; do {go} put twice $key 1; done; cp -r twice twice2; cp -r twice twice3", folder)
+    judge("refused 30 DoubleFile" in count_of(folder, "twice"), "goleveldb adds no table twice")
+    printed(f"{go} open twice; {go} open twice; {go} open twice2", folder)
+    judge(count_of(folder, "twice") == "3", "two openings in goleveldb do not cure a table that was added twice")
+    judge("refused 30 DoubleFile" in count_of(folder, "twice2"), "one opening in goleveldb cures a table that was added twice")
+    by_leveldb(folder, "plyvel.DB('twice3', compression=None).close()")
+    judge(count_of(folder, "twice3") == "3", "an opening in LevelDB does not cure a table that was added twice")
+    pairs = len(printed(f"{go} make ages goleveldb_small; {go} open ages; {go} scan ages; {go} recover ages; cp -r ages ages2", folder).split("\n"))
+    judge("refused 33 AgeOrder" in count_of(folder, "ages"), "RecoverFile leaves no old ages")
+    printed(f"{go} compact ages", folder)
+    by_leveldb(folder, "db = plyvel.DB('ages2', compression=None)\ndb.compact_range()\ndb.close()")
+    for name in ("ages", "ages2"):
+        judge(count_of(folder, name) == str(pairs), f"a compaction does not cure old ages in {name}, of {pairs} pairs")
+    printed(f"{go} deep deep; {go} compact deep", folder)
+    judge("refused 23 BadLevel 7" in count_of(folder, "deep"), "a compaction in goleveldb cures a level 7")
+    # (RepairDB takes obsolete tables too, so that a key may be there twice until a compaction)
+    by_leveldb(folder, "plyvel.repair_db('deep')\ndb = plyvel.DB('deep', compression=None)\ndb.compact_range()\ndb.close()")
+    left = count_of(folder, "deep")
+    judge(left == "20000", f"RepairDB and a compaction do not cure a level 7: {left}")
+
+
+def of_rocksdb(folder):
+    rocks = "./makers/by_rocksdb"
+    pairs = len(printed(f"{rocks} make rocks rocksdb_log_alone; cp -r rocks rocks2; {rocks} scan rocks2", folder).split("\n"))
+    printed("mkdir rocks-new; ./lsm import rocks rocks-new", folder)
+    judge(count_of(folder, "rocks-new") == str(pairs), f"import copies other than the {pairs} pairs of RocksDB's log")
+    printed(f"{rocks} make rocks3 rocksdb_flushed", folder)
+    judge("refused 22 UnknownTag 103" in count_of(folder, "rocks3"), "a folder of RocksDB's is not refused")
+    printed(f"{rocks} scan rocks3 > rocks-pairs; mkdir rocks-copy; ./lsm load rocks-copy rocks-pairs", folder)
+    judge(printed("./lsm scan rocks-copy | cmp - rocks-pairs && echo same", folder) == "same", "RocksDB's pairs are not loaded as they were")
+
+
+def makers(folder):
+    """Makes the programs of checks/import that can be had, and says which can't."""
+    script = f"source {TOP}/checks/import/makers.sh; make_makers $PWD/makers; make_rocksdb $PWD/makers"
+    said = printed(f"mkdir makers; {script}", folder)
+    print("".join(f"{line}\n" for line in said.split("\n") if "not tried" in line and "plyvel" not in line), end="")
+    return {"by_goleveldb": of_goleveldb, "by_rocksdb": of_rocksdb}
 
 
 if not works(sys.argv[1]):
@@ -250,12 +410,16 @@ parts = [lost_current, old_names, full_batch, locks, cut_manifest, beside_log, e
 if ctypes.util.find_library("leveldb") is None:
     print("cures: compressed tables and logs not tried, for want of LevelDB's library")
 else:
-    parts += [compressed, logged, repaired]
+    parts += [compressed, logged, repaired, damaged, padded, backwards]
 with tempfile.TemporaryDirectory() as scratch:
     folder = Path(scratch)
     (folder / "lsm").symlink_to(Path(sys.argv[1]).resolve())
     (folder / "plyvel.py").write_text(PLYVEL)
     for part in parts:
         part(folder)
+    if damaged in parts:
+        for name, part in makers(folder).items():
+            if (folder / "makers" / name).exists():
+                part(folder)
 print(f"{passed} passed, {failed} failed")
 sys.exit(failed != 0)

@@ -8,9 +8,10 @@
 #                 clients/README.md shows is of clients/examples
 #   commands.py   each command of the program that a page names is one, and so is each option of it;
 #                 the table of COMMANDS has all of them
-#   cures.py      what pages and refusals tell a user to do helps: against a lost CURRENT, old names,
-#                 a full batch, locks, logs; with LevelDB's library also compressed tables and a lost
-#                 manifest
+#   cures.py      what pages and refusals tell a user to do helps: against a lost CURRENT, a cut
+#                 manifest, old names, a full batch, locks, logs; with LevelDB's library also against
+#                 compressed and damaged tables, a lost manifest, padded handles, another comparator;
+#                 with goleveldb's and RocksDB's what these leave
 #   mending.py    each file that CONTRIBUTING's table "What to mend" names is there
 #   names.py      each clause, call or test that the page of a crate names is in the sources
 #   form.py       the pages of the book and of crates are short, drawings are well-formed, as scripts

@@ -6,9 +6,9 @@ after a power cut in any of them (disk.py) is drawn, put into a folder, and open
 
 LSM is the program, LEVELDB the program that checks/leveldb_directories/directory.cc makes, FOLDER an empty folder, FORGET which syncs the
 disk leaves out (none). After each power cut: `lsm check` is done; `lsm scan` gives all that was answered, and of a batch that was not yet
-answered all or nothing; LevelDB opens the folder and gives the same, forwards, backwards and by key. A database goes on from what answered all or nothing; LevelDB opens the folder and gives the same, forwards, backwards and by key. A database goes on from what one of
-its power cuts left. With garbage there may be other bytes behind the durable ones of a file; then a manifest that no answer stands on may
-also be refused for its damage, at a place where such bytes stand.
+answered all or nothing; `scan`, `list` and `get` print the same with --quick; LevelDB opens the folder and gives the same, forwards,
+backwards and by key. A database goes on from what one of its power cuts left. With garbage there may be other bytes behind the durable
+ones of a file; then a manifest that no answer stands on may also be refused for its damage, at a place where such bytes stand.
 
 Ends with status 1 at the first difference, and names the folder. Where a sync is forgotten, the first difference after a power cut is the
 loss that has to be found: status 3. Status 1 too where no power cut was within an install by 1 worker, one by 4, or a roll-over.
@@ -96,6 +96,9 @@ class Cutter:
         refusal = DAMAGE.match(err)
         if status == 1 and refusal and len(contents) > 1 and self.is_of_garbage(found, other, refusal):
             self.counts["damaged"] += 1
+            quick = self.run("scan", self.left, "--quick")
+            if quick[:2] != (1, "") or not quick[2].startswith(refusal[0]):
+                raise Difference(f"lsm scan --quick: status {quick[0]}, says: {quick[2][:300].strip()}")
             return DAMAGED
         if status or err:
             raise Difference(f"lsm check: status {status}, says: {err[:300].strip()}")
@@ -104,6 +107,9 @@ class Cutter:
         status, out, err = self.run("scan", self.left)
         if status or plain.besides_crash(err):
             raise Difference(f"lsm scan: status {status}, says: {err[:300].strip()}")
+        differs = plain.quick_differs(self.run, self.left, contents[-1] or {}, self.rng)
+        if differs:
+            raise Difference(differs)
         scanned = out.splitlines()
         for content in contents:
             if content is not None and scanned == plain.list_lines(content):

@@ -1,5 +1,8 @@
-"""Recovers folders of LevelDB, whole and damaged: recover.py LSM LEVELDB WORK SEED FLIPS KILLS [KIND..]"""
+"""Recovers folders of LevelDB, whole and damaged: recover.py LSM MAKERS WORK SEED FLIPS KILLS [KIND..]
 
+MAKERS as of checks/import/import.py."""
+
+import collections
 import os
 import random
 import re
@@ -9,7 +12,11 @@ import sys
 import time
 from pathlib import Path
 
-LSM, LEVELDB = sys.argv[1:3]
+sys.path.insert(0, os.path.join(os.path.dirname(os.path.abspath(__file__)), "..", "import"))
+import places  # noqa: E402
+
+LSM, MAKERS = sys.argv[1], sys.argv[2].split(":")
+LEVELDB = MAKERS[0]
 WORK = Path(sys.argv[3])
 SEED, FLIPS, KILLS = map(int, sys.argv[4:7])
 LINE = re.compile(rb"logs (\d+) entries (\d+) rest (\d+)\n")
@@ -17,7 +24,7 @@ REUSED = ["one_in_a_log", "batches", "bloom", "reopened_often", "two_logs", "tab
 
 
 def run(*words, status=0, reuse=False):
-    environment = os.environ | ({"REUSE_LOGS": "1"} if reuse else {})
+    environment = os.environ | {"PLAIN": "1"} | ({"REUSE_LOGS": "1"} if reuse else {})
     done = subprocess.run([str(word) for word in words], capture_output=True, timeout=600, env=environment)
     if status is not None and done.returncode != status:
         sys.exit(f"{words}: status {done.returncode}: {done.stderr.decode()}")
@@ -105,9 +112,19 @@ def cleaned(source, wanted, kind):
         sys.exit(f"{kind}: cleaned behind its recovery it has other pairs")
 
 
-def whole(kind, reuse):
+def by_goleveldb(maker, source, wanted, kind):
+    """goleveldb reads in a recovered folder what it read before."""
+    for name in ("scanned", "recovered"):
+        copied(source, name)
+    run(LSM, "recover", WORK / "recovered")
+    for name in ("scanned", "recovered"):
+        if run(maker, "scan", WORK / name).stdout != wanted:
+            sys.exit(f"{kind}: goleveldb reads other pairs of the folder {name}")
+
+
+def whole(maker, kind, reuse):
     source = fresh(f"whole_{kind}{'_reused' if reuse else ''}")
-    run(LEVELDB, "make", source, kind, reuse=reuse)
+    run(maker, "make", source, kind, reuse=reuse)
     kind += " by reuse_logs" if reuse else ""
     wanted = pairs_by_leveldb(source)
     folder = copied(source, "recovered")
@@ -125,36 +142,22 @@ def whole(kind, reuse):
     again(folder, kind)
     beside_orphans(source, wanted, kind)
     cleaned(source, wanted, kind)
+    if kind.startswith("goleveldb_"):
+        by_goleveldb(maker, source, wanted, kind)
     print(f"{kind}: {done.stdout.decode().strip()}, {counted(wanted.count(10), 'pair')}, the same", flush=True)
     return source, wanted
 
 
-def damage(drawn, target):
-    """Damages a table or a log: the file, and what was done to it."""
-    files = sorted(path for path in target.iterdir() if path.suffix in (".ldb", ".log"))
-    files = [path for path in files if path.stat().st_size > 0]
-    logs = [path for path in files if path.suffix == ".log"]
-    path = drawn.choice(logs if logs and drawn.random() < 0.5 else files)
-    data = bytearray(path.read_bytes())
-    if drawn.random() < 0.15:
-        place = drawn.randrange(len(data))
-        path.write_bytes(data[:place])
-        return path, f"{path.name} cut at {place}"
-    place = drawn.randrange(len(data))
-    if path.suffix == ".ldb" and drawn.random() < 0.3:
-        place = len(data) - 1 - drawn.randrange(min(len(data), 300))
-    data[place] ^= 1 << drawn.randrange(8)
-    path.write_bytes(data)
-    return path, f"a bit of byte {place} of {path.name} flipped"
-
-
 def damaged(sources):
-    drawn = random.Random(SEED)
-    refused = same = rest = 0
-    for turn in range(FLIPS if sources else 0):
-        source, wanted = drawn.choice(sources)
-        folder = copied(source, "damaged")
-        path, what = damage(drawn, folder)
+    """By the place of the damage, how the recoveries ended."""
+    drawn, ends = random.Random(SEED), {place: collections.Counter() for place in places.PLACES}
+    for turn, place in enumerate(places.shared_out(FLIPS if sources else 0)):
+        hurt = None
+        while hurt is None:
+            source, wanted = drawn.choice(sources)
+            folder = copied(source, "damaged")
+            hurt = places.damage(drawn, folder, place)
+        path, what = hurt
         name = f"{source.name.removeprefix('whole_')}, turn {turn}, {what} (seed {SEED})"
         before = files_of(folder)
         theirs = pairs_by_leveldb(folder)
@@ -165,20 +168,20 @@ def damaged(sources):
                 sys.exit(f"{name}: refused, and a line was printed, or a file is not as it was")
             if b"refused " not in done.stderr:
                 sys.exit(f"{name}: {done.stderr.decode()}")
-            refused += 1
+            ends[place]["refused"] += 1
             continue
         told = told_by(done, name)
         if told == [0, 0, 0] and path.stat().st_size == 0:
-            rest += 1
+            ends[place]["rest"] += 1
             continue
         pairs = pairs_of(folder)
-        if pairs == wanted:
-            same += 1
+        if pairs == wanted and place != places.BLOCK:
+            ends[place]["same"] += 1
         elif path.suffix == ".log" and (told[2] > 0 or " cut " in what) and pairs == theirs:
-            rest += 1
+            ends[place]["rest"] += 1
         else:
-            sys.exit(f"{name}: it has other pairs than the whole folder has, and than LevelDB reads")
-    return refused, same, rest
+            sys.exit(f"{name}: a damaged block came in, or other pairs than the whole folder has, and than LevelDB reads")
+    return ends
 
 
 def killed(sources):
@@ -205,14 +208,18 @@ def killed(sources):
 
 
 def main():
-    kinds = sys.argv[7:] or run(LEVELDB, "kinds").stdout.decode().split()
-    sources = [whole(kind, reuse) for kind in kinds for reuse in (False, True) if not reuse or kind in REUSED]
+    known = [(maker, kind) for maker in MAKERS for kind in run(maker, "kinds").stdout.decode().split()]
+    kinds = [(maker, kind) for maker, kind in known if kind in (sys.argv[7:] or [kind])]
+    sources = [whole(maker, kind, reuse) for maker, kind in kinds for reuse in (False, True) if not reuse or kind in REUSED]
     sources = [source for source in sources if any(path.stat().st_size > 0 for path in source[0].glob("*.log"))]
-    refused, same, rest = damaged(sources)
+    ends = damaged(sources)
     stopped = killed(sources)
-    print(f"{counted(len(kinds), 'kind')} of folders recovered: the same pairs by LevelDB and by lsm; of {FLIPS} with"
-          f" damage {refused} refused, {same} the same, {rest} as LevelDB reads a cut log; of {KILLS} that were killed"
-          f" {stopped} in time, nothing was lost (seed {SEED})")
+    logs, blocks, rest = (ends[place] for place in places.PLACES)
+    print(f"{counted(len(kinds), 'kind')} of folders recovered: the same pairs by LevelDB and by lsm; of {logs.total()}"
+          f" damaged logs {logs['refused']} refused, {logs['same']} the same, {logs['rest']} as LevelDB reads a cut log; of"
+          f" {blocks.total()} data blocks {blocks['refused']} refused; of {rest.total()} tables elsewhere {rest['refused']}, the others"
+          f" the same; of {KILLS} that were killed {stopped} in time, nothing was lost"
+          f" (seed {SEED})")
 
 
 main()

@@ -231,10 +231,10 @@ def talk(making, words):
 
 
 def listing():
-    """The files of `db`, each with its size, but for the lock's."""
+    """The files of `db`, each with its size, but for the lock's; of a folder there is no size."""
     if not os.path.isdir("db"):
         return {}
-    return {it.name: it.stat().st_size for it in os.scandir("db") if it.name != "LOCK"}
+    return {it.name: it.stat().st_size if it.is_file() else 0 for it in os.scandir("db") if it.name != "LOCK"}
 
 
 class Row:
@@ -266,6 +266,7 @@ class Row:
         else:
             said = "".join(line + "\n" for line in making.said).encode()
             status, out, err = run(self.words, said, making.out, making.limits)
+        self.printed = out + err
         for file in making.held:
             file.close()
         self.status = status
@@ -306,20 +307,34 @@ class Row:
         return found
 
 
-def wanted_numbers(path):
-    """The numbers of the table of FORMATS, but for those that are answered no more."""
-    numbers = set()
+def table_of(path):
+    """By its number, of each refusal in the table of FORMATS: its name, how many fields it has, and
+    whether it is answered no more."""
+    rows = {}
     with open(path) as file:
-        for line in file.read().split("\n## Refusals\n")[1].splitlines():
-            found = re.match(r"\| (\d+(?:, \d+)*) \|", line)
-            if found and "answered no more" not in line:
-                numbers.update(int(it) for it in found.group(1).split(", "))
-    return numbers
+        text = file.read().split("\n## Refusals\n")[1]
+    for row in re.findall(r"^\| (\d+(?:, \d+)*) \| (.*?) \| (.*) \|$", text, re.M):
+        names = re.findall(r"(\w+)(?:\(([^)]*)\))?(?:, |$)", row[1])
+        for number, (name, fields) in zip(row[0].split(", "), names, strict=True):
+            rows[int(number)] = name, len(fields.split(", ")) if fields else 0, "answered no more" in row[2]
+    return rows
+
+
+def unlike(table, command, said):
+    """What of the refusals that stand in these lines is not as the table, and the text before it, has it."""
+    for number, name, rest in re.findall(r"\brefused (\d+)(?: (\w+))?([^\n]*)", said):
+        wanted, count, _ = table.get(int(number), (None, 0, False))
+        fields = rest.partition(" in ")[0].partition(": ")[0].split()
+        if name != wanted or len(fields) != count:
+            yield f"`refused {number} {name}{rest}`, but FORMATS has {number} as {wanted} with {count} fields"
+        if " in " in rest and command not in ("check", "scan"):
+            yield f"`refused {number} {name}{rest}` by {command}, and FORMATS has the file on a second line"
 
 
 def main():
     passed = failed = known = 0
     given, never = set(), set()
+    table = table_of(sys.argv[3])
     with open(sys.argv[2]) as file:
         texts = [line.strip() for line in file if line.strip() and not line.startswith("#")]
     for text in texts:
@@ -332,8 +347,11 @@ def main():
             given.add(int(found.group(1)))
         if sys.argv[4:] and row.name not in sys.argv[4:]:
             continue
-        faults = list(row.faults())
-        if row.known and faults:
+        faults, others = list(row.faults()), list(unlike(table, row.words[0], row.printed))
+        if others:
+            failed += 1
+            print(f"FAILED: {row.name}: {'; '.join(others)}")
+        elif row.known and faults:
             known += 1
             print(f"known: {row.name}: {row.known}")
         elif row.known:
@@ -344,7 +362,7 @@ def main():
             print(f"FAILED: {row.name}: {'; '.join(faults)}")
         else:
             passed += 1
-    for number in sorted(wanted_numbers(sys.argv[3]) - given - never):
+    for number in sorted({it for it in table if not table[it][2]} - given - never):
         failed += 1
         print(f"FAILED: no row makes refusal {number}")
     print(f"{known} known to be wrong")

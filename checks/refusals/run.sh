@@ -3,7 +3,8 @@
 # exit status, the first line, and what stands behind it; and sees that no file came or changed.
 # run.sh [ROW..]: these rows alone. A row with a mark is known to be wrong: it is printed, and fails
 # once it is right, so that the mark is taken away. Each number of docs/FORMATS.md has a row, or a
-# line that says why no run is refused by it.
+# line that says why no run is refused by it; and each refusal that is printed, on a first line or
+# behind it, has the name and as many fields as its number has there.
 #
 # Needs python3. LSM=/path/to/lsm names a built program. The last line is `N passed, M failed`.
 set -euo pipefail
