@@ -127,6 +127,9 @@ quick = flag (codes "quick")
 abbrev pub last_line : Rule
 last_line = flag (codes "last-line")
 
+abbrev pub json : Rule
+json = flag (codes "json")
+
 abbrev pub progress : Rule
 progress = flag (codes "progress")
 
@@ -171,7 +174,7 @@ unfoldable pub scan : App
 scan =
     command (codes "scan")
     (folder ∷ valued (codes "from") ∷ valued (codes "to") ∷ valued (codes "prefix") ∷ limit ∷ text
-    ∷ flag (codes "keys") ∷ flag (codes "json")
+    ∷ flag (codes "keys") ∷ json
     ∷ flag (codes "count") ∷ quick ∷ strict ∷ compare ∷ progress ∷ wait ∷ [])
 
 unfoldable pub ingest : App
@@ -189,7 +192,7 @@ delete = command (codes "delete")
 
 unfoldable pub load : App
 load = command (codes "load") (folder ∷ file ∷ text ∷ begin ∷ beside_log ∷ recovers ∷ workers
-    ∷ from_line ∷ last_line ∷ compare ∷ progress ∷ wait ∷ [])
+    ∷ from_line ∷ last_line ∷ json ∷ compare ∷ progress ∷ wait ∷ [])
 
 unfoldable pub import_folder : App
 import_folder = command (codes "import") (word (codes "SRC") ∷ word (codes "DST") ∷ compare ∷ [])

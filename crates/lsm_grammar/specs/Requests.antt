@@ -238,6 +238,12 @@ scan_output_in rows =
     else if is_set (codes "keys") rows then Keys
     else Pairs
 
+-- of a load `--json` and `--text` exclude one another
+abbrev pub json_in : List Row → Option Bool
+json_in rows =
+    if is_set (codes "json") rows then (if is_set (codes "text") rows then None else Some true)
+    else Some false
+
 -- `--files` and `--svg` exclude one another
 abbrev pub levels_output_in : List Row → Option LevelsOutput
 levels_output_in rows =
@@ -296,6 +302,7 @@ AreLoadOptions rows options =
     × AreWorkers (word_in (codes "workers") rows) options.workers
     × IsLineNumber (word_in (codes "from-line") rows) options.from_line
     × (options.last_line ≡ is_set (codes "last-line") rows)
+    × (json_in rows ≡ Some options.json)
     × (options.progress ≡ is_set (codes "progress") rows)
 
 -- the word names these benchmarks

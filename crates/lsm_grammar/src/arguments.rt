@@ -235,6 +235,9 @@ pub(crate) const BAIL: Argument = Argument::Flag(
     "End behind the first bad or refused line",
 );
 
+/// Lines that are loaded are JSON objects.
+pub(crate) const JSON_LINES: Argument = Argument::Flag("json", "Each line is a JSON object");
+
 /// A last line that may have been cut is loaded.
 pub(crate) const LAST_LINE: Argument = Argument::Flag(
     "last-line",

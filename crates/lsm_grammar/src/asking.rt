@@ -10,7 +10,7 @@ ghost use Rattle.lsm_grammar.specs.Requests.{IsAsked, IsBound, IsInput};
 ghost use Rattle.lsm_grammar.specs.Requests.{IsKeyWrite, IsLimit, IsLook, IsMannerIn};
 ghost use Rattle.lsm_grammar.specs.Requests.{IsNumberIn, IsRange, IsSpelled, IsWithin, IsWorkersWord};
 ghost use Rattle.lsm_grammar.specs.Requests.{IsWrite, Reads, form_in};
-ghost use Rattle.lsm_grammar.specs.Requests.{get_output_in, is_set, levels_output_in};
+ghost use Rattle.lsm_grammar.specs.Requests.{get_output_in, is_set, json_in, levels_output_in};
 ghost use Rattle.lsm_grammar.specs.Requests.{name_of_conversion, name_of_look, name_of_value};
 ghost use Rattle.lsm_grammar.specs.Requests.{name_of_write, rows_in};
 ghost use Rattle.lsm_grammar.specs.Requests.{scan_output_in, topic_in, topic_of, word_in};
@@ -242,7 +242,20 @@ pub(crate) fn between_in(word: Option<&str>, least: u64, most: u64) -> Option<u6
     Some(number)
 }
 
-/// How lines are to be loaded. `None` where a word names no workers, or no line.
+/// Whether lines that are loaded are JSON objects. `None` where both `--json` and `--text` are
+/// there.
+fn json_in(found: &ArgMatches<'_>) -> Option<bool>
+    ensures { result ≡ json_in (rows_in found.now) }
+{
+    match (is_set(found, "json"), is_set(found, "text")) {
+        (true, true) => None,
+        (true, false) => Some(true),
+        (false, _) => Some(false),
+    }
+}
+
+/// How lines are to be loaded. `None` where a word names no workers, or no line, or both `--json`
+/// and `--text` are there.
 fn load_options_in(found: &ArgMatches<'_>) -> Option<LoadOptions>
     ensures some { IfSome result (AreLoadOptions (rows_in found.now)) }
     ensures none { IfNone result ((options : LoadOptions)
@@ -253,6 +266,7 @@ fn load_options_in(found: &ArgMatches<'_>) -> Option<LoadOptions>
         workers: workers_of(found)?,
         from_line: between_in(word_in(found, "from-line"), 1, u64::MAX)?,
         last_line: is_set(found, "last-line"),
+        json: json_in(found)?,
         progress: is_set(found, "progress"),
     })
 }

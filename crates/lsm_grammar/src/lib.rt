@@ -21,6 +21,7 @@ mod command_line;
 mod command_name;
 mod grammar;
 mod pages;
+mod usage;
 mod usage_fault;
 
 // What holds of words that ask for help.

@@ -2,11 +2,10 @@
 
 use crate::arguments::{
     ACCEPT_REST, ALL, Argument, BAIL, BATCH, BEGIN, BENCHMARKS, BESIDE_LOG, COMPACTORS, COMPARE,
-    COUNT, EXISTS, FILES, FIRST, FOLDER, FROM, FROM_LINE, JSON, KEY, KEYS, LAST, LAST_LINE, LIMIT,
-    NUM, PREFIX, PROGRESS, QUICK, RAW, RECOVERS, SOME_WORKERS, SOURCE, STRICT, SVG, TARGET, TEXT,
-    TO, VALUE, VALUE_SIZE, VERIFIERS, WAIT, WORKERS,
+    COUNT, EXISTS, FILES, FIRST, FOLDER, FROM, FROM_LINE, JSON, JSON_LINES, KEY, KEYS, LAST,
+    LAST_LINE, LIMIT, NUM, PREFIX, PROGRESS, QUICK, RAW, RECOVERS, SOME_WORKERS, SOURCE, STRICT,
+    SVG, TARGET, TEXT, TO, VALUE, VALUE_SIZE, VERIFIERS, WAIT, WORKERS,
 };
-use crate::command_name::{CommandName, named};
 
 /// A command as its help shows it.
 #[derive(Clone, Copy)]
@@ -464,6 +463,7 @@ const LOAD: Page = Page {
         WORKERS,
         FROM_LINE,
         LAST_LINE,
+        JSON_LINES,
         COMPARE,
         PROGRESS,
         WAIT,
@@ -473,7 +473,9 @@ const LOAD: Page = Page {
 into the LevelDB folder DIR, and prints `loaded L lines in B batches`. A line is
 `KEY=VALUE` for a new value of KEY, or `KEY!` where it is deleted; of one key the
 last line wins. There may be any number of lines, in any order. KEY and VALUE are
-hex, or text with --text, `.` for no bytes: `scan` prints such lines.
+hex, or text with --text, `.` for no bytes: `scan` prints such lines. With --json
+a line is a JSON object, `{\"key\":\"..\",\"value\":\"..\"}`, as `scan --json` prints
+them, also with bytes in base64; it excludes --text.
 
 FILE is read as a stream, in memory that does not grow with it. As many lines as
 a batch may have, 65536 with 4194304 bytes of keys and values together, come in
@@ -500,6 +502,7 @@ Exit status: 0 all lines are in, and nothing is due, 1 refused, 2 bad command
 line. After a `write fault` all lines are in; after `refused 9 Device` one batch
 more than is said may be in.",
     example: "Examples: lsm scan old --text | lsm load db --text
+          lsm scan old --json | lsm load db --json
           lsm load db words.txt --text --workers 4 --progress
           lsm load db words.txt --text --from-line 131073",
 };
@@ -737,57 +740,3 @@ pub(crate) const COMMANDS: [Page; 20] = [
     MAKE_TABLE, DUMP, MANIFEST, SCRIPT, CHECK, LIST, LEVELS, GET, SCAN, INGEST, PUT, DELETE, LOAD,
     IMPORT, RECOVER, COMPACT, CLEAN, SHELL, BENCH, HELP,
 ];
-
-/// How a command is used.
-fn usage(name: CommandName) -> &'static str {
-    match name {
-        CommandName::MakeTable => "lsm mktable [FILE]",
-        CommandName::Dump => "lsm dump [FILE]",
-        CommandName::Manifest => "lsm manifest [FILE]",
-        CommandName::Script => "lsm script [FILE]",
-        CommandName::Check =>
-            "lsm check <DIR> [--workers <N>] [--strict] [--compare] [--progress] [--wait <SECONDS>]",
-        CommandName::List =>
-            "lsm list <DIR> [--text] [--quick] [--strict] [--compare] [--wait <SECONDS>]",
-        CommandName::Levels => "lsm levels <DIR> [--text] [--files] [--svg] [--strict]",
-        CommandName::Get =>
-            "lsm get <DIR> <KEY> [--text] [--raw] [--exists] [--quick] [--strict] [--compare] \
-             [--wait <SECONDS>]",
-        CommandName::Scan =>
-            "lsm scan <DIR> [--from <KEY>] [--to <KEY>] [--prefix <KEY>] [--limit <N>] [--text] \
-             [--keys] [--json] [--count] [--quick] [--strict] [--compare] [--progress] \
-             [--wait <SECONDS>]",
-        CommandName::Ingest =>
-            "lsm ingest <DIR> <FILE> [--text] [--begin] [--beside-log] [--recover] [--compare] \
-             [--wait <SECONDS>]",
-        CommandName::Put =>
-            "lsm put <DIR> <KEY> <VALUE> [--text] [--begin] [--beside-log] [--recover] [--compare] \
-             [--wait <SECONDS>]",
-        CommandName::Delete =>
-            "lsm delete <DIR> <KEY> [--text] [--begin] [--beside-log] [--recover] [--compare] \
-             [--wait <SECONDS>]",
-        CommandName::Load =>
-            "lsm load <DIR> [FILE] [--text] [--begin] [--beside-log] [--recover] [--workers <N>] \
-             [--from-line <I>] [--last-line] [--compare] [--progress] [--wait <SECONDS>]",
-        CommandName::Import => "lsm import <SRC> <DST> [--compare]",
-        CommandName::Recover => "lsm recover <DIR> [--compare] [--wait <SECONDS>]",
-        CommandName::Compact =>
-            "lsm compact <DIR> [--all] [--from <KEY>] [--to <KEY>] [--text] [--workers <N>] \
-             [--accept-rest] [--compare] [--progress] [--wait <SECONDS>]",
-        CommandName::Clean => "lsm clean <DIR> [--accept-rest] [--wait <SECONDS>]",
-        CommandName::Shell =>
-            "lsm shell <DIR> [--text] [--begin] [--beside-log] [--recover] [--workers <N>] \
-             [--bail] [--compare] [--wait <SECONDS>]",
-        CommandName::Bench =>
-            "lsm bench <DIR> [--benchmarks <LIST>] [--num <N>] [--value-size <N>] [--workers <N>]",
-        CommandName::Help => "lsm help [COMMAND]",
-    }
-}
-
-/// How the command of this name is used.
-pub(crate) fn usage_of(name: &str) -> &'static str {
-    match named(name) {
-        Some(name) => usage(name),
-        None => "lsm <COMMAND>",
-    }
-}

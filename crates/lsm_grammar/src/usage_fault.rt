@@ -138,12 +138,24 @@ fn first_wrong_number<'a>(found: &ArgMatches<'a>) -> Option<UsageFault<'a>> {
     None
 }
 
-/// What is wrong with the words of a command.
-fn fault_of<'a>(found: &ArgMatches<'a>) -> Option<UsageFault<'a>> {
+/// What is wrong with options that exclude one another.
+fn excluding<'a>(found: &ArgMatches<'a>) -> Option<UsageFault<'a>> {
     if is_set(found, "files") && is_set(found, "svg") {
         return Some(UsageFault::Word("--files", "and `--svg` exclude one another"));
     }
-    first_wrong_bytes(found).or(first_wrong_number(found))
+    // A scan, which has no such argument, may have both.
+    let loads = word_in(found, "from-line").is_some();
+    if loads && is_set(found, "json") && is_set(found, "text") {
+        return Some(UsageFault::Word("--json", "and `--text` exclude one another"));
+    }
+    None
+}
+
+/// What is wrong with the words of a command.
+fn fault_of<'a>(found: &ArgMatches<'a>) -> Option<UsageFault<'a>> {
+    excluding(found)
+        .or(first_wrong_bytes(found))
+        .or(first_wrong_number(found))
 }
 
 /// What is wrong with the words of the command that was found.
