@@ -35,6 +35,7 @@ fn usage(name: CommandName) -> &'static str {
              [--from-line <I>] [--last-line] [--json] [--compare] [--progress] [--wait <SECONDS>]",
         CommandName::Import => "lsm import <SRC> <DST> [--compare]",
         CommandName::Recover => "lsm recover <DIR> [--compare] [--wait <SECONDS>]",
+        CommandName::Repair => "lsm repair <DIR> [--compare] [--wait <SECONDS>]",
         CommandName::Compact =>
             "lsm compact <DIR> [--all] [--from <KEY>] [--to <KEY>] [--text] [--workers <N>] \
              [--accept-rest] [--compare] [--progress] [--wait <SECONDS>]",
