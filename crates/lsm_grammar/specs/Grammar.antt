@@ -212,8 +212,8 @@ clean = command (codes "clean") (folder ∷ accept_rest ∷ wait ∷ [])
 
 unfoldable pub shell : App
 shell = command (codes "shell")
-    (folder ∷ text ∷ begin ∷ beside_log ∷ recovers ∷ compactors ∷ flag (codes "bail") ∷ compare
-    ∷ wait ∷ [])
+    (folder ∷ text ∷ begin ∷ beside_log ∷ recovers ∷ compactors ∷ flag (codes "bail")
+    ∷ flag (codes "read-only") ∷ compare ∷ wait ∷ [])
 
 unfoldable pub bench : App
 bench = command (codes "bench") (folder ∷ benchmarks ∷ num ∷ value_size ∷ some_workers ∷ [])

@@ -308,6 +308,18 @@ AreLoadOptions rows options =
     × (json_in rows ≡ Some options.json)
     × (options.progress ≡ is_set (codes "progress") rows)
 
+-- a shell is to begin, to write beside a log, to bring logs in, or to compact
+abbrev pub writes_beside : List Row → Bool
+writes_beside rows =
+    is_set (codes "begin") rows || is_set (codes "beside-log") rows
+    || is_set (codes "recover") rows || is_some (word_in (codes "workers") rows)
+
+-- `--read-only` excludes `--begin`, `--beside-log`, `--recover` and `--workers`
+abbrev pub reads_only_in : List Row → Option Bool
+reads_only_in rows =
+    if is_set (codes "read-only") rows then (if writes_beside rows then None else Some true)
+    else Some false
+
 -- the word names these benchmarks
 abbrev pub AreNamed : Option Text → List Benchmark → Type 0
 AreNamed None benchmarks = ⊥
@@ -365,6 +377,7 @@ Says rows (Shell line) =
     (word_in (codes "DIR") rows ≡ Some line.path.now) × AreIngestOptions rows line.options
     × AreThreads (word_in (codes "workers") rows) line.workers
     × (line.bails ≡ is_set (codes "bail") rows)
+    × (reads_only_in rows ≡ Some line.reads_only)
 Says rows (Bench line) = (word_in (codes "DIR") rows ≡ Some line.path.now)
     × AreBenchOptions rows line.options
 

@@ -238,6 +238,12 @@ pub(crate) const BAIL: Argument = Argument::Flag(
 /// Lines that are loaded are JSON objects.
 pub(crate) const JSON_LINES: Argument = Argument::Flag("json", "Each line is a JSON object");
 
+/// A shell writes nothing.
+pub(crate) const READ_ONLY: Argument = Argument::Flag(
+    "read-only",
+    "Refuse each line that would write",
+);
+
 /// A last line that may have been cut is loaded.
 pub(crate) const LAST_LINE: Argument = Argument::Flag(
     "last-line",

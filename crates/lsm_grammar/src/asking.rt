@@ -13,7 +13,8 @@ ghost use Rattle.lsm_grammar.specs.Requests.{IsWrite, Reads, form_in};
 ghost use Rattle.lsm_grammar.specs.Requests.{get_output_in, is_set, json_in, levels_output_in};
 ghost use Rattle.lsm_grammar.specs.Requests.{name_of_conversion, name_of_look, name_of_value};
 ghost use Rattle.lsm_grammar.specs.Requests.{name_of_write, rows_in};
-ghost use Rattle.lsm_grammar.specs.Requests.{scan_output_in, topic_in, topic_of, word_in};
+ghost use Rattle.lsm_grammar.specs.Requests.{reads_only_in, scan_output_in, topic_in, topic_of};
+ghost use Rattle.lsm_grammar.specs.Requests.{word_in, writes_beside};
 
 use crate::bench_line::BenchLine;
 use crate::benchmarks::benchmarks_in;
@@ -558,6 +559,27 @@ fn compact_in<'a>(alloc: Global, found: &ArgMatches<'a>) -> Result<Option<Reques
     Ok(Some(Request::Compact(CompactLine { path, options })))
 }
 
+/// Whether a shell is to begin, to write beside a log, to bring logs in, or to compact.
+fn writes_beside(found: &ArgMatches<'_>) -> bool
+    ensures { result ≡ writes_beside (rows_in found.now) }
+{
+    is_set(found, "begin")
+        || is_set(found, "beside-log")
+        || is_set(found, "recover")
+        || word_in(found, "workers").is_some()
+}
+
+/// Whether a shell only reads. `None` where it is to write as well.
+pub(crate) fn reads_only_in(found: &ArgMatches<'_>) -> Option<bool>
+    ensures { result ≡ reads_only_in (rows_in found.now) }
+{
+    match (is_set(found, "read-only"), writes_beside(found)) {
+        (true, true) => None,
+        (true, false) => Some(true),
+        (false, _) => Some(false),
+    }
+}
+
 /// Commands on a folder, from standard input.
 fn shell_in<'a>(found: &ArgMatches<'a>) -> Option<Request<'a>>
     ensures { Reads CommandName.Shell (rows_in found.now) result }
@@ -565,11 +587,13 @@ fn shell_in<'a>(found: &ArgMatches<'a>) -> Option<Request<'a>>
     let path = word_in(found, "DIR")?;
     let options = ingest_options_in(found);
     let workers = threads_of(word_in(found, "workers"))?;
+    let reads_only = reads_only_in(found)?;
     Some(Request::Shell(ShellLine {
         path,
         options,
         workers,
         bails: is_set(found, "bail"),
+        reads_only,
     }))
 }
 

@@ -3,8 +3,8 @@
 use crate::arguments::{
     ACCEPT_REST, ALL, Argument, BAIL, BATCH, BEGIN, BENCHMARKS, BESIDE_LOG, COMPACTORS, COMPARE,
     COUNT, EXISTS, FILES, FIRST, FOLDER, FROM, FROM_LINE, JSON, JSON_LINES, KEY, KEYS, LAST,
-    LAST_LINE, LIMIT, NUM, PREFIX, PROGRESS, QUICK, RAW, RECOVERS, SOME_WORKERS, SOURCE, STRICT,
-    SVG, TARGET, TEXT, TO, VALUE, VALUE_SIZE, VERIFIERS, WAIT, WORKERS,
+    LAST_LINE, LIMIT, NUM, PREFIX, PROGRESS, QUICK, RAW, READ_ONLY, RECOVERS, SOME_WORKERS, SOURCE,
+    STRICT, SVG, TARGET, TEXT, TO, VALUE, VALUE_SIZE, VERIFIERS, WAIT, WORKERS,
 };
 
 /// A command as its help shows it.
@@ -655,7 +655,7 @@ command line.",
 const SHELL: Page = Page {
     name: "shell",
     arguments: &[
-        FOLDER, TEXT, BEGIN, BESIDE_LOG, RECOVERS, COMPACTORS, BAIL, COMPARE, WAIT,
+        FOLDER, TEXT, BEGIN, BESIDE_LOG, RECOVERS, COMPACTORS, BAIL, READ_ONLY, COMPARE, WAIT,
     ],
     about: "Runs commands from standard input on a folder",
     text: "Opens the LevelDB folder DIR once, or begins a database there, as `ingest` does,
@@ -706,6 +706,10 @@ on standard error asks for each line.
 `installed 0` where they are at what is due. At the end each of them ends what
 it has begun.
 
+With --read-only the lock is shared, as by `get`, no manifest is begun, and each
+line that would write is refused: others may read DIR meanwhile. It excludes
+--begin, --beside-log, --recover and --workers.
+
 Of --begin, --beside-log and --recover, and of all that is refused before the
 first line, the page of `ingest` says more. A second program that wants to write in DIR is
 `refused 52 Locked` as long as the shell runs.
@@ -714,7 +718,8 @@ Exit status: 0 behind `quit` or the end of the input, 1 where a line was bad or
 refused, a batch is open at the end, the folder is refused, a reply cannot be
 written, the input cannot be read, or such a thread has ended early, 2 bad
 command line.",
-    example: "Example: printf 'put apple red\\nget apple\\n' | lsm shell db --text",
+    example: "Examples: printf 'put apple red\\nget apple\\n' | lsm shell db --text
+          lsm shell db --text --read-only",
 };
 
 const BENCH: Page = Page {

@@ -42,7 +42,7 @@ fn usage(name: CommandName) -> &'static str {
         CommandName::Clean => "lsm clean <DIR> [--accept-rest] [--wait <SECONDS>]",
         CommandName::Shell =>
             "lsm shell <DIR> [--text] [--begin] [--beside-log] [--recover] [--workers <N>] \
-             [--bail] [--compare] [--wait <SECONDS>]",
+             [--bail] [--read-only] [--compare] [--wait <SECONDS>]",
         CommandName::Bench =>
             "lsm bench <DIR> [--benchmarks <LIST>] [--num <N>] [--value-size <N>] [--workers <N>]",
         CommandName::Help => "lsm help [COMMAND]",
