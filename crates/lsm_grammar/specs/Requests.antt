@@ -412,13 +412,15 @@ abbrev pub AreSeconds : Option Text → Option ℕ → Type 0
 AreSeconds word None = (n : ℕ) → IsNumberIn 1 3600 word n → ⊥
 AreSeconds word (Some n) = IsNumberIn 1 3600 word n
 
--- how the command that was found is done: by `--recover`, `--compare` and `--wait` among its words
+-- how the command that was found is done: by `--recover`, `--compare`, `--strict` and `--wait`
+-- among its words
 abbrev pub IsMannerIn : Option (Text × List Row) → Manner → Type 0
 IsMannerIn None manner =
-    manner ≡ record { recovers = false; compares = false; waits = None }
+    manner ≡ record { recovers = false; compares = false; strict = false; waits = None }
 IsMannerIn (Some (name, rows)) manner =
     (manner.recovers ≡ is_set (codes "recover") rows)
     × (manner.compares ≡ is_set (codes "compare") rows)
+    × (manner.strict ≡ is_set (codes "strict") rows)
     × AreSeconds (word_in (codes "wait") rows) manner.waits
 
 -- how the command that words ask for is done

@@ -91,6 +91,12 @@ pub(crate) const STRICT: Argument = Argument::Flag(
     "Refuse where a log or the manifest's end is not read",
 );
 
+/// What a command that writes would note is refused.
+pub(crate) const REFUSES_NOTES: Argument = Argument::Flag(
+    "strict",
+    "Refuse where there is something to note",
+);
+
 /// Tables are not verified first.
 pub(crate) const QUICK: Argument = Argument::Flag(
     "quick",

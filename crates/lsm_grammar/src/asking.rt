@@ -687,11 +687,13 @@ pub(crate) fn manner_in(matches: &ArgMatches<'_>) -> Manner
         Some((_, found)) => Manner {
             recovers: is_set(found, "recover"),
             compares: is_set(found, "compare"),
+            strict: is_set(found, "strict"),
             waits: between_in(word_in(found, "wait"), 1, 3600),
         },
         None => Manner {
             recovers: false,
             compares: false,
+            strict: false,
             waits: None,
         },
     }

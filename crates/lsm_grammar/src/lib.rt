@@ -20,6 +20,7 @@ mod benchmarks;
 mod command_line;
 mod command_name;
 mod grammar;
+mod overview;
 mod pages;
 mod usage;
 mod usage_fault;

@@ -3,8 +3,9 @@
 use crate::arguments::{
     ACCEPT_REST, ALL, Argument, BAIL, BATCH, BEGIN, BENCHMARKS, BESIDE_LOG, COMPACTORS, COMPARE,
     COUNT, EXISTS, FILES, FIRST, FOLDER, FROM, FROM_LINE, JSON, JSON_LINES, KEY, KEYS, LAST,
-    LAST_LINE, LIMIT, NUM, PREFIX, PROGRESS, QUICK, RAW, READ_ONLY, RECOVERS, SOME_WORKERS, SOURCE,
-    STRICT, SVG, TARGET, TEXT, TO, VALUE, VALUE_SIZE, VERIFIERS, WAIT, WORKERS,
+    LAST_LINE, LIMIT, NUM, PREFIX, PROGRESS, QUICK, RAW, READ_ONLY, RECOVERS, REFUSES_NOTES,
+    SOME_WORKERS, SOURCE, STRICT, SVG, TARGET, TEXT, TO, VALUE, VALUE_SIZE, VERIFIERS, WAIT,
+    WORKERS,
 };
 
 /// A command as its help shows it.
@@ -18,70 +19,6 @@ pub(crate) struct Page {
     pub(crate) text: &'static str,
     pub(crate) example: &'static str,
 }
-
-/// The program's version, and of what version of LevelDB the files are.
-pub(crate) const VERSION: &str = "0.1.0 (files of LevelDB 1.23, uncompressed)";
-
-pub(crate) const OVERVIEW: &str =
-    "Keys and values are words in hex, two digits a byte (61 is `a`), or with --text
-as text; `.` stands for no bytes. In text a byte that does not print is `\\xNN`,
-and so are `\\` (`\\x5c`), `=` (`\\x3d`), `!` (`\\x21`), `@` (`\\x40`), a blank
-(`\\x20`) and a word that is just a point (`\\x2e`). Sizes are in bytes.
-
-FILE is the path of a file, or `-` for standard input; it may have 64 MiB, and
-for `load` any size.
-Options stand anywhere behind the command, and a value is the word behind its
-option, or behind `=` in its word: `--from 61`, `--from=61`. Behind `--` no word
-is an option: `lsm get db --text -- -key`.
-
-A DIR that is not there is `refused 9 Device`, one without a file CURRENT
-`refused 10 Missing`; but `ingest`, `put`, `delete`, `load` and `shell` begin a
-database in a DIR that has no manifest and no table either. A DIR that is a
-symbolic link is the folder that it leads to; what is no regular file is not
-read.
-
-`ingest`, `put`, `delete`, `load`, `compact`, `clean` and `shell` hold LevelDB's
-lock file, DIR/LOCK, alone, and make it where it is not there; the other commands
-share it where it is there. Where another program holds it, also a LevelDB, it is
-`refused 52 Locked`, and nothing is read or written. A LevelDB is noticed where
-the system has the file /proc/locks; it does not notice `lsm`: do not open DIR
-while `lsm` writes there. With --wait a command first waits until the lock is
-free, SECONDS at most; it asks for it 20 times a second.
-
-No command but `import` and `recover` reads a write-ahead log (`N.log`). Of each
-one that LevelDB has not flushed, `list`, `get` and `scan` say on standard error
-how many bytes are not read, and `check` prints a line. `ingest`, `put`,
-`delete`, `load` and `shell` are `refused 51 UnflushedLog N` beside it; with
---recover they first bring it in, as `recover` does.
-
-Where DIR has a later manifest than the one that CURRENT names, or files of
-RocksDB, `check`, `list`, `get` and `scan` say so on standard error; with
---strict that is `refused 62 LaterManifest N` or `refused 63 RocksDbFiles`.
-
-Tables that are compressed, as LevelDB makes them unless told otherwise, are
-refused: `refused 16 Compressed 1`.
-
-With --compare each table is kept in memory as it was read first, and what is
-read of it again is compared with that: where the disk then gives other bytes it
-is `refused 9 Device`. It takes as much memory as the tables have bytes.
-
-Standard output has what was asked for, and nothing else. Standard error says
-why a command is refused or is none, names logs that are not read, and with
---progress says how far a command is. Where standard error is a terminal,
-`load`, `compact`, `check`, and a `scan` into a file, show that without
---progress too, in one line that is gone at the end.
-
-Exit status:
-  0  done
-  1  refused; standard error says why: `refused N Name ..`, `write fault`,
-     `read fault` or `bad line I`, and of a shell also `failed line` or
-     `open batch`. A second line may say more: the call that the system refused,
-     with its path and the system's reason, the file of a fault, the place in a
-     line, or what is to be done. `get` with --raw or --exists: the key is absent,
-     and standard error says `absent`
-  2  bad command line
-
-Example: lsm check db";
 
 const MAKE_TABLE: Page = Page {
     name: "mktable",
@@ -352,7 +289,15 @@ before it stand, 2 bad command line.",
 const INGEST: Page = Page {
     name: "ingest",
     arguments: &[
-        FOLDER, BATCH, TEXT, BEGIN, BESIDE_LOG, RECOVERS, COMPARE, WAIT,
+        FOLDER,
+        BATCH,
+        TEXT,
+        BEGIN,
+        BESIDE_LOG,
+        RECOVERS,
+        REFUSES_NOTES,
+        COMPARE,
+        WAIT,
     ],
     about: "Brings keys into a folder, or begins a database there",
     text: "Brings the keys of FILE into the LevelDB folder DIR, as one table at level 0,
@@ -400,7 +345,16 @@ fault` the batch is in; after `refused 9 Device` it may be.",
 const PUT: Page = Page {
     name: "put",
     arguments: &[
-        FOLDER, KEY, VALUE, TEXT, BEGIN, BESIDE_LOG, RECOVERS, COMPARE, WAIT,
+        FOLDER,
+        KEY,
+        VALUE,
+        TEXT,
+        BEGIN,
+        BESIDE_LOG,
+        RECOVERS,
+        REFUSES_NOTES,
+        COMPARE,
+        WAIT,
     ],
     about: "Gives a key of a folder a value",
     text: "Gives KEY the value VALUE in the LevelDB folder DIR, as one table at level 0, and
@@ -428,7 +382,15 @@ Exit status: 0 the key has the value, 1 refused, 2 bad command line. After a
 const DELETE: Page = Page {
     name: "delete",
     arguments: &[
-        FOLDER, KEY, TEXT, BEGIN, BESIDE_LOG, RECOVERS, COMPARE, WAIT,
+        FOLDER,
+        KEY,
+        TEXT,
+        BEGIN,
+        BESIDE_LOG,
+        RECOVERS,
+        REFUSES_NOTES,
+        COMPARE,
+        WAIT,
     ],
     about: "Deletes a key of a folder",
     text: "Deletes KEY in the LevelDB folder DIR, whether it has a value or not, by one
@@ -464,6 +426,7 @@ const LOAD: Page = Page {
         FROM_LINE,
         LAST_LINE,
         JSON_LINES,
+        REFUSES_NOTES,
         COMPARE,
         PROGRESS,
         WAIT,
@@ -534,7 +497,7 @@ copy is there; after `refused 9 Device` it may be.",
 
 const RECOVER: Page = Page {
     name: "recover",
-    arguments: &[FOLDER, COMPARE, WAIT],
+    arguments: &[FOLDER, REFUSES_NOTES, COMPARE, WAIT],
     about: "Brings the logs that are not flushed into the tables",
     text: "Brings the write-ahead logs of the LevelDB folder DIR that are not flushed into
 its tables, as LevelDB does when it opens the folder, and prints
@@ -590,6 +553,7 @@ const COMPACT: Page = Page {
         TEXT,
         WORKERS,
         ACCEPT_REST,
+        REFUSES_NOTES,
         COMPARE,
         PROGRESS,
         WAIT,
@@ -628,7 +592,7 @@ failed.",
 
 const CLEAN: Page = Page {
     name: "clean",
-    arguments: &[FOLDER, ACCEPT_REST, WAIT],
+    arguments: &[FOLDER, ACCEPT_REST, REFUSES_NOTES, WAIT],
     about: "Removes old files that a folder does not need",
     text: "Removes the files of the LevelDB folder DIR that no reader of it needs: the
 manifests (`MANIFEST-N`) that CURRENT does not name, what a stopped program left
@@ -655,7 +619,17 @@ command line.",
 const SHELL: Page = Page {
     name: "shell",
     arguments: &[
-        FOLDER, TEXT, BEGIN, BESIDE_LOG, RECOVERS, COMPACTORS, BAIL, READ_ONLY, COMPARE, WAIT,
+        FOLDER,
+        TEXT,
+        BEGIN,
+        BESIDE_LOG,
+        RECOVERS,
+        COMPACTORS,
+        BAIL,
+        READ_ONLY,
+        REFUSES_NOTES,
+        COMPARE,
+        WAIT,
     ],
     about: "Runs commands from standard input on a folder",
     text: "Opens the LevelDB folder DIR once, or begins a database there, as `ingest` does,

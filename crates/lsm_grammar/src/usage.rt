@@ -22,27 +22,28 @@ fn usage(name: CommandName) -> &'static str {
              [--keys] [--json] [--count] [--quick] [--strict] [--compare] [--progress] \
              [--wait <SECONDS>]",
         CommandName::Ingest =>
-            "lsm ingest <DIR> <FILE> [--text] [--begin] [--beside-log] [--recover] [--compare] \
-             [--wait <SECONDS>]",
+            "lsm ingest <DIR> <FILE> [--text] [--begin] [--beside-log] [--recover] [--strict] \
+             [--compare] [--wait <SECONDS>]",
         CommandName::Put =>
-            "lsm put <DIR> <KEY> <VALUE> [--text] [--begin] [--beside-log] [--recover] [--compare] \
-             [--wait <SECONDS>]",
+            "lsm put <DIR> <KEY> <VALUE> [--text] [--begin] [--beside-log] [--recover] [--strict] \
+             [--compare] [--wait <SECONDS>]",
         CommandName::Delete =>
-            "lsm delete <DIR> <KEY> [--text] [--begin] [--beside-log] [--recover] [--compare] \
-             [--wait <SECONDS>]",
+            "lsm delete <DIR> <KEY> [--text] [--begin] [--beside-log] [--recover] [--strict] \
+             [--compare] [--wait <SECONDS>]",
         CommandName::Load =>
             "lsm load <DIR> [FILE] [--text] [--begin] [--beside-log] [--recover] [--workers <N>] \
-             [--from-line <I>] [--last-line] [--json] [--compare] [--progress] [--wait <SECONDS>]",
+             [--from-line <I>] [--last-line] [--json] [--strict] [--compare] [--progress] \
+             [--wait <SECONDS>]",
         CommandName::Import => "lsm import <SRC> <DST> [--compare]",
-        CommandName::Recover => "lsm recover <DIR> [--compare] [--wait <SECONDS>]",
+        CommandName::Recover => "lsm recover <DIR> [--strict] [--compare] [--wait <SECONDS>]",
         CommandName::Repair => "lsm repair <DIR> [--compare] [--wait <SECONDS>]",
         CommandName::Compact =>
             "lsm compact <DIR> [--all] [--from <KEY>] [--to <KEY>] [--text] [--workers <N>] \
-             [--accept-rest] [--compare] [--progress] [--wait <SECONDS>]",
-        CommandName::Clean => "lsm clean <DIR> [--accept-rest] [--wait <SECONDS>]",
+             [--accept-rest] [--strict] [--compare] [--progress] [--wait <SECONDS>]",
+        CommandName::Clean => "lsm clean <DIR> [--accept-rest] [--strict] [--wait <SECONDS>]",
         CommandName::Shell =>
             "lsm shell <DIR> [--text] [--begin] [--beside-log] [--recover] [--workers <N>] \
-             [--bail] [--read-only] [--compare] [--wait <SECONDS>]",
+             [--bail] [--read-only] [--strict] [--compare] [--wait <SECONDS>]",
         CommandName::Bench =>
             "lsm bench <DIR> [--benchmarks <LIST>] [--num <N>] [--value-size <N>] [--workers <N>]",
         CommandName::Help => "lsm help [COMMAND]",
