@@ -1,7 +1,7 @@
 -- What the words of a command line ask for, by what clap's grammar finds in them: this project's
 -- rule.
 use Rattle.std.specs.Prelude.{◌≡◌, ◌≢◌, ℕ, ◌+◌, ◌≤◌, ◌⊎◌, ⊤, Bool, true, false, if◌then◌else◌, List}
-use Rattle.std.specs.Prelude.{[], ◌∷◌, ◌||◌, codes, Option, Some, None, is_some, option_map}
+use Rattle.std.specs.Prelude.{[], ◌∷◌, ◌||◌, ◌&&◌, codes, Option, Some, None, is_some, option_map}
 use Rattle.std.specs.Option.{option_map_or, option_or}
 use Rattle.std.specs.Str.{bytes_eq}
 use Rattle.clap.specs.Words.{IsAmong, Kinds, Row, Text, fault_of, first_of, found_of, rows_of}
@@ -244,8 +244,8 @@ scan_output_in rows =
 -- of a load `--json` and `--text` exclude one another
 abbrev pub json_in : List Row → Option Bool
 json_in rows =
-    if is_set (codes "json") rows then (if is_set (codes "text") rows then None else Some true)
-    else Some false
+    if is_set (codes "json") rows && is_set (codes "text") rows then None
+    else Some (is_set (codes "json") rows)
 
 -- `--files` and `--svg` exclude one another
 abbrev pub levels_output_in : List Row → Option LevelsOutput
@@ -317,8 +317,8 @@ writes_beside rows =
 -- `--read-only` excludes `--begin`, `--beside-log`, `--recover` and `--workers`
 abbrev pub reads_only_in : List Row → Option Bool
 reads_only_in rows =
-    if is_set (codes "read-only") rows then (if writes_beside rows then None else Some true)
-    else Some false
+    if is_set (codes "read-only") rows && writes_beside rows then None
+    else Some (is_set (codes "read-only") rows)
 
 -- the word names these benchmarks
 abbrev pub AreNamed : Option Text → List Benchmark → Type 0

@@ -92,7 +92,7 @@ pub(crate) const STRICT: Argument = Argument::Flag(
 );
 
 /// What a command that writes would note is refused.
-pub(crate) const REFUSES_NOTES: Argument = Argument::Flag(
+pub(crate) const NO_NOTES: Argument = Argument::Flag(
     "strict",
     "Refuse where there is something to note",
 );

@@ -248,11 +248,11 @@ pub(crate) fn between_in(word: Option<&str>, least: u64, most: u64) -> Option<u6
 fn json_in(found: &ArgMatches<'_>) -> Option<bool>
     ensures { result ≡ json_in (rows_in found.now) }
 {
-    match (is_set(found, "json"), is_set(found, "text")) {
-        (true, true) => None,
-        (true, false) => Some(true),
-        (false, _) => Some(false),
+    let json = is_set(found, "json");
+    if json && is_set(found, "text") {
+        return None;
     }
+    Some(json)
 }
 
 /// How lines are to be loaded. `None` where a word names no workers, or no line, or both `--json`
@@ -573,11 +573,11 @@ fn writes_beside(found: &ArgMatches<'_>) -> bool
 pub(crate) fn reads_only_in(found: &ArgMatches<'_>) -> Option<bool>
     ensures { result ≡ reads_only_in (rows_in found.now) }
 {
-    match (is_set(found, "read-only"), writes_beside(found)) {
-        (true, true) => None,
-        (true, false) => Some(true),
-        (false, _) => Some(false),
+    let reads_only = is_set(found, "read-only");
+    if reads_only && writes_beside(found) {
+        return None;
     }
+    Some(reads_only)
 }
 
 /// Commands on a folder, from standard input.

@@ -3,7 +3,7 @@
 use crate::arguments::{
     ACCEPT_REST, ALL, Argument, BAIL, BATCH, BEGIN, BENCHMARKS, BESIDE_LOG, COMPACTORS, COMPARE,
     COUNT, EXISTS, FILES, FIRST, FOLDER, FROM, FROM_LINE, JSON, JSON_LINES, KEY, KEYS, LAST,
-    LAST_LINE, LIMIT, NUM, PREFIX, PROGRESS, QUICK, RAW, READ_ONLY, RECOVERS, REFUSES_NOTES,
+    LAST_LINE, LIMIT, NO_NOTES, NUM, PREFIX, PROGRESS, QUICK, RAW, READ_ONLY, RECOVERS,
     SOME_WORKERS, SOURCE, STRICT, SVG, TARGET, TEXT, TO, VALUE, VALUE_SIZE, VERIFIERS, WAIT,
     WORKERS,
 };
@@ -289,15 +289,7 @@ before it stand, 2 bad command line.",
 const INGEST: Page = Page {
     name: "ingest",
     arguments: &[
-        FOLDER,
-        BATCH,
-        TEXT,
-        BEGIN,
-        BESIDE_LOG,
-        RECOVERS,
-        REFUSES_NOTES,
-        COMPARE,
-        WAIT,
+        FOLDER, BATCH, TEXT, BEGIN, BESIDE_LOG, RECOVERS, NO_NOTES, COMPARE, WAIT,
     ],
     about: "Brings keys into a folder, or begins a database there",
     text: "Brings the keys of FILE into the LevelDB folder DIR, as one table at level 0,
@@ -345,16 +337,7 @@ fault` the batch is in; after `refused 9 Device` it may be.",
 const PUT: Page = Page {
     name: "put",
     arguments: &[
-        FOLDER,
-        KEY,
-        VALUE,
-        TEXT,
-        BEGIN,
-        BESIDE_LOG,
-        RECOVERS,
-        REFUSES_NOTES,
-        COMPARE,
-        WAIT,
+        FOLDER, KEY, VALUE, TEXT, BEGIN, BESIDE_LOG, RECOVERS, NO_NOTES, COMPARE, WAIT,
     ],
     about: "Gives a key of a folder a value",
     text: "Gives KEY the value VALUE in the LevelDB folder DIR, as one table at level 0, and
@@ -382,15 +365,7 @@ Exit status: 0 the key has the value, 1 refused, 2 bad command line. After a
 const DELETE: Page = Page {
     name: "delete",
     arguments: &[
-        FOLDER,
-        KEY,
-        TEXT,
-        BEGIN,
-        BESIDE_LOG,
-        RECOVERS,
-        REFUSES_NOTES,
-        COMPARE,
-        WAIT,
+        FOLDER, KEY, TEXT, BEGIN, BESIDE_LOG, RECOVERS, NO_NOTES, COMPARE, WAIT,
     ],
     about: "Deletes a key of a folder",
     text: "Deletes KEY in the LevelDB folder DIR, whether it has a value or not, by one
@@ -426,7 +401,7 @@ const LOAD: Page = Page {
         FROM_LINE,
         LAST_LINE,
         JSON_LINES,
-        REFUSES_NOTES,
+        NO_NOTES,
         COMPARE,
         PROGRESS,
         WAIT,
@@ -497,7 +472,7 @@ copy is there; after `refused 9 Device` it may be.",
 
 const RECOVER: Page = Page {
     name: "recover",
-    arguments: &[FOLDER, REFUSES_NOTES, COMPARE, WAIT],
+    arguments: &[FOLDER, NO_NOTES, COMPARE, WAIT],
     about: "Brings the logs that are not flushed into the tables",
     text: "Brings the write-ahead logs of the LevelDB folder DIR that are not flushed into
 its tables, as LevelDB does when it opens the folder, and prints
@@ -553,7 +528,7 @@ const COMPACT: Page = Page {
         TEXT,
         WORKERS,
         ACCEPT_REST,
-        REFUSES_NOTES,
+        NO_NOTES,
         COMPARE,
         PROGRESS,
         WAIT,
@@ -592,7 +567,7 @@ failed.",
 
 const CLEAN: Page = Page {
     name: "clean",
-    arguments: &[FOLDER, ACCEPT_REST, REFUSES_NOTES, WAIT],
+    arguments: &[FOLDER, ACCEPT_REST, NO_NOTES, WAIT],
     about: "Removes old files that a folder does not need",
     text: "Removes the files of the LevelDB folder DIR that no reader of it needs: the
 manifests (`MANIFEST-N`) that CURRENT does not name, what a stopped program left
@@ -619,16 +594,7 @@ command line.",
 const SHELL: Page = Page {
     name: "shell",
     arguments: &[
-        FOLDER,
-        TEXT,
-        BEGIN,
-        BESIDE_LOG,
-        RECOVERS,
-        COMPACTORS,
-        BAIL,
-        READ_ONLY,
-        REFUSES_NOTES,
-        COMPARE,
+        FOLDER, TEXT, BEGIN, BESIDE_LOG, RECOVERS, COMPACTORS, BAIL, READ_ONLY, NO_NOTES, COMPARE,
         WAIT,
     ],
     about: "Runs commands from standard input on a folder",
