@@ -183,7 +183,7 @@ where
         return 0;
     };
     match see(rt, paths, path, &reasons) {
-        Ok((manifest, beside)) => note_seen(paths.alloc(), manifest, &beside, strict, err),
+        Ok(seen) => note_seen(paths.alloc(), seen.0, &seen.1, strict, err),
         Err(_) => 0,
     }
 }
