@@ -25,28 +25,28 @@ begun_at_least (Ok x) old new text written begun = ([], (text, written, sym (app
 begun_at_least (Err e) old new text written begun = begun
 
 -- the folder was not seen
-pub unseen_at : {C M : Type 0} (folders : Ghosts C M) (path : List ℕ) (strict : Bool)
+pub unseen_at : {C M : Type 0} (folders : Ghosts C M) (path : List ℕ) (logs strict : Bool)
     (fault : DirectoryFault) (said : Option (List ℕ)) → IsUnseenAt folders path fault
-    → IsNotedAt folders path strict said said
-unseen_at folders path strict fault said unseen = inl ((fault, unseen), Keeps-refl said)
+    → IsNotedAt folders path logs strict said said
+unseen_at folders path logs strict fault said unseen = inl ((fault, unseen), Keeps-refl said)
 
-module _ {C M : Type 0} (folders : Ghosts C M) (path : List ℕ) (strict : Bool)
-    (m : NamedManifest) (beside : Beside) (seen : IsSeenAt folders path m beside) where
+module _ {C M : Type 0} (folders : Ghosts C M) (path : List ℕ) (logs strict : Bool)
+    (m : NamedManifest) (beside : Beside) (seen : IsSeenAt folders path logs m beside) where
   -- it was, and is noted
   pub noted_at : (status : ℕ) (old new : Option (List ℕ))
       → (status ≡ 0 → IsTrue strict → IsWhole m beside)
       → (status ≡ 0 → Begins old new (notes m beside)) → status ≡ 0
-      → IsNotedAt folders path strict old new
+      → IsNotedAt folders path logs strict old new
   noted_at status old new whole noted zero = inr (m, beside, seen, whole zero, noted zero)
 
   refused_by : (status : ℕ)
       → (status ≡ 1) × IsTrue strict × ((fault : DirectoryFault) × IsFirstLeftOut m beside fault)
-      → (status ≡ 1) × IsRefusedAt folders path strict
+      → (status ≡ 1) × IsRefusedAt folders path logs strict
   refused_by status (one, is, (fault, left)) = (one, (is, (m, beside, fault, seen, left)))
 
   -- it was, and is refused
   pub refused_at : (status : ℕ)
       → (status ≢ 0 → (status ≡ 1) × IsTrue strict
       × ((fault : DirectoryFault) × IsFirstLeftOut m beside fault))
-      → status ≢ 0 → (status ≡ 1) × IsRefusedAt folders path strict
+      → status ≢ 0 → (status ≡ 1) × IsRefusedAt folders path logs strict
   refused_at status says other = refused_by status (says other)

@@ -1,8 +1,8 @@
 -- What is noted of a folder that is written, before the command: this project's rule. It is about a
 -- folder that was opened at the path of its words, and about a shelf on it; that these are the
 -- run's own is to be read.
-use Rattle.std.specs.Prelude.{◌≡◌, ◌⊎◌, ℕ, Bool, IsTrue, cond, nat_lt, List, [], ◌++◌}
-use Rattle.std.specs.Prelude.{Option, Some, None}
+use Rattle.std.specs.Prelude.{◌≡◌, ◌⊎◌, ℕ, Bool, true, false, IsTrue, cond, if◌then◌else◌}
+use Rattle.std.specs.Prelude.{nat_lt, List, [], ◌++◌, Option, Some, None}
 use Rattle.std.specs.Io.KnownBytes.{Keeps}
 use Rattle.lsm_folder.specs.declared.folder_calls.FolderCalls.{Ghosts}
 use Rattle.lsm_shelf.specs.Refusals.{MayRefuse}
@@ -29,21 +29,29 @@ use Rattle.lsm_grammar.specs.declared.request.Request.TheVariants.{Convert, Look
 use Rattle.lsm_grammar.specs.declared.request.Request.TheVariants.{Write as WriteFolder, Load}
 use Rattle.lsm_grammar.specs.declared.request.Request.TheVariants.{Import, Recover, Repair, Compact}
 use Rattle.lsm_grammar.specs.declared.request.Request.TheVariants.{Script, Shell, Bench}
+use Rattle.lsm_grammar.specs.declared.shell_line.ShellLine.{ShellLine}
 
--- the folder that is looked at: that of a command which writes in a database
-abbrev pub noted_by : Request → Option (List ℕ)
-noted_by (Convert conversion input) = None
-noted_by (Look line) = None
-noted_by (Levels line) = None
-noted_by (WriteFolder line) = Some line.path.now
-noted_by (Load line) = Some line.path.now
-noted_by (Import line) = None
-noted_by (Recover path) = Some path.now
-noted_by (Repair path) = None
-noted_by (Compact line) = Some line.path.now
-noted_by (Script input) = None
-noted_by (Shell line) = Some line.path.now
-noted_by (Bench line) = None
+-- of a shell that only reads, and so notes itself, where nothing is to be left out
+abbrev pub noted_by_shell : ShellLine → (strict : Bool) → Option (List ℕ × Bool)
+noted_by_shell line strict =
+    if line.reads_only then (if strict then Some (line.path.now, true) else None)
+    else Some (line.path.now, false)
+
+-- The folder that is looked at, of a command which writes in a database; and whether its logs
+-- count: such a command says itself what it does beside them.
+abbrev pub noted_by : Request → (strict : Bool) → Option (List ℕ × Bool)
+noted_by (Convert conversion input) strict = None
+noted_by (Look line) strict = None
+noted_by (Levels line) strict = None
+noted_by (WriteFolder line) strict = Some (line.path.now, false)
+noted_by (Load line) strict = Some (line.path.now, false)
+noted_by (Import line) strict = None
+noted_by (Recover path) strict = Some (path.now, false)
+noted_by (Repair path) strict = None
+noted_by (Compact line) strict = Some (line.path.now, false)
+noted_by (Script input) strict = None
+noted_by (Shell line) strict = noted_by_shell line strict
+noted_by (Bench line) strict = None
 
 -- the note of so many bytes at the manifest's end, where there are any
 abbrev pub rest_text : ℕ → List ℕ
@@ -59,11 +67,17 @@ pub record IsButForLogs (seen beside : Beside) : Type 0 where
   pub rocksdb : beside.rocksdb ≡ seen.rocksdb
   pub logs : beside.logs.items ≡ []
 
+-- what counts of what was seen there: logs or no log
+abbrev pub Counts : Bool → (seen beside : Beside) → Type 0
+Counts true seen beside = beside ≡ seen
+Counts false seen beside = IsButForLogs seen beside
+
 module _ {C M : Type 0} (folders : Ghosts C M) where
-  -- The folder at the path was looked at, and a shelf on it gave its manifest, with this number and
-  -- so many bytes at its end that hold no whole record. Of what lies beside the tables no log
-  -- counts. Nothing else was asked of the folder.
-  pub record IsSeenAt (path : List ℕ) (m : NamedManifest) (beside : Beside) : Type 0 where
+  -- The folder at the path was looked at, and a shelf on it gave its manifest, with these numbers
+  -- and so many bytes at its end that hold no whole record. This counts of what lies beside the
+  -- tables. Nothing else was asked of the folder.
+  pub record IsSeenAt (path : List ℕ) (logs : Bool) (m : NamedManifest) (beside : Beside)
+      : Type 0 where
     pub seen : Beside
     pub begun : FileShelf C M
     pub on : IsShelfAt folders path (LooksBeside seen) begun
@@ -74,7 +88,9 @@ module _ {C M : Type 0} (folders : Ghosts C M) where
     pub told : Becomes (finding held.number held.bytes (told_by folders begun))
         (told_by folders ended)
     pub numbered : m.number ≡ held.number
-    pub but : IsButForLogs seen beside
+    pub log : m.log ≡ held.log
+    pub previous : m.prev_log ≡ held.prev_log
+    pub counts : Counts logs seen beside
 
   -- It was looked at, and its manifest could not be read.
   pub record IsUnreadAt (path : List ℕ) (fault : DirectoryFault) : Type 0 where
@@ -93,22 +109,25 @@ module _ {C M : Type 0} (folders : Ghosts C M) where
 
   -- The folder was seen, and all of it is read where that is asked for. Its notes were written, or
   -- a beginning of them where a write failed. Where it was not seen, nothing was written.
-  abbrev pub IsNotedAt : List ℕ → Bool → (said_old said_new : Option (List ℕ)) → Type 0
-  IsNotedAt path strict said_old said_new =
+  abbrev pub IsNotedAt : List ℕ → (logs strict : Bool) → (said_old said_new : Option (List ℕ))
+      → Type 0
+  IsNotedAt path logs strict said_old said_new =
       (((fault : DirectoryFault) × IsUnseenAt path fault) × Keeps said_old said_new)
-      ⊎ ((m : NamedManifest) × (beside : Beside) × IsSeenAt path m beside
+      ⊎ ((m : NamedManifest) × (beside : Beside) × IsSeenAt path logs m beside
       × (IsTrue strict → IsWhole m beside) × Begins said_old said_new (notes m beside))
 
-  abbrev pub IsNoted : Option (List ℕ) → Bool → (said_old said_new : Option (List ℕ)) → Type 0
+  abbrev pub IsNoted : Option (List ℕ × Bool) → (strict : Bool)
+      → (said_old said_new : Option (List ℕ)) → Type 0
   IsNoted None strict said_old said_new = Keeps said_old said_new
-  IsNoted (Some path) strict said_old said_new = IsNotedAt path strict said_old said_new
+  IsNoted (Some (path, logs)) strict said_old said_new =
+      IsNotedAt path logs strict said_old said_new
 
   -- All of it is to be read, and the folder was seen: this is not.
-  abbrev pub IsRefusedAt : List ℕ → Bool → Type 0
-  IsRefusedAt path strict = IsTrue strict
+  abbrev pub IsRefusedAt : List ℕ → (logs strict : Bool) → Type 0
+  IsRefusedAt path logs strict = IsTrue strict
       × ((m : NamedManifest) × (beside : Beside) × (fault : DirectoryFault)
-      × IsSeenAt path m beside × IsFirstLeftOut m beside fault)
+      × IsSeenAt path logs m beside × IsFirstLeftOut m beside fault)
 
-  abbrev pub IsRefused : Option (List ℕ) → Bool → Type 0
+  abbrev pub IsRefused : Option (List ℕ × Bool) → (strict : Bool) → Type 0
   IsRefused None strict = ⊥
-  IsRefused (Some path) strict = IsRefusedAt path strict
+  IsRefused (Some (path, logs)) strict = IsRefusedAt path logs strict

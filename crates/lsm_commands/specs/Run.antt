@@ -127,7 +127,7 @@ module _ {C M : Type 0} (folders : Ghosts C M) (marks : mark.Ghosts M)
   pub record IsFollowed (text : Input → Option (List ℕ)) (request : Request) (manner : Manner)
       (old new said_old said_new : Option (List ℕ)) : Type 0 where
     pub noted : Option (List ℕ)
-    pub notes : IsNoted folders (noted_by request) manner.strict said_old noted
+    pub notes : IsNoted folders (noted_by request manner.strict) manner.strict said_old noted
     pub first : manner.recovers ≡ true → ComesBefore folders marks (opened_by request)
     pub said : Option (List ℕ)
     pub quiet : Keeps noted said
@@ -192,7 +192,7 @@ module _ {C M : Type 0} (folders : Ghosts C M) (marks : mark.Ghosts M)
   abbrev pub IsUnfollowed : (Input → Option (List ℕ)) → Request → Manner
       → (old new : Option (List ℕ)) → Type 0
   IsUnfollowed text request manner old new =
-      (IsRefused folders (noted_by request) manner.strict × Keeps old new)
+      (IsRefused folders (noted_by request manner.strict) manner.strict × Keeps old new)
       ⊎ (((manner.recovers ≡ true) × StaysBefore folders marks (opened_by request) × Keeps old new)
       ⊎ ((manner.recovers ≡ true → ComesBefore folders marks (opened_by request))
       × IsUndone text request old new))

@@ -8,8 +8,8 @@ ghost use Rattle.lsm_directory.specs.Beside.{IsFirstLeftOut, IsWhole, LooksBesid
 ghost use Rattle.lsm_directory.specs.Folders.{IsShelfAt};
 ghost use Rattle.lsm_directory.specs.Holding.{IsFolderFault};
 ghost use Rattle.lsm_directory.specs.declared.faults.directory_fault.DirectoryFault.{DirectoryFault};
-ghost use Rattle.lsm_commands.specs.Noting.{IsButForLogs, IsNoted, IsNotedAt, IsRefused};
-ghost use Rattle.lsm_commands.specs.Noting.{IsRefusedAt, IsSeenAt, IsUnseenAt, noted_by, notes};
+ghost use Rattle.lsm_commands.specs.Noting.{Counts, IsNoted, IsNotedAt, IsRefused, IsRefusedAt};
+ghost use Rattle.lsm_commands.specs.Noting.{IsSeenAt, IsUnseenAt, noted_by, noted_by_shell, notes};
 ghost use Rattle.lsm_commands.specs.Noting.{rest_text};
 
 use lsm_admission::recover_manifest;
@@ -18,23 +18,38 @@ use lsm_directory::{
     push_rest, refuse, refuse_beside, write_output,
 };
 use lsm_folder::{FolderCalls, Reasons};
-use lsm_grammar::Request;
+use lsm_grammar::{Request, ShellLine};
 use lsm_journal::{ManifestLimit, Recovered};
 use lsm_storage::FileShelf;
 use std::alloc::{AllocError, Global};
 use std::io::Write;
 use std::sync::Wait;
 
-/// The folder that is looked at before a request: that of a command which writes in a database.
-fn noted_by<'a>(request: &Request<'a>) -> Option<&'a str>
-    ensures { option_map (λ p. p.now) result ≡ noted_by request.now }
+/// The folder that is looked at before a shell. One that only reads notes itself, so that is left to
+/// it unless what it would note is to be refused: then logs count too.
+fn noted_by_shell<'a>(line: &ShellLine<'a>, strict: bool) -> Option<(&'a str, bool)>
+    ensures { option_map (λ r. (r.0.now, r.1)) result ≡ noted_by_shell line.now strict }
+{
+    if !line.reads_only {
+        return Some((line.path, false));
+    }
+    if strict {
+        return Some((line.path, true));
+    }
+    None
+}
+
+/// The folder that is looked at before a request: that of a command which writes in a database; and
+/// whether logs count there, of which such a command says itself what it does.
+fn noted_by<'a>(request: &Request<'a>, strict: bool) -> Option<(&'a str, bool)>
+    ensures { option_map (λ r. (r.0.now, r.1)) result ≡ noted_by request.now strict }
 {
     match request {
-        Request::Write(line) => Some(line.path),
-        Request::Load(line) => Some(line.path),
-        Request::Recover(path) => Some(path),
-        Request::Compact(line) => Some(line.path),
-        Request::Shell(line) => Some(line.path),
+        Request::Write(line) => Some((line.path, false)),
+        Request::Load(line) => Some((line.path, false)),
+        Request::Recover(path) => Some((path, false)),
+        Request::Compact(line) => Some((line.path, false)),
+        Request::Shell(line) => noted_by_shell(line, strict),
         _ => None,
     }
 }
@@ -54,10 +69,13 @@ fn open_to_see<C: FolderCalls, P: Paths<C>, R: Wait>(
     Ok((FileShelf::over(folder), beside))
 }
 
-/// What lies beside the tables, without the logs: of these each command says itself what it does.
-fn without_logs(alloc: Global, seen: &Beside) -> Beside
-    ensures { IsButForLogs seen.now result }
+/// What counts of what lies beside the tables, with the logs or without them.
+fn counted(alloc: Global, seen: Beside, logs: bool) -> Beside
+    ensures { Counts logs seen result }
 {
+    if logs {
+        return seen;
+    }
     Beside {
         logs: Vec::new(alloc),
         manifest: seen.manifest,
@@ -65,16 +83,18 @@ fn without_logs(alloc: Global, seen: &Beside) -> Beside
     }
 }
 
-/// The manifest that was read, by its number and its end.
+/// The manifest that was read, by its numbers and its end.
 fn named(recovered: &Recovered) -> NamedManifest
     ensures number { result.number ≡ recovered.now.journal.number }
     ensures rest { result.rest ≡ recovered.now.rest }
+    ensures log { result.log ≡ recovered.now.journal.log }
+    ensures previous { result.prev_log ≡ recovered.now.journal.prev_log }
 {
     NamedManifest {
         number: recovered.journal.number(),
         rest: recovered.rest,
-        log: 0,
-        prev_log: 0,
+        log: recovered.journal.log(),
+        prev_log: recovered.journal.prev_log(),
     }
 }
 
@@ -86,18 +106,19 @@ fn see<C: FolderCalls + Send + Sync, P: Paths<C>, R: Wait>(
     rt: &R,
     paths: &P,
     path: &str,
+    logs: bool,
     reasons: &Reasons,
 ) -> Result<(NamedManifest, Beside), DirectoryFault>
 where
     C::Mark: Send + Sync,
-    ensures seen { IfOk result (λ r. IsSeenAt C.FolderCalls path.now r.0 r.1) }
+    ensures seen { IfOk result (λ r. IsSeenAt C.FolderCalls path.now logs r.0 r.1) }
     ensures unseen { IfErr result (IsUnseenAt C.FolderCalls path.now) }
 {
     let (shelf, beside) = open_to_see(rt, paths, path, reasons)?;
     // A journal that nothing is sent through has no use for its limit.
     let (found, _shelf) = recover_manifest(rt, paths.alloc(), shelf, ManifestLimit::none());
     match found {
-        Ok(found) => Ok((named(&found), without_logs(paths.alloc(), &beside))),
+        Ok(found) => Ok((named(&found), counted(paths.alloc(), beside, logs))),
         Err(fault) => Err(DirectoryFault::Manifest(fault)),
     }
 }
@@ -170,19 +191,21 @@ fn note_at<C: FolderCalls + Send + Sync, P: Paths<C>, R: Wait, E: Write>(
     rt: &R,
     paths: &P,
     path: &str,
+    logs: bool,
     strict: bool,
     err: &mut E,
 ) -> u8
 where
     C::Mark: Send + Sync,
-    ensures done { result ≡ 0 → IsNotedAt C.FolderCalls path.now strict (E.contents err.old)
-        (E.contents err.new) }
-    ensures refused { result ≢ 0 → (result ≡ 1) × IsRefusedAt C.FolderCalls path.now strict }
+    ensures done { result ≡ 0 → IsNotedAt C.FolderCalls path.now logs strict
+        (E.contents err.old) (E.contents err.new) }
+    ensures refused { result ≢ 0
+        → (result ≡ 1) × IsRefusedAt C.FolderCalls path.now logs strict }
 {
     let Ok(reasons) = Reasons::new(paths.alloc()) else {
         return 0;
     };
-    match see(rt, paths, path, &reasons) {
+    match see(rt, paths, path, logs, &reasons) {
         Ok(seen) => note_seen(paths.alloc(), seen.0, &seen.1, strict, err),
         Err(_) => 0,
     }
@@ -205,13 +228,13 @@ pub(crate) fn note<C: FolderCalls + Send + Sync, P: Paths<C>, R: Wait, E: Write>
 ) -> u8
 where
     C::Mark: Send + Sync,
-    ensures done { result ≡ 0 → IsNoted C.FolderCalls (noted_by request.now) strict
+    ensures done { result ≡ 0 → IsNoted C.FolderCalls (noted_by request.now strict) strict
         (E.contents err.old) (E.contents err.new) }
     ensures refused { result ≢ 0
-        → (result ≡ 1) × IsRefused C.FolderCalls (noted_by request.now) strict }
+        → (result ≡ 1) × IsRefused C.FolderCalls (noted_by request.now strict) strict }
 {
-    match noted_by(request) {
-        Some(path) => note_at(rt, paths, path, strict, err),
+    match noted_by(request, strict) {
+        Some((path, logs)) => note_at(rt, paths, path, logs, strict, err),
         None => 0,
     }
 }

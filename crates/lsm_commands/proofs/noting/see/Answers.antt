@@ -25,7 +25,9 @@ returns-in-Ok-clause-seen g c =
           recovered;
       told = told;
       numbered = c.named.ensures.number;
-      but = c.without_logs.ensures;
+      log = c.named.ensures.log;
+      previous = c.named.ensures.previous;
+      counts = c.counted.ensures;
     }
 
 pub returns-clause-unseen : goal.returns-clause-unseen
