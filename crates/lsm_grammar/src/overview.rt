@@ -22,12 +22,13 @@ symbolic link is the folder that it leads to; what is no regular file is not
 read.
 
 `ingest`, `put`, `delete`, `load`, `recover`, `compact`, `clean` and `shell`
-without --read-only hold LevelDB's lock file, DIR/LOCK, alone, and make
-it where it is not there; the other commands share it where it is there. Where another program holds it, also a LevelDB, it is
-`refused 52 Locked`, and nothing is read or written. A LevelDB is noticed where
-the system has the file /proc/locks; it does not notice `lsm`: do not open DIR
-while `lsm` writes there. With --wait a command first waits until the lock is
-free, SECONDS at most; it asks for it 20 times a second.
+without --read-only hold LevelDB's lock file, DIR/LOCK, alone, and make it where
+it is not there; the other commands share it where it is there. Where another
+program holds it, also a LevelDB, it is `refused 52 Locked`, and nothing is read
+or written. A LevelDB is noticed where the system has the file /proc/locks; it
+does not notice `lsm`: do not open DIR while `lsm` writes there. With --wait a
+command first waits until the lock is free, SECONDS at most; it asks for it 20
+times a second.
 
 No command but `import` and `recover` reads a write-ahead log (`N.log`). Of each
 one that LevelDB has not flushed, `list`, `get` and `scan` say on standard error
