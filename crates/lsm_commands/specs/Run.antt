@@ -115,8 +115,9 @@ module _ {C M : Type 0} (folders : Ghosts C M) (marks : mark.Ghosts M)
   IsDone text (Script input) old new said_old said_new =
       IsPlayed (text input) old new × Keeps said_old said_new
   IsDone text (Shell line) old new said_old said_new =
-      TalksAt folders line.path.now line.options line.workers line.bails (text Standard) old new
-      × Keeps said_old said_new
+      TalksAt folders line.path.now line.options line.workers line.bails line.reads_only
+      (text Standard) old new
+      × (IsFalse line.reads_only → Keeps said_old said_new)
   IsDone text (Bench line) old new said_old said_new =
       BenchesAt folders line.path.now line.options × Keeps said_old said_new
 
@@ -180,8 +181,8 @@ module _ {C M : Type 0} (folders : Ghosts C M) (marks : mark.Ghosts M)
   IsUndone text (Compact line) old new = IsUncompacted folders marks line old new
   IsUndone text (Script input) old new = IsUnplayed (text input) old new
   IsUndone text (Shell line) old new =
-      FailsToTalk folders marks line.path.now line.options line.workers line.bails (text Standard)
-      old new
+      FailsToTalk folders marks line.path.now line.options line.workers line.bails line.reads_only
+      (text Standard) old new
   IsUndone text (Bench line) old new = ⊤
 
   -- In a manner something is not read of the request's folder, which is refused; or its logs did

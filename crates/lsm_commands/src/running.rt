@@ -151,6 +151,7 @@ where
             line.options,
             line.workers,
             line.bails,
+            line.reads_only,
             input,
             out,
             err,

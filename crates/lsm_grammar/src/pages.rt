@@ -624,9 +624,10 @@ on standard error asks for each line.
 `installed 0` where they are at what is due. At the end each of them ends what
 it has begun.
 
-With --read-only the lock is shared, as by `get`, no manifest is begun, and each
-line that would write is refused: others may read DIR meanwhile. It excludes
---begin, --beside-log, --recover and --workers.
+With --read-only the lock is shared, as by `get`, so that others may read DIR
+meanwhile; no database and no manifest is begun, and each line that would write
+is `refused 42 Halted`. It excludes --begin, --beside-log, --recover and
+--workers.
 
 Of --begin, --beside-log and --recover, and of all that is refused before the
 first line, the page of `ingest` says more. A second program that wants to write in DIR is

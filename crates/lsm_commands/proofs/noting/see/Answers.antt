@@ -30,8 +30,8 @@ returns-in-Ok-clause-seen g c =
       counts = c.counted.ensures;
     }
 
-pub returns-clause-unseen : goal.returns-clause-unseen
-returns-clause-unseen g c =
+pub returns-in-Err-clause-unseen : goal.returns-in-Err-clause-unseen
+returns-in-Err-clause-unseen g c =
     let refused : IsRecoverRefusal MayRefuse c.in-Err.fault
     (told_by g.C.FolderCalls c.in_ok-shelf.shelf)
     (told_by g.C.FolderCalls c.recover_manifest-found.result.1) =
