@@ -73,6 +73,8 @@ class Killer:
         except subprocess.TimeoutExpired:
             program.kill()
             out, err = program.communicate()
+        if words[0] in ("ingest", "compact"):
+            err = plain.besides_crash(err)
         if program.returncode == -9 and kills:
             self.killed += 1
             self.counts["by call" if after is None else "by time"] += 1

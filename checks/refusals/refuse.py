@@ -1,5 +1,6 @@
 """Makes each refusal of refusals.txt. Usage: refuse.py PROGRAM TABLE FORMATS [ROW..], in an empty folder"""
 import fcntl
+import itertools
 import os
 import re
 import resource
@@ -280,6 +281,8 @@ class Row:
         if self.first == "-" or self.first.startswith("note: "):
             status, out, self.first = status + 1, "", self.first.strip("-")
             lines = lines or [""]
+        else:
+            lines = list(itertools.dropwhile(lambda line: line.startswith("note: "), lines))
         if self.is_reply():
             refused = [at for at, line in enumerate(lines) if re.match(r"refused|bad line", line)]
             lines = lines[refused[-1] :] if refused else []
@@ -300,8 +303,11 @@ class Row:
 
     def kept(self, found):
         """The files that a refusal leaves as they were: all, but that a run which writes may have
-        begun a manifest before it is refused."""
-        is_before_all = re.match(r"refused (10|46|51|52|53|61) ", self.first + " ")
+        begun a manifest before it is refused. One that is done, and notes something, may have written."""
+        writes = self.words[0] in ("ingest", "put", "load", "recover", "compact", "clean", "shell")
+        if writes and self.first.startswith("note: "):
+            return {}
+        is_before_all = re.match(r"refused (10|46|51|52|53|61|62|63) ", self.first + " ")
         if self.words[0] in ("ingest", "put", "load", "compact", "shell") and not is_before_all:
             return {name: size for name, size in found.items() if not re.match("MANIFEST-|CURRENT", name)}
         return found

@@ -80,9 +80,8 @@ class Refuser:
         with open(self.batch, "w") as file:
             file.writelines(f"{line}\n" for line in plain.batch_lines(batch))
 
-    def look(self, *contents):
-        """The content that the folder has, of these; LevelDB gives the same. What reads notes a torn end,
-        and a manifest that was begun."""
+    def noted(self):
+        """What is noted of the folder: a torn end, and a manifest that was begun."""
         rest = self.look_at_manifest()
         noted = f"note: the last {rest} bytes of the manifest hold no whole record, and are not read\n" if rest else ""
         with open(f"{self.db}/CURRENT") as file:
@@ -90,6 +89,11 @@ class Refuser:
         highest = max((it for it in os.listdir(self.db) if it.startswith("MANIFEST-")), key=lambda it: int(it[9:]))
         if int(highest[9:]) > int(named[9:]):
             noted += f"note: CURRENT names {named}, and {highest} is there\n"
+        return noted
+
+    def look(self, *contents):
+        """The content that the folder has, of these; LevelDB gives the same."""
+        noted = self.noted()
         self.done("check", self.db, noted=noted)
         lines = self.done("scan", self.db, noted=noted).splitlines()
         found = next((it for it in contents if plain.list_lines(it) == lines), None)
@@ -147,7 +151,8 @@ class Refuser:
         if command == "ingest" and status == 1:
             self.counts["whole batch in all the same"] += found is self.after
         # it goes on, and LevelDB too
-        self.done(*(["ingest", self.db, self.batch] if command == "ingest" else ["compact", self.db, "--accept-rest"]))
+        words = ["ingest", self.db, self.batch] if command == "ingest" else ["compact", self.db, "--accept-rest"]
+        self.done(*words, noted=self.noted())
         self.look(after)
         self.look_by_leveldb(after)
 

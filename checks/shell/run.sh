@@ -2,9 +2,10 @@
 # Drives `lsm shell` as another program does, through pipes, and as a person does, in a terminal:
 # each line has its reply before the next line is sent, also beside workers, a list ends by `end`, bad
 # and too long lines and refusals are replies, which the status tells in the end, and with --bail end
-# it, what was said to be in is in after a kill, a second shell is refused, and a reply that can't be
-# written ends it. Needs python3, and tmux for the last part, which is left
-# out where there is none. LSM=/path/to/lsm names a built program.
+# it, what was said to be in is in after a kill, a second shell is refused, shells that only read
+# stand beside each other and leave each file as it was, and a reply that can't be written ends it.
+# Needs python3, and tmux for the last part, which is left out where there is none.
+# LSM=/path/to/lsm names a built program.
 set -euo pipefail
 here=$(cd "$(dirname "$0")" && pwd)
 top=$(cd "$here/../.." && pwd)

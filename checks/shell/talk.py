@@ -233,6 +233,37 @@ def a_folder_that_is_refused():
     assert status == 1 and said.startswith("refused "), (status, said)
 
 
+def files_of(folder):
+    files = {}
+    for name in sorted(os.listdir(folder)):
+        with open(os.path.join(folder, name), "rb") as file:
+            files[name] = file.read()
+    return files
+
+
+def a_folder_that_is_only_read():
+    shell = Shell("read", "--text")
+    want(shell.ask("put a 1"), "file 2 first 1 last 1")
+    want(shell.end(), WELL)
+    before = files_of("read")
+    first = Shell("read", "--text", "--read-only")
+    want(first.ask("get a"), "value 1")
+    second = Shell("read", "--text", "--read-only")
+    want(second.list("scan"), ["a=1", "end"])
+    want(run_of("get", "read", "a", "--text"), b"value 1\n")
+    status, said = Shell("read").end()
+    assert status == 1 and said.startswith("refused 52 Locked"), (status, said)
+    for line in ("put a 2", "delete a", "ingest a=2", "compact", "collect"):
+        want(first.ask(line), "refused 42 Halted")
+    want(first.ask("get a"), "value 1")
+    want(first.end(), FAILED)
+    want(second.end(), WELL)
+    want(files_of("read"), before)
+    status, said = Shell("empty", "--read-only").end()
+    assert status == 1 and said.startswith("refused 10 Missing"), (status, said)
+    want(os.listdir("empty"), [])
+
+
 def a_reply_that_is_not_written():
     read, write = os.pipe()
     os.close(read)
@@ -242,6 +273,6 @@ def a_reply_that_is_not_written():
     assert child.returncode == 1 and err.startswith(b"write fault"), (child.returncode, err)
 
 
-for part in (lines_and_lists, batches, all_that_is_due, one_opening_and_the_folder, workers_beside, lines_wait_for_room, what_the_status_tells, bail_ends_it, a_kill_loses_nothing_that_was_said, a_folder_that_is_refused, a_reply_that_is_not_written):
+for part in (lines_and_lists, batches, all_that_is_due, one_opening_and_the_folder, workers_beside, lines_wait_for_room, what_the_status_tells, bail_ends_it, a_kill_loses_nothing_that_was_said, a_folder_that_is_refused, a_folder_that_is_only_read, a_reply_that_is_not_written):
     part()
     print(part.__name__.replace("_", " ") + ": as wanted")

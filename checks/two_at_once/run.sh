@@ -99,6 +99,7 @@ each_beside() { # READING WRITING: what is wanted of reading and of writing comm
   local command
   beside 0 levels db
   for command in "check db" "list db" "get db a11 --text" "scan db"; do beside "$1" $command; done
+  beside "$1" shell db --read-only < /dev/null
   for command in "ingest db first --text" "compact db" "clean db"; do beside "$2" $command; done
 }
 

@@ -3,12 +3,12 @@ use Rattle.std.proofs.Common.{◌≡◌, ℕ, suc, ◌+◌, ◌*◌, ◌<◌, �
 use Rattle.std.specs.Prelude.{◌⊎◌, ◌^◌, Bool, IsFalse}
 use Rattle.lsm_codec.specs.Entries.{Entry}
 use Rattle.lsm_text.specs.EntryList.{lines_of}
-use Rattle.lsm_text.specs.BatchText.{AreWriteLines}
-use Rattle.lsm_text.specs.declared.form.Form.{Form}
 use Rattle.lsm_batch.specs.Batches.{entries_from}
 use Rattle.lsm_batch.specs.declared.write.Write.{Write}
 use Rattle.lsm_lines.specs.Gathering.{Gathers, IsGathered, Pending, Reads, Stops, TakesLines}
+use Rattle.lsm_lines.specs.Lines.{SpellWrites}
 use Rattle.lsm_lines.specs.Reading.{IsWhole, TakesWhole}
+use Rattle.lsm_lines.specs.declared.line_form.LineForm.{LineForm}
 use Rattle.lsm_lines.specs.declared.gathered.Gathered.{Gathered}
 use Rattle.lsm_lines.specs.declared.gathered.BatchEnd.{BatchEnd}
 use Rattle.lsm_lines.specs.declared.gathered.BatchEnd.TheVariants.{Full, End, Stopped}
@@ -38,13 +38,14 @@ takes_then a b (Some xs) None new t u = absurd t
 takes_then a b (Some xs) (Some ys) None t u = absurd u
 takes_then a b (Some xs) (Some ys) (Some zs) t u = t ∙ ap (λ (ls : List (List ℕ)). a ++ ls) u ∙ sym (append_assoc a b (lines_of zs))
 
-spelled_then : (form : Form) (ls ms : List (List ℕ)) (ws vs : List Write) → AreWriteLines form ls ws → AreWriteLines form ms vs → AreWriteLines form (ls ++ ms) (ws ++ vs)
+spelled_then : (form : LineForm) (ls ms : List (List ℕ)) (ws vs : List Write)
+    → SpellWrites form ls ws → SpellWrites form ms vs → SpellWrites form (ls ++ ms) (ws ++ vs)
 spelled_then form [] ms [] vs h k = k
 spelled_then form [] ms (w ∷ ws) vs h k = absurd h
 spelled_then form (l ∷ ls) ms [] vs h k = absurd h
 spelled_then form (l ∷ ls) ms (w ∷ ws) vs h k = (h.0, spelled_then form ls ms ws vs h.1 k)
 
-reads_then : (form : Form) (old mid new : Option (List ℕ)) (ws vs : List Write) → Reads form old mid ws → Reads form mid new vs → Reads form old new (ws ++ vs)
+reads_then : (form : LineForm) (old mid new : Option (List ℕ)) (ws vs : List Write) → Reads form old mid ws → Reads form mid new vs → Reads form old new (ws ++ vs)
 reads_then form old mid new ws vs r s = record {
   lines = r.lines ++ s.lines;
   taken = takes_then r.lines s.lines old mid new r.taken s.taken;
@@ -75,7 +76,7 @@ pub gathers_then : (old mid : Pending) (left : Option (List ℕ)) (held ws vs : 
     → Gathers old left held (ws ++ vs)
 gathers_then old mid left held ws vs form g h = (
   g.0 ++ h.0,
-  reads_then old.form old.left mid.left left g.0 h.0 g.1 (subst (λ (f : Form). Reads f mid.left left h.0) form.0 h.1),
+  reads_then old.form old.left mid.left left g.0 h.0 g.1 (subst (λ (f : LineForm). Reads f mid.left left h.0) form.0 h.1),
   sym (append_assoc old.held g.0 h.0) ∙ ap (λ (l : List Write). l ++ h.0) g.2 ∙ append_assoc ws mid.held h.0
       ∙ ap (λ (l : List Write). ws ++ l) h.2 ∙ sym (append_assoc ws vs held),
   λ whole. takes_whole_then old.left mid.left left (g.3 whole) (h.3 (subst IsFalse (sym form.1) whole)),
@@ -186,7 +187,7 @@ not_taken Refused keeps old new r was now Due g k = absurd k
 -- the same lines that were to come, as their parts
 same_pending : (old mid : Pending) → SameForm mid old → mid ≡ record { form = old.form; last = old.last; held = mid.held; left = mid.left }
 same_pending old mid form =
-    ap (λ (f : Form). record { form = f; last = mid.last; held = mid.held; left = mid.left }) form.0 ∙ ap (λ (b : Bool). record { form = old.form; last = b; held = mid.held; left = mid.left }) form.1
+    ap (λ (f : LineForm). record { form = f; last = mid.last; held = mid.held; left = mid.left }) form.0 ∙ ap (λ (b : Bool). record { form = old.form; last = b; held = mid.held; left = mid.left }) form.1
 
 kept_next_out : (Refused : Asked → ShelfFault → Type 0) (keeps : Held → Type 0) (old mid : Pending) (found was now : Marked) (p : Progress) (fault : StateFault) → SameForm mid old
     → Loads old mid.left mid.held found was p → IsNotTaken Refused keeps mid was now (Ingest fault) → KeepsNextOut Refused keeps old found now p fault
@@ -225,7 +226,7 @@ stops_behind : (old mid new : Pending) (found was now : Marked) (p q : Progress)
     → (t : TakesBatch mid new was now p q (Stopped fault)) → (left : Option (List ℕ)) → Gathers mid left [] t.ws → Stops mid.form mid.last left fault
     → (left : Option (List ℕ)) × Loads old left [] found now q × Stops old.form old.last left fault
 stops_behind old mid new found was now p q fault form l t left g s =
-    (left, on old mid new left [] found was now p q (Stopped fault) form l t g, subst (λ (b : Bool). Stops old.form b left fault) form.1 (subst (λ (f : Form). Stops f mid.last left fault) form.0 s))
+    (left, on old mid new left [] found was now p q (Stopped fault) form l t g, subst (λ (b : Bool). Stops old.form b left fault) form.1 (subst (λ (f : LineForm). Stops f mid.last left fault) form.0 s))
 
 pub stopped_behind : (old mid new : Pending) (found was now : Marked) (p q : Progress) (fault : WriteLineFault) → SameForm mid old → Loads old mid.left mid.held found was p
     → TakesBatch mid new was now p q (Stopped fault) → StopsBehind old found now q fault

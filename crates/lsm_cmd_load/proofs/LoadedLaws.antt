@@ -13,6 +13,7 @@ use Rattle.lsm_requests.specs.declared.load_options.LoadOptions.{LoadOptions}
 use Rattle.lsm_directory.specs.declared.folder.folder_file.FolderFile.{FolderFile}
 use Rattle.lsm_lines.specs.Gathering.{Pending}
 use Rattle.lsm_lines.specs.Passing.{PassesLines}
+use Rattle.lsm_lines.specs.declared.line_form.LineForm.{LineForm}
 use Rattle.lsm_bulk_load.specs.Ending.{IsIdle, IsLooked, ReservesNone}
 use Rattle.lsm_shelf.specs.Told.{GivesForks}
 use Rattle.lsm_bulk_load.specs.Loading.{HaveEndedWell, IsLoaded}
@@ -23,16 +24,22 @@ use Rattle.lsm_opening.specs.Compactions.{IsSwept, Refuses}
 use Rattle.lsm_opening.specs.Starting.{IsStarted}
 use Rattle.lsm_opening.specs.declared.prepared.Start.{Start}
 use Rattle.lsm_cmd_load.specs.Loaded.{AreOfLoad, HasComeBy, IsOfLoad, IsToCome, IsUnswept, LoadsAll}
-use Rattle.lsm_cmd_load.specs.Loaded.{LoadsWhole}
+use Rattle.lsm_cmd_load.specs.Loaded.{LoadsWhole, form_of}
 
 -- the lines that are still to come, behind those that were passed over
-pub to_come : (options : LoadOptions) (count : ℕ) (input : Option (List ℕ)) (old new : Pending) → old ≡ record { form = options.ingest.form; last = options.last_line; held = []; left = input }
-    → count ≡ options.from_line - 1 → PassesLines count old.left new.left → new ≡ record old { left = new.left } → IsToCome options input new
-to_come options count input old new made is passed rest = (
+pub to_come : (options : LoadOptions) (count : ℕ) (input : Option (List ℕ)) (form : LineForm)
+    (old new : Pending) → form ≡ form_of options
+    → old ≡ record { form = form; last = options.last_line; held = []; left = input }
+    → count ≡ options.from_line - 1 → PassesLines count old.left new.left
+    → new ≡ record old { left = new.left } → IsToCome options input new
+to_come options count input form old new asked made is passed rest = (
   new.left,
-  subst (λ (x : Option (List ℕ)). PassesLines (options.from_line - 1) x new.left) (ap (λ (p : Pending). p.left) made)
+  subst (λ (x : Option (List ℕ)). PassesLines (options.from_line - 1) x new.left)
+      (ap (λ (p : Pending). p.left) made)
       (subst (λ n. PassesLines n old.left new.left) is passed),
-  rest ∙ ap (λ (p : Pending). record p { left = new.left }) made,
+  rest ∙ ap (λ (p : Pending). record p { left = new.left }) made
+      ∙ ap (λ (f : LineForm).
+      record { form = f; last = options.last_line; held = []; left = new.left }) asked,
 )
 
 both_rest : (behind loaded left : Held) → IsLooked behind loaded → left ≡ record loaded { slots = left.slots }

@@ -1,6 +1,6 @@
 -- What a `load` leaves of a database, and why it ends early (this project's rule).
 use Rattle.std.specs.Prelude.{◌≡◌, ◌≢◌, ◌⊎◌, ℕ, ◌+◌, ◌-◌, ◌<◌, ◌^◌, List, [], ◌∷◌, ◌++◌, codes}
-use Rattle.std.specs.Prelude.{decimal, IfSome, Option}
+use Rattle.std.specs.Prelude.{decimal, if◌then◌else◌, IfSome, Option}
 use Rattle.std.specs.Io.KnownBytes.{Appends, Keeps}
 use Rattle.atomic_table.specs.Seated.{TableId}
 use Rattle.lsm_shelf.specs.Asked.{Asked}
@@ -13,6 +13,8 @@ use Rattle.lsm_requests.specs.declared.load_options.LoadOptions.{LoadOptions}
 use Rattle.lsm_directory.specs.declared.folder.folder_file.FolderFile.{FolderFile}
 use Rattle.lsm_lines.specs.Gathering.{Pending}
 use Rattle.lsm_lines.specs.Passing.{PassesLines}
+use Rattle.lsm_lines.specs.declared.line_form.LineForm.{LineForm}
+use Rattle.lsm_lines.specs.declared.line_form.LineForm.TheVariants.{Json, Words}
 use Rattle.lsm_opening.specs.Compactions.{IsSwept, Refuses}
 use Rattle.lsm_opening.specs.Starting.{IsStartRefusal, IsStarted}
 use Rattle.lsm_opening.specs.declared.faults.writer_fault.WriterFault.TheVariants.{OutOfMemory}
@@ -155,13 +157,17 @@ IsLoadFault Stored Refused Honest start logs from workers pending Write was is =
 
 -- ---- of an input
 
+-- how each line spells a write, as options say: as a JSON object, or by words of their form
+abbrev pub form_of : LoadOptions → LineForm
+form_of options = if options.json then Json else Words options.ingest.form
+
 -- What is to come of it, as options say: in their form, behind the lines before the one of their
 -- number, counted from 1; the last line may lack its newline where they say so.
 abbrev pub IsToCome : LoadOptions → Option (List ℕ) → Pending → Type 0
 IsToCome options input pending =
     (rest : Option (List ℕ)) × PassesLines (options.from_line - 1) input rest
     × (pending ≡ record {
-      form = options.ingest.form;
+      form = form_of options;
       last = options.last_line;
       held = [];
       left = rest;

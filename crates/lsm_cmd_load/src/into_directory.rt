@@ -5,14 +5,14 @@ ghost use Rattle.std.specs.Io.KnownBytes.{Appends, Keeps};
 ghost use Rattle.lsm_shelf.specs.Stored.{Stored};
 ghost use Rattle.lsm_opening.specs.Parts.{AreOf, usual};
 ghost use Rattle.lsm_cmd_load.specs.Loaded.{IsInputFault, IsInputLoaded, IsLoadDone, IsLoadFault};
-ghost use Rattle.lsm_cmd_load.specs.Loaded.{IsToCome, loaded_text};
+ghost use Rattle.lsm_cmd_load.specs.Loaded.{IsToCome, form_of, loaded_text};
 ghost use Rattle.lsm_opening.specs.declared.faults.writer_fault.WriterFault.TheVariants.{OutOfMemory, Read};
 ghost use Rattle.lsm_cmd_load.specs.declared.stopped.Stopped.TheVariants.{Write as WriteStopped};
 
 use crate::stopped::Stopped;
 use crate::sweeping::sweep;
 use lsm_bulk_load::{Loaded, Progress, Teller, load_beside};
-use lsm_lines::BatchReader;
+use lsm_lines::{BatchReader, LineForm};
 use lsm_opening::{NewParts, Prepared, WriterFault, start};
 use lsm_requests::LoadOptions;
 use lsm_slots::Boarded;
@@ -148,6 +148,17 @@ where
     (done, shelf.into_shelf())
 }
 
+/// How each line spells a write, as options say.
+fn form_of(options: LoadOptions) -> LineForm
+    ensures { result ≡ form_of options }
+{
+    if options.json {
+        LineForm::Json
+    } else {
+        LineForm::Words(options.ingest.form)
+    }
+}
+
 /// The lines of an input from the one of this number on, counted from 1, in this form. The last one
 /// may lack its newline, or not.
 fn lines_from<I: Read + Drop>(
@@ -160,7 +171,8 @@ fn lines_from<I: Read + Drop>(
     ensures held { IfOk result (λ l. l.held ≡ []) }
     ensures fault { IfErr result (λ e. (e ≡ OutOfMemory) ⊎ (e ≡ Read)) }
 {
-    let mut lines = BatchReader::new(alloc, options.ingest.form, options.last_line, input)?;
+    let form = form_of(options);
+    let mut lines = BatchReader::new(alloc, form, options.last_line, input)?;
     match lines.pass(options.from_line.saturating_sub(1)) {
         Ok(()) => Ok(lines),
         Err(_) => Err(WriterFault::Read),

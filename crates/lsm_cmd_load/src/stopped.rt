@@ -12,10 +12,11 @@ ghost use Rattle.lsm_opening.specs.declared.faults.writer_fault.WriterFault.TheV
 use lsm_batch::Write as KeyWrite;
 use lsm_bulk_load::LoadFault;
 use lsm_directory::{DirectoryFault, Exit};
-use lsm_lines::WriteLineFault;
+use lsm_lines::{LineFault, WriteLineFault};
 use lsm_opening::{CompactFault, WriterFault};
 use lsm_state::StateFault;
 use lsm_store::WorkerFault;
+use lsm_text::LineSyntaxFault;
 use std::alloc::AllocError;
 use std::fmt;
 use std::io::{self, Write};
@@ -123,11 +124,19 @@ pub(crate) fn write_last<E: Write>(err: &mut E, last: Option<u128>) -> io::Resul
     }
 }
 
+/// Where a line of words stops being one; none of an object.
+fn words_fault(place: Option<LineFault>) -> Option<LineSyntaxFault> {
+    match place {
+        Some(LineFault::Words(fault)) => Some(fault),
+        Some(LineFault::Object(_)) | None => None,
+    }
+}
+
 /// A line that is no write, as other commands tell it.
 fn fault_of_line(fault: WriteLineFault, line: u128) -> WriterFault {
     let line = usize::try_from(line).unwrap_or(usize::MAX);
     match fault {
-        WriteLineFault::BadLine(place) => WriterFault::BadLine(line, place),
+        WriteLineFault::BadLine(place) => WriterFault::BadLine(line, words_fault(place)),
         WriteLineFault::LongLine | WriteLineFault::LargeWrite | WriteLineFault::NoNewline => {
             WriterFault::BadLine(line, None)
         }
@@ -148,12 +157,21 @@ fn fault_of_load(fault: LoadFault, line: u128) -> Option<CompactFault> {
     }
 }
 
+/// Writes where a line stops being one of its form.
+fn explain_bad<E: Write>(err: &mut E, place: Option<LineFault>, line: u128) -> io::Result<()> {
+    match place {
+        Some(LineFault::Object(fault)) => writeln!(err, "line {line}, {fault}"),
+        place => fault_of_line(WriteLineFault::BadLine(place), line).explain(err, &[]),
+    }
+}
+
 /// Writes what is wrong with the first line that is not in.
 fn explain_line<E: Write>(err: &mut E, fault: WriteLineFault, line: u128) -> io::Result<()>
     ensures { OnOk result (IfSome (line_meaning fault line) (λ text.
         Appends (E.contents err.old) (E.contents err.new) text)) }
 {
     match fault {
+        WriteLineFault::BadLine(place) => explain_bad(err, place, line),
         WriteLineFault::LongLine => writeln!(err, "line {line} has more than 8388608 bytes"),
         WriteLineFault::LargeWrite => writeln!(
             err,

@@ -13,5 +13,6 @@ mod BatchLaws
 mod TalkLaws
 mod HistoryLaws
 mod RunLaws
+mod UnwrittenLaws
 mod KeepingLaws
 mod BesideLaws

@@ -13,5 +13,6 @@ pub mod Keeping
 pub mod Beside
 pub mod Asked
 pub mod Conversing
+pub mod Reading
 pub mod ShellFault
 pub mod Talked

@@ -1,13 +1,18 @@
 //! Laws of conversations, as contracts of functions that do nothing.
 
-ghost use Rattle.std.specs.Prelude.{◌≡◌, List, None, ℕ};
+ghost use Rattle.std.specs.Prelude.{◌≡◌, List, None, true, ℕ};
 ghost use Rattle.lsm_shelf.specs.Told.{Told};
 ghost use Rattle.lsm_text.specs.declared.form.Form.{Form};
+ghost use Rattle.lsm_batch.specs.declared.write.Write.{Write};
+ghost use Rattle.lsm_state.specs.declared.state_fault.StateFault.TheVariants.{Halted};
 ghost use Rattle.lsm_script.specs.History.{History, IsAnswered, IsOf, history_of};
 ghost use Rattle.lsm_script.specs.Scripts.{AreSteps};
-ghost use Rattle.lsm_script.specs.Steps.{stage_of};
+ghost use Rattle.lsm_script.specs.Steps.{IsStep, Stage, stage_of};
 ghost use Rattle.lsm_script.specs.declared.command.Command.{Command};
+ghost use Rattle.lsm_script.specs.declared.command.Command.TheVariants.{Ingest};
+ghost use Rattle.lsm_script.specs.declared.command_fault.CommandFault.TheVariants.{State as StateRefusal};
 ghost use Rattle.lsm_script.specs.declared.reply.Reply.{Reply};
+ghost use Rattle.lsm_script.specs.declared.reply.Reply.TheVariants.{Refused};
 ghost use Rattle.lsm_cmd_shell.specs.Asked.{AreDone};
 ghost use Rattle.lsm_cmd_shell.specs.Batching.{Standing, standing};
 ghost use Rattle.lsm_cmd_shell.specs.Said.{Said};
@@ -35,4 +40,11 @@ pub fn talks_are_of_the_history<N: Boarded, S: Shelf>(state: &State<N, S>)
 pub fn a_bad_line_has_one_reply()
     ensures { (form : Form) (line : List ℕ) (a b : Said) → IsBadLine form line a
         → IsBadLine form line b → a ≡ b }
+{}
+
+/// A law: a batch that is to come into a halted state, as one is that is only read, is refused as
+/// `Halted`: that of a `put`, a `delete` and a `commit` too.
+pub fn halted_states_refuse_batches<S: Shelf>()
+    ensures { (writes : List Write) (reply : Reply) (s t : Stage) → s.state.halted ≡ true
+        → IsStep S.honest (Ingest writes) reply s t → reply ≡ Refused (StateRefusal Halted) }
 {}

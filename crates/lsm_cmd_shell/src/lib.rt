@@ -45,6 +45,8 @@ mod laws;
 // The conversation with the database of a folder.
 mod conversing;
 mod conversing_beside;
+mod conversing_to_read;
+mod notes;
 mod program;
 mod shell_fault;
 
@@ -53,7 +55,8 @@ pub use ask_line::ask_in;
 pub use beside::talk_beside;
 pub use conversing::converse;
 pub use conversing_beside::converse_beside;
-pub use laws::{a_bad_line_has_one_reply, talks_are_of_the_history};
+pub use conversing_to_read::converse_to_read;
+pub use laws::{a_bad_line_has_one_reply, halted_states_refuse_batches, talks_are_of_the_history};
 pub use line_kind::LineKind;
 pub use mistake::{Mistake, Wrong};
 pub use outcome::Outcome;

@@ -1,2 +1,3 @@
 mod StatusLaws
+mod NoteLaws
 mod ComparedLaws

@@ -23,6 +23,7 @@ use Rattle.lsm_grammar.specs.declared.request.Request.TheVariants.{Script, Shell
 use Rattle.lsm_grammar.specs.declared.writing_command.WritingCommand.{WritingCommand}
 use Rattle.lsm_grammar.specs.declared.writing_command.WritingCommand.TheVariants.{Ingest, WriteKey}
 use Rattle.lsm_grammar.specs.declared.writing_command.WritingCommand.TheVariants.{Clean}
+use Rattle.lsm_commands.specs.Noting.{IsNoted, IsRefused, noted_by}
 use Rattle.lsm_cmd_bench.specs.Benched.{BenchesAt}
 use Rattle.lsm_cmd_convert.specs.Converted.{IsConverted, IsUnconverted}
 use Rattle.lsm_cmd_convert.specs.Played.{IsPlayed, IsUnplayed}
@@ -114,17 +115,21 @@ module _ {C M : Type 0} (folders : Ghosts C M) (marks : mark.Ghosts M)
   IsDone text (Script input) old new said_old said_new =
       IsPlayed (text input) old new × Keeps said_old said_new
   IsDone text (Shell line) old new said_old said_new =
-      TalksAt folders line.path.now line.options line.workers line.bails (text Standard) old new
-      × Keeps said_old said_new
+      TalksAt folders line.path.now line.options line.workers line.bails line.reads_only
+      (text Standard) old new
+      × (IsFalse line.reads_only → Keeps said_old said_new)
   IsDone text (Bench line) old new said_old said_new =
       BenchesAt folders line.path.now line.options × Keeps said_old said_new
 
-  -- In a manner the logs of the request's folder came in first, and then it was done.
+  -- In a manner what is not read of the request's folder was noted, the logs of it came in, and
+  -- then it was done.
   pub record IsFollowed (text : Input → Option (List ℕ)) (request : Request) (manner : Manner)
       (old new said_old said_new : Option (List ℕ)) : Type 0 where
+    pub noted : Option (List ℕ)
+    pub notes : IsNoted folders (noted_by request manner.strict) manner.strict said_old noted
     pub first : manner.recovers ≡ true → ComesBefore folders marks (opened_by request)
     pub said : Option (List ℕ)
-    pub quiet : Keeps said_old said
+    pub quiet : Keeps noted said
     pub done : IsDone text request old new said said_new
 
   -- The words ask for a command, which was done so. Its reads were compared or not.
@@ -176,18 +181,19 @@ module _ {C M : Type 0} (folders : Ghosts C M) (marks : mark.Ghosts M)
   IsUndone text (Compact line) old new = IsUncompacted folders marks line old new
   IsUndone text (Script input) old new = IsUnplayed (text input) old new
   IsUndone text (Shell line) old new =
-      FailsToTalk folders marks line.path.now line.options line.workers line.bails (text Standard)
-      old new
+      FailsToTalk folders marks line.path.now line.options line.workers line.bails line.reads_only
+      (text Standard) old new
   IsUndone text (Bench line) old new = ⊤
 
-  -- In a manner the logs of the request's folder did not come in first, and nothing was written on
-  -- standard output; or they did, and it was not done.
+  -- In a manner something is not read of the request's folder, which is refused; or its logs did
+  -- not come in, and in both nothing was written on standard output; or it was not done.
   abbrev pub IsUnfollowed : (Input → Option (List ℕ)) → Request → Manner
       → (old new : Option (List ℕ)) → Type 0
   IsUnfollowed text request manner old new =
-      ((manner.recovers ≡ true) × StaysBefore folders marks (opened_by request) × Keeps old new)
+      (IsRefused folders (noted_by request manner.strict) manner.strict × Keeps old new)
+      ⊎ (((manner.recovers ≡ true) × StaysBefore folders marks (opened_by request) × Keeps old new)
       ⊎ ((manner.recovers ≡ true → ComesBefore folders marks (opened_by request))
-      × IsUndone text request old new)
+      × IsUndone text request old new))
 
   -- The words ask for a command, which was not done so. Its reads were compared or not.
   pub record AreUnfollowed (compares : Bool) (text : Input → Option (List ℕ)) (words : List Text)

@@ -1,5 +1,5 @@
 -- How a command waits for the lock of its folder before it asks for it itself: this project's rule.
-use Rattle.std.specs.Prelude.{◌≡◌, ◌≢◌, ◌⊎◌, ℕ, ◌<◌, Bool, false, List, [], ◌∷◌, ◌++◌}
+use Rattle.std.specs.Prelude.{◌≡◌, ◌≢◌, ◌⊎◌, ℕ, ◌<◌, Bool, true, false, List, [], ◌∷◌, ◌++◌}
 use Rattle.std.specs.Prelude.{Option, Some, None, Result, Ok, codes, replicate}
 use Rattle.lsm_folder.specs.Calls.{Call, locked, opened}
 use Rattle.lsm_folder.specs.declared.folder_calls.FolderCalls.{Ghosts}
@@ -13,6 +13,11 @@ use Rattle.lsm_grammar.specs.declared.request.Request.TheVariants.{Write as Writ
 use Rattle.lsm_grammar.specs.declared.request.Request.TheVariants.{Import, Recover, Compact}
 use Rattle.lsm_grammar.specs.declared.request.Request.TheVariants.{Script, Shell, Bench}
 
+-- of a shell that only reads the lock is shared
+abbrev pub shell_lock : Bool → LockKind
+shell_lock true = Shared
+shell_lock false = Exclusive
+
 -- the folder that is waited for, and how its lock is asked for: shared by a command that only reads
 abbrev pub locked_by : Request → Option (List ℕ × LockKind)
 locked_by (Convert conversion input) = None
@@ -24,7 +29,7 @@ locked_by (Import line) = None
 locked_by (Recover path) = Some (path.now, Exclusive)
 locked_by (Compact line) = Some (line.path.now, Exclusive)
 locked_by (Script input) = None
-locked_by (Shell line) = Some (line.path.now, Exclusive)
+locked_by (Shell line) = Some (line.path.now, shell_lock line.reads_only)
 locked_by (Bench line) = None
 
 -- the lock of `LOCK` is asked for, and another has it

@@ -14,5 +14,8 @@ mod running;
 // Before that, where they ask to, a lock is waited for.
 mod waiting;
 
+// And what a command that writes leaves unread in its folder is noted.
+mod noting;
+
 pub use lsm_cmd_convert::{Watched, convert, read_script, script};
 pub use running::{refuse_words, run};

@@ -12,6 +12,7 @@ ghost use Rattle.lsm_commands.specs.Run.{IsUnfollowed, IsUnwritten, IsWritten, S
 ghost use Rattle.lsm_commands.specs.Run.{opened_by};
 ghost use Rattle.lsm_requests.specs.Inputs.{text_in};
 
+use crate::noting::note;
 use crate::waiting::awaited;
 use lsm_cmd_bench::run_bench;
 use lsm_cmd_compact::run_compact;
@@ -150,6 +151,7 @@ where
             line.options,
             line.workers,
             line.bails,
+            line.reads_only,
             input,
             out,
             err,
@@ -207,7 +209,8 @@ where
 
 /// Does what a request asks, behind the logs of its folder where they are to come in first, and
 /// answers the exit status. Before that the lock of its folder is waited for, where that is asked
-/// for, and let go: in between another program may take it.
+/// for, and let go, and then what is not read there is noted: in between another program may take
+/// the lock.
 fn follow<C, P, R, I, O, E>(
     rt: &R,
     paths: &P,
@@ -234,6 +237,10 @@ where
 {
     if let Some(seconds) = manner.waits {
         drop(awaited(rt, paths, request, seconds));
+    }
+    let noted = note(rt, paths, request, manner.strict, err);
+    if noted != 0 {
+        return noted;
     }
     let first = bring_logs(rt, paths, request, manner.recovers, err);
     if first != 0 {

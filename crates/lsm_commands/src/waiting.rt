@@ -1,7 +1,7 @@
 //! A command waits until it may have the lock of its folder.
 
 ghost use Rattle.std.specs.Prelude.{◌≡◌, ◌*◌, IfSome, min, option_map};
-ghost use Rattle.lsm_commands.specs.Waiting.{AwaitsLock, IsAwaited, locked_by};
+ghost use Rattle.lsm_commands.specs.Waiting.{AwaitsLock, IsAwaited, locked_by, shell_lock};
 
 use lsm_directory::{Paths, open_at};
 use lsm_folder::{FolderCalls, LockKind, Reasons};
@@ -17,6 +17,17 @@ const ASKS: u64 = 20;
 /// The longest that is waited, in seconds.
 const LONGEST: u64 = 3600;
 
+/// How a shell asks for the lock: shared where it only reads.
+fn shell_lock(reads_only: bool) -> LockKind
+    ensures { result ≡ shell_lock reads_only }
+{
+    if reads_only {
+        LockKind::Shared
+    } else {
+        LockKind::Exclusive
+    }
+}
+
 /// The folder of which a request asks for the lock, and how. None where it asks for none, or may
 /// ask for two.
 fn locked_by<'a>(request: &Request<'a>) -> Option<(&'a str, LockKind)>
@@ -28,7 +39,7 @@ fn locked_by<'a>(request: &Request<'a>) -> Option<(&'a str, LockKind)>
         Request::Load(line) => Some((line.path, LockKind::Exclusive)),
         Request::Recover(path) => Some((path, LockKind::Exclusive)),
         Request::Compact(line) => Some((line.path, LockKind::Exclusive)),
-        Request::Shell(line) => Some((line.path, LockKind::Exclusive)),
+        Request::Shell(line) => Some((line.path, shell_lock(line.reads_only))),
         _ => None,
     }
 }

@@ -127,6 +127,9 @@ quick = flag (codes "quick")
 abbrev pub last_line : Rule
 last_line = flag (codes "last-line")
 
+abbrev pub json : Rule
+json = flag (codes "json")
+
 abbrev pub progress : Rule
 progress = flag (codes "progress")
 
@@ -171,43 +174,45 @@ unfoldable pub scan : App
 scan =
     command (codes "scan")
     (folder ∷ valued (codes "from") ∷ valued (codes "to") ∷ valued (codes "prefix") ∷ limit ∷ text
-    ∷ flag (codes "keys") ∷ flag (codes "json")
+    ∷ flag (codes "keys") ∷ json
     ∷ flag (codes "count") ∷ quick ∷ strict ∷ compare ∷ progress ∷ wait ∷ [])
 
 unfoldable pub ingest : App
 ingest = command (codes "ingest")
-    (folder ∷ word (codes "FILE") ∷ text ∷ begin ∷ beside_log ∷ recovers ∷ compare ∷ wait ∷ [])
+    (folder ∷ word (codes "FILE") ∷ text ∷ begin ∷ beside_log ∷ recovers ∷ strict ∷ compare ∷ wait
+    ∷ [])
 
 unfoldable pub put : App
 put = command (codes "put")
-    (folder ∷ key ∷ word (codes "VALUE") ∷ text ∷ begin ∷ beside_log ∷ recovers ∷ compare ∷ wait
-    ∷ [])
+    (folder ∷ key ∷ word (codes "VALUE") ∷ text ∷ begin ∷ beside_log ∷ recovers ∷ strict ∷ compare
+    ∷ wait ∷ [])
 
 unfoldable pub delete : App
 delete = command (codes "delete")
-    (folder ∷ key ∷ text ∷ begin ∷ beside_log ∷ recovers ∷ compare ∷ wait ∷ [])
+    (folder ∷ key ∷ text ∷ begin ∷ beside_log ∷ recovers ∷ strict ∷ compare ∷ wait ∷ [])
 
 unfoldable pub load : App
 load = command (codes "load") (folder ∷ file ∷ text ∷ begin ∷ beside_log ∷ recovers ∷ workers
-    ∷ from_line ∷ last_line ∷ compare ∷ progress ∷ wait ∷ [])
+    ∷ from_line ∷ last_line ∷ json ∷ strict ∷ compare ∷ progress ∷ wait ∷ [])
 
 unfoldable pub import_folder : App
 import_folder = command (codes "import") (word (codes "SRC") ∷ word (codes "DST") ∷ compare ∷ [])
 
 unfoldable pub recover : App
-recover = command (codes "recover") (folder ∷ compare ∷ wait ∷ [])
+recover = command (codes "recover") (folder ∷ strict ∷ compare ∷ wait ∷ [])
 
 unfoldable pub compact : App
 compact = command (codes "compact") (folder ∷ flag (codes "all") ∷ valued (codes "from")
-    ∷ valued (codes "to") ∷ text ∷ workers ∷ accept_rest ∷ compare ∷ progress ∷ wait ∷ [])
+    ∷ valued (codes "to") ∷ text ∷ workers ∷ accept_rest ∷ strict ∷ compare ∷ progress ∷ wait
+    ∷ [])
 
 unfoldable pub clean : App
-clean = command (codes "clean") (folder ∷ accept_rest ∷ wait ∷ [])
+clean = command (codes "clean") (folder ∷ accept_rest ∷ strict ∷ wait ∷ [])
 
 unfoldable pub shell : App
 shell = command (codes "shell")
-    (folder ∷ text ∷ begin ∷ beside_log ∷ recovers ∷ compactors ∷ flag (codes "bail") ∷ compare
-    ∷ wait ∷ [])
+    (folder ∷ text ∷ begin ∷ beside_log ∷ recovers ∷ compactors ∷ flag (codes "bail")
+    ∷ flag (codes "read-only") ∷ strict ∷ compare ∷ wait ∷ [])
 
 unfoldable pub bench : App
 bench = command (codes "bench") (folder ∷ benchmarks ∷ num ∷ value_size ∷ some_workers ∷ [])

@@ -1,7 +1,7 @@
 -- What the words of a command line ask for, by what clap's grammar finds in them: this project's
 -- rule.
 use Rattle.std.specs.Prelude.{◌≡◌, ◌≢◌, ℕ, ◌+◌, ◌≤◌, ◌⊎◌, ⊤, Bool, true, false, if◌then◌else◌, List}
-use Rattle.std.specs.Prelude.{[], ◌∷◌, ◌||◌, codes, Option, Some, None, is_some, option_map}
+use Rattle.std.specs.Prelude.{[], ◌∷◌, ◌||◌, ◌&&◌, codes, Option, Some, None, is_some, option_map}
 use Rattle.std.specs.Option.{option_map_or, option_or}
 use Rattle.std.specs.Str.{bytes_eq}
 use Rattle.clap.specs.Words.{IsAmong, Kinds, Row, Text, fault_of, first_of, found_of, rows_of}
@@ -238,6 +238,12 @@ scan_output_in rows =
     else if is_set (codes "keys") rows then Keys
     else Pairs
 
+-- of a load `--json` and `--text` exclude one another
+abbrev pub json_in : List Row → Option Bool
+json_in rows =
+    if is_set (codes "json") rows && is_set (codes "text") rows then None
+    else Some (is_set (codes "json") rows)
+
 -- `--files` and `--svg` exclude one another
 abbrev pub levels_output_in : List Row → Option LevelsOutput
 levels_output_in rows =
@@ -296,7 +302,20 @@ AreLoadOptions rows options =
     × AreWorkers (word_in (codes "workers") rows) options.workers
     × IsLineNumber (word_in (codes "from-line") rows) options.from_line
     × (options.last_line ≡ is_set (codes "last-line") rows)
+    × (json_in rows ≡ Some options.json)
     × (options.progress ≡ is_set (codes "progress") rows)
+
+-- a shell is to begin, to write beside a log, to bring logs in, or to compact
+abbrev pub writes_beside : List Row → Bool
+writes_beside rows =
+    is_set (codes "begin") rows || is_set (codes "beside-log") rows
+    || is_set (codes "recover") rows || is_some (word_in (codes "workers") rows)
+
+-- `--read-only` excludes `--begin`, `--beside-log`, `--recover` and `--workers`
+abbrev pub reads_only_in : List Row → Option Bool
+reads_only_in rows =
+    if is_set (codes "read-only") rows && writes_beside rows then None
+    else Some (is_set (codes "read-only") rows)
 
 -- the word names these benchmarks
 abbrev pub AreNamed : Option Text → List Benchmark → Type 0
@@ -354,6 +373,7 @@ Says rows (Shell line) =
     (word_in (codes "DIR") rows ≡ Some line.path.now) × AreIngestOptions rows line.options
     × AreThreads (word_in (codes "workers") rows) line.workers
     × (line.bails ≡ is_set (codes "bail") rows)
+    × (reads_only_in rows ≡ Some line.reads_only)
 Says rows (Bench line) = (word_in (codes "DIR") rows ≡ Some line.path.now)
     × AreBenchOptions rows line.options
 
@@ -388,13 +408,15 @@ abbrev pub AreSeconds : Option Text → Option ℕ → Type 0
 AreSeconds word None = (n : ℕ) → IsNumberIn 1 3600 word n → ⊥
 AreSeconds word (Some n) = IsNumberIn 1 3600 word n
 
--- how the command that was found is done: by `--recover`, `--compare` and `--wait` among its words
+-- how the command that was found is done: by `--recover`, `--compare`, `--strict` and `--wait`
+-- among its words
 abbrev pub IsMannerIn : Option (Text × List Row) → Manner → Type 0
 IsMannerIn None manner =
-    manner ≡ record { recovers = false; compares = false; waits = None }
+    manner ≡ record { recovers = false; compares = false; strict = false; waits = None }
 IsMannerIn (Some (name, rows)) manner =
     (manner.recovers ≡ is_set (codes "recover") rows)
     × (manner.compares ≡ is_set (codes "compare") rows)
+    × (manner.strict ≡ is_set (codes "strict") rows)
     × AreSeconds (word_in (codes "wait") rows) manner.waits
 
 -- how the command that words ask for is done

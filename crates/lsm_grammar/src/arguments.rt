@@ -91,6 +91,12 @@ pub(crate) const STRICT: Argument = Argument::Flag(
     "Refuse where a log or the manifest's end is not read",
 );
 
+/// What a command that writes would note is refused.
+pub(crate) const NO_NOTES: Argument = Argument::Flag(
+    "strict",
+    "Refuse where there is something to note",
+);
+
 /// Tables are not verified first.
 pub(crate) const QUICK: Argument = Argument::Flag(
     "quick",
@@ -233,6 +239,15 @@ pub(crate) const FROM_LINE: Argument = Argument::Valued(Valued {
 pub(crate) const BAIL: Argument = Argument::Flag(
     "bail",
     "End behind the first bad or refused line",
+);
+
+/// Lines that are loaded are JSON objects.
+pub(crate) const JSON_LINES: Argument = Argument::Flag("json", "Each line is a JSON object");
+
+/// A shell writes nothing.
+pub(crate) const READ_ONLY: Argument = Argument::Flag(
+    "read-only",
+    "Refuse each line that would write",
 );
 
 /// A last line that may have been cut is loaded.

@@ -10,10 +10,11 @@ ghost use Rattle.lsm_grammar.specs.Requests.{IsAsked, IsBound, IsInput};
 ghost use Rattle.lsm_grammar.specs.Requests.{IsKeyWrite, IsLimit, IsLook, IsMannerIn};
 ghost use Rattle.lsm_grammar.specs.Requests.{IsNumberIn, IsRange, IsSpelled, IsWithin, IsWorkersWord};
 ghost use Rattle.lsm_grammar.specs.Requests.{IsWrite, Reads, form_in};
-ghost use Rattle.lsm_grammar.specs.Requests.{get_output_in, is_set, levels_output_in};
+ghost use Rattle.lsm_grammar.specs.Requests.{get_output_in, is_set, json_in, levels_output_in};
 ghost use Rattle.lsm_grammar.specs.Requests.{name_of_conversion, name_of_look, name_of_value};
 ghost use Rattle.lsm_grammar.specs.Requests.{name_of_write, rows_in};
-ghost use Rattle.lsm_grammar.specs.Requests.{scan_output_in, topic_in, topic_of, word_in};
+ghost use Rattle.lsm_grammar.specs.Requests.{reads_only_in, scan_output_in, topic_in, topic_of};
+ghost use Rattle.lsm_grammar.specs.Requests.{word_in, writes_beside};
 
 use crate::bench_line::BenchLine;
 use crate::benchmarks::benchmarks_in;
@@ -242,7 +243,20 @@ pub(crate) fn between_in(word: Option<&str>, least: u64, most: u64) -> Option<u6
     Some(number)
 }
 
-/// How lines are to be loaded. `None` where a word names no workers, or no line.
+/// Whether lines that are loaded are JSON objects. `None` where both `--json` and `--text` are
+/// there.
+fn json_in(found: &ArgMatches<'_>) -> Option<bool>
+    ensures { result ≡ json_in (rows_in found.now) }
+{
+    let json = is_set(found, "json");
+    if json && is_set(found, "text") {
+        return None;
+    }
+    Some(json)
+}
+
+/// How lines are to be loaded. `None` where a word names no workers, or no line, or both `--json`
+/// and `--text` are there.
 fn load_options_in(found: &ArgMatches<'_>) -> Option<LoadOptions>
     ensures some { IfSome result (AreLoadOptions (rows_in found.now)) }
     ensures none { IfNone result ((options : LoadOptions)
@@ -253,6 +267,7 @@ fn load_options_in(found: &ArgMatches<'_>) -> Option<LoadOptions>
         workers: workers_of(found)?,
         from_line: between_in(word_in(found, "from-line"), 1, u64::MAX)?,
         last_line: is_set(found, "last-line"),
+        json: json_in(found)?,
         progress: is_set(found, "progress"),
     })
 }
@@ -536,6 +551,27 @@ fn compact_in<'a>(alloc: Global, found: &ArgMatches<'a>) -> Result<Option<Reques
     Ok(Some(Request::Compact(CompactLine { path, options })))
 }
 
+/// Whether a shell is to begin, to write beside a log, to bring logs in, or to compact.
+fn writes_beside(found: &ArgMatches<'_>) -> bool
+    ensures { result ≡ writes_beside (rows_in found.now) }
+{
+    is_set(found, "begin")
+        || is_set(found, "beside-log")
+        || is_set(found, "recover")
+        || word_in(found, "workers").is_some()
+}
+
+/// Whether a shell only reads. `None` where it is to write as well.
+pub(crate) fn reads_only_in(found: &ArgMatches<'_>) -> Option<bool>
+    ensures { result ≡ reads_only_in (rows_in found.now) }
+{
+    let reads_only = is_set(found, "read-only");
+    if reads_only && writes_beside(found) {
+        return None;
+    }
+    Some(reads_only)
+}
+
 /// Commands on a folder, from standard input.
 fn shell_in<'a>(found: &ArgMatches<'a>) -> Option<Request<'a>>
     ensures { Reads CommandName.Shell (rows_in found.now) result }
@@ -543,11 +579,13 @@ fn shell_in<'a>(found: &ArgMatches<'a>) -> Option<Request<'a>>
     let path = word_in(found, "DIR")?;
     let options = ingest_options_in(found);
     let workers = threads_of(word_in(found, "workers"))?;
+    let reads_only = reads_only_in(found)?;
     Some(Request::Shell(ShellLine {
         path,
         options,
         workers,
         bails: is_set(found, "bail"),
+        reads_only,
     }))
 }
 
@@ -640,11 +678,13 @@ pub(crate) fn manner_in(matches: &ArgMatches<'_>) -> Manner
         Some((_, found)) => Manner {
             recovers: is_set(found, "recover"),
             compares: is_set(found, "compare"),
+            strict: is_set(found, "strict"),
             waits: between_in(word_in(found, "wait"), 1, 3600),
         },
         None => Manner {
             recovers: false,
             compares: false,
+            strict: false,
             waits: None,
         },
     }

@@ -13,7 +13,9 @@ ghost use Rattle.lsm_grammar.specs.Pages.{rule_of_option, with_pages};
 ghost use Rattle.lsm_grammar.specs.Requests.{faults_in, found_in};
 
 use crate::arguments::{Argument, Valued};
-use crate::pages::{COMMANDS, OVERVIEW, Page, VERSION, usage_of};
+use crate::overview::{OVERVIEW, VERSION};
+use crate::pages::{COMMANDS, Page};
+use crate::usage::usage_of;
 use clap::builder::ValueParser;
 use clap::{Arg, ArgAction, ArgMatches, Command, Error};
 use std::alloc::{AllocError, Global};

@@ -20,7 +20,9 @@ mod benchmarks;
 mod command_line;
 mod command_name;
 mod grammar;
+mod overview;
 mod pages;
+mod usage;
 mod usage_fault;
 
 // What holds of words that ask for help.

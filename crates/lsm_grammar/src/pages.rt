@@ -2,11 +2,11 @@
 
 use crate::arguments::{
     ACCEPT_REST, ALL, Argument, BAIL, BATCH, BEGIN, BENCHMARKS, BESIDE_LOG, COMPACTORS, COMPARE,
-    COUNT, EXISTS, FILES, FIRST, FOLDER, FROM, FROM_LINE, JSON, KEY, KEYS, LAST, LAST_LINE, LIMIT,
-    NUM, PREFIX, PROGRESS, QUICK, RAW, RECOVERS, SOME_WORKERS, SOURCE, STRICT, SVG, TARGET, TEXT,
-    TO, VALUE, VALUE_SIZE, VERIFIERS, WAIT, WORKERS,
+    COUNT, EXISTS, FILES, FIRST, FOLDER, FROM, FROM_LINE, JSON, JSON_LINES, KEY, KEYS, LAST,
+    LAST_LINE, LIMIT, NO_NOTES, NUM, PREFIX, PROGRESS, QUICK, RAW, READ_ONLY, RECOVERS,
+    SOME_WORKERS, SOURCE, STRICT, SVG, TARGET, TEXT, TO, VALUE, VALUE_SIZE, VERIFIERS, WAIT,
+    WORKERS,
 };
-use crate::command_name::{CommandName, named};
 
 /// A command as its help shows it.
 #[derive(Clone, Copy)]
@@ -19,70 +19,6 @@ pub(crate) struct Page {
     pub(crate) text: &'static str,
     pub(crate) example: &'static str,
 }
-
-/// The program's version, and of what version of LevelDB the files are.
-pub(crate) const VERSION: &str = "0.1.0 (files of LevelDB 1.23, uncompressed)";
-
-pub(crate) const OVERVIEW: &str =
-    "Keys and values are words in hex, two digits a byte (61 is `a`), or with --text
-as text; `.` stands for no bytes. In text a byte that does not print is `\\xNN`,
-and so are `\\` (`\\x5c`), `=` (`\\x3d`), `!` (`\\x21`), `@` (`\\x40`), a blank
-(`\\x20`) and a word that is just a point (`\\x2e`). Sizes are in bytes.
-
-FILE is the path of a file, or `-` for standard input; it may have 64 MiB, and
-for `load` any size.
-Options stand anywhere behind the command, and a value is the word behind its
-option, or behind `=` in its word: `--from 61`, `--from=61`. Behind `--` no word
-is an option: `lsm get db --text -- -key`.
-
-A DIR that is not there is `refused 9 Device`, one without a file CURRENT
-`refused 10 Missing`; but `ingest`, `put`, `delete`, `load` and `shell` begin a
-database in a DIR that has no manifest and no table either. A DIR that is a
-symbolic link is the folder that it leads to; what is no regular file is not
-read.
-
-`ingest`, `put`, `delete`, `load`, `compact`, `clean` and `shell` hold LevelDB's
-lock file, DIR/LOCK, alone, and make it where it is not there; the other commands
-share it where it is there. Where another program holds it, also a LevelDB, it is
-`refused 52 Locked`, and nothing is read or written. A LevelDB is noticed where
-the system has the file /proc/locks; it does not notice `lsm`: do not open DIR
-while `lsm` writes there. With --wait a command first waits until the lock is
-free, SECONDS at most; it asks for it 20 times a second.
-
-No command but `import` and `recover` reads a write-ahead log (`N.log`). Of each
-one that LevelDB has not flushed, `list`, `get` and `scan` say on standard error
-how many bytes are not read, and `check` prints a line. `ingest`, `put`,
-`delete`, `load` and `shell` are `refused 51 UnflushedLog N` beside it; with
---recover they first bring it in, as `recover` does.
-
-Where DIR has a later manifest than the one that CURRENT names, or files of
-RocksDB, `check`, `list`, `get` and `scan` say so on standard error; with
---strict that is `refused 62 LaterManifest N` or `refused 63 RocksDbFiles`.
-
-Tables that are compressed, as LevelDB makes them unless told otherwise, are
-refused: `refused 16 Compressed 1`.
-
-With --compare each table is kept in memory as it was read first, and what is
-read of it again is compared with that: where the disk then gives other bytes it
-is `refused 9 Device`. It takes as much memory as the tables have bytes.
-
-Standard output has what was asked for, and nothing else. Standard error says
-why a command is refused or is none, names logs that are not read, and with
---progress says how far a command is. Where standard error is a terminal,
-`load`, `compact`, `check`, and a `scan` into a file, show that without
---progress too, in one line that is gone at the end.
-
-Exit status:
-  0  done
-  1  refused; standard error says why: `refused N Name ..`, `write fault`,
-     `read fault` or `bad line I`, and of a shell also `failed line` or
-     `open batch`. A second line may say more: the call that the system refused,
-     with its path and the system's reason, the file of a fault, the place in a
-     line, or what is to be done. `get` with --raw or --exists: the key is absent,
-     and standard error says `absent`
-  2  bad command line
-
-Example: lsm check db";
 
 const MAKE_TABLE: Page = Page {
     name: "mktable",
@@ -353,7 +289,7 @@ before it stand, 2 bad command line.",
 const INGEST: Page = Page {
     name: "ingest",
     arguments: &[
-        FOLDER, BATCH, TEXT, BEGIN, BESIDE_LOG, RECOVERS, COMPARE, WAIT,
+        FOLDER, BATCH, TEXT, BEGIN, BESIDE_LOG, RECOVERS, NO_NOTES, COMPARE, WAIT,
     ],
     about: "Brings keys into a folder, or begins a database there",
     text: "Brings the keys of FILE into the LevelDB folder DIR, as one table at level 0,
@@ -401,7 +337,7 @@ fault` the batch is in; after `refused 9 Device` it may be.",
 const PUT: Page = Page {
     name: "put",
     arguments: &[
-        FOLDER, KEY, VALUE, TEXT, BEGIN, BESIDE_LOG, RECOVERS, COMPARE, WAIT,
+        FOLDER, KEY, VALUE, TEXT, BEGIN, BESIDE_LOG, RECOVERS, NO_NOTES, COMPARE, WAIT,
     ],
     about: "Gives a key of a folder a value",
     text: "Gives KEY the value VALUE in the LevelDB folder DIR, as one table at level 0, and
@@ -429,7 +365,7 @@ Exit status: 0 the key has the value, 1 refused, 2 bad command line. After a
 const DELETE: Page = Page {
     name: "delete",
     arguments: &[
-        FOLDER, KEY, TEXT, BEGIN, BESIDE_LOG, RECOVERS, COMPARE, WAIT,
+        FOLDER, KEY, TEXT, BEGIN, BESIDE_LOG, RECOVERS, NO_NOTES, COMPARE, WAIT,
     ],
     about: "Deletes a key of a folder",
     text: "Deletes KEY in the LevelDB folder DIR, whether it has a value or not, by one
@@ -464,6 +400,8 @@ const LOAD: Page = Page {
         WORKERS,
         FROM_LINE,
         LAST_LINE,
+        JSON_LINES,
+        NO_NOTES,
         COMPARE,
         PROGRESS,
         WAIT,
@@ -473,7 +411,9 @@ const LOAD: Page = Page {
 into the LevelDB folder DIR, and prints `loaded L lines in B batches`. A line is
 `KEY=VALUE` for a new value of KEY, or `KEY!` where it is deleted; of one key the
 last line wins. There may be any number of lines, in any order. KEY and VALUE are
-hex, or text with --text, `.` for no bytes: `scan` prints such lines.
+hex, or text with --text, `.` for no bytes: `scan` prints such lines. With --json
+a line is a JSON object, `{\"key\":\"..\",\"value\":\"..\"}`, as `scan --json` prints
+them, also with bytes in base64; it excludes --text.
 
 FILE is read as a stream, in memory that does not grow with it. As many lines as
 a batch may have, 65536 with 4194304 bytes of keys and values together, come in
@@ -500,6 +440,7 @@ Exit status: 0 all lines are in, and nothing is due, 1 refused, 2 bad command
 line. After a `write fault` all lines are in; after `refused 9 Device` one batch
 more than is said may be in.",
     example: "Examples: lsm scan old --text | lsm load db --text
+          lsm scan old --json | lsm load db --json
           lsm load db words.txt --text --workers 4 --progress
           lsm load db words.txt --text --from-line 131073",
 };
@@ -531,7 +472,7 @@ copy is there; after `refused 9 Device` it may be.",
 
 const RECOVER: Page = Page {
     name: "recover",
-    arguments: &[FOLDER, COMPARE, WAIT],
+    arguments: &[FOLDER, NO_NOTES, COMPARE, WAIT],
     about: "Brings the logs that are not flushed into the tables",
     text: "Brings the write-ahead logs of the LevelDB folder DIR that are not flushed into
 its tables, as LevelDB does when it opens the folder, and prints
@@ -565,6 +506,7 @@ const COMPACT: Page = Page {
         TEXT,
         WORKERS,
         ACCEPT_REST,
+        NO_NOTES,
         COMPARE,
         PROGRESS,
         WAIT,
@@ -603,7 +545,7 @@ failed.",
 
 const CLEAN: Page = Page {
     name: "clean",
-    arguments: &[FOLDER, ACCEPT_REST, WAIT],
+    arguments: &[FOLDER, ACCEPT_REST, NO_NOTES, WAIT],
     about: "Removes old files that a folder does not need",
     text: "Removes the files of the LevelDB folder DIR that no reader of it needs: the
 manifests (`MANIFEST-N`) that CURRENT does not name, what a stopped program left
@@ -630,7 +572,8 @@ command line.",
 const SHELL: Page = Page {
     name: "shell",
     arguments: &[
-        FOLDER, TEXT, BEGIN, BESIDE_LOG, RECOVERS, COMPACTORS, BAIL, COMPARE, WAIT,
+        FOLDER, TEXT, BEGIN, BESIDE_LOG, RECOVERS, COMPACTORS, BAIL, READ_ONLY, NO_NOTES, COMPARE,
+        WAIT,
     ],
     about: "Runs commands from standard input on a folder",
     text: "Opens the LevelDB folder DIR once, or begins a database there, as `ingest` does,
@@ -681,6 +624,11 @@ on standard error asks for each line.
 `installed 0` where they are at what is due. At the end each of them ends what
 it has begun.
 
+With --read-only the lock is shared, as by `get`, so that others may read DIR
+meanwhile; no database and no manifest is begun, and each line that would write
+is `refused 42 Halted`. It excludes --begin, --beside-log, --recover and
+--workers.
+
 Of --begin, --beside-log and --recover, and of all that is refused before the
 first line, the page of `ingest` says more. A second program that wants to write in DIR is
 `refused 52 Locked` as long as the shell runs.
@@ -689,7 +637,8 @@ Exit status: 0 behind `quit` or the end of the input, 1 where a line was bad or
 refused, a batch is open at the end, the folder is refused, a reply cannot be
 written, the input cannot be read, or such a thread has ended early, 2 bad
 command line.",
-    example: "Example: printf 'put apple red\\nget apple\\n' | lsm shell db --text",
+    example: "Examples: printf 'put apple red\\nget apple\\n' | lsm shell db --text
+          lsm shell db --text --read-only",
 };
 
 const BENCH: Page = Page {
@@ -737,57 +686,3 @@ pub(crate) const COMMANDS: [Page; 20] = [
     MAKE_TABLE, DUMP, MANIFEST, SCRIPT, CHECK, LIST, LEVELS, GET, SCAN, INGEST, PUT, DELETE, LOAD,
     IMPORT, RECOVER, COMPACT, CLEAN, SHELL, BENCH, HELP,
 ];
-
-/// How a command is used.
-fn usage(name: CommandName) -> &'static str {
-    match name {
-        CommandName::MakeTable => "lsm mktable [FILE]",
-        CommandName::Dump => "lsm dump [FILE]",
-        CommandName::Manifest => "lsm manifest [FILE]",
-        CommandName::Script => "lsm script [FILE]",
-        CommandName::Check =>
-            "lsm check <DIR> [--workers <N>] [--strict] [--compare] [--progress] [--wait <SECONDS>]",
-        CommandName::List =>
-            "lsm list <DIR> [--text] [--quick] [--strict] [--compare] [--wait <SECONDS>]",
-        CommandName::Levels => "lsm levels <DIR> [--text] [--files] [--svg] [--strict]",
-        CommandName::Get =>
-            "lsm get <DIR> <KEY> [--text] [--raw] [--exists] [--quick] [--strict] [--compare] \
-             [--wait <SECONDS>]",
-        CommandName::Scan =>
-            "lsm scan <DIR> [--from <KEY>] [--to <KEY>] [--prefix <KEY>] [--limit <N>] [--text] \
-             [--keys] [--json] [--count] [--quick] [--strict] [--compare] [--progress] \
-             [--wait <SECONDS>]",
-        CommandName::Ingest =>
-            "lsm ingest <DIR> <FILE> [--text] [--begin] [--beside-log] [--recover] [--compare] \
-             [--wait <SECONDS>]",
-        CommandName::Put =>
-            "lsm put <DIR> <KEY> <VALUE> [--text] [--begin] [--beside-log] [--recover] [--compare] \
-             [--wait <SECONDS>]",
-        CommandName::Delete =>
-            "lsm delete <DIR> <KEY> [--text] [--begin] [--beside-log] [--recover] [--compare] \
-             [--wait <SECONDS>]",
-        CommandName::Load =>
-            "lsm load <DIR> [FILE] [--text] [--begin] [--beside-log] [--recover] [--workers <N>] \
-             [--from-line <I>] [--last-line] [--compare] [--progress] [--wait <SECONDS>]",
-        CommandName::Import => "lsm import <SRC> <DST> [--compare]",
-        CommandName::Recover => "lsm recover <DIR> [--compare] [--wait <SECONDS>]",
-        CommandName::Compact =>
-            "lsm compact <DIR> [--all] [--from <KEY>] [--to <KEY>] [--text] [--workers <N>] \
-             [--accept-rest] [--compare] [--progress] [--wait <SECONDS>]",
-        CommandName::Clean => "lsm clean <DIR> [--accept-rest] [--wait <SECONDS>]",
-        CommandName::Shell =>
-            "lsm shell <DIR> [--text] [--begin] [--beside-log] [--recover] [--workers <N>] \
-             [--bail] [--compare] [--wait <SECONDS>]",
-        CommandName::Bench =>
-            "lsm bench <DIR> [--benchmarks <LIST>] [--num <N>] [--value-size <N>] [--workers <N>]",
-        CommandName::Help => "lsm help [COMMAND]",
-    }
-}
-
-/// How the command of this name is used.
-pub(crate) fn usage_of(name: &str) -> &'static str {
-    match named(name) {
-        Some(name) => usage(name),
-        None => "lsm <COMMAND>",
-    }
-}

@@ -1,6 +1,6 @@
 //! What is wrong with words that are of the grammar, but that ask for nothing.
 
-use crate::asking::{between_in, form_in, is_set, word_in};
+use crate::asking::{between_in, form_in, is_set, reads_only_in, word_in};
 use clap::ArgMatches;
 use lsm_text::{Form, SyntaxFault, syntax_fault_in};
 use std::fmt;
@@ -25,6 +25,9 @@ const SPELLED: [(&str, &str); 5] = [
     ("prefix", "KEY"),
     ("VALUE", "VALUE"),
 ];
+
+/// What an option excludes by which nothing is written.
+const READ_ONLY_EXCLUDES: &str = "excludes --begin, --beside-log, --recover and --workers";
 
 /// What is said of the word of an argument that writes no number of a range, though `clap` may read
 /// it as one.
@@ -138,12 +141,27 @@ fn first_wrong_number<'a>(found: &ArgMatches<'a>) -> Option<UsageFault<'a>> {
     None
 }
 
-/// What is wrong with the words of a command.
-fn fault_of<'a>(found: &ArgMatches<'a>) -> Option<UsageFault<'a>> {
+/// What is wrong with options that exclude one another.
+fn excluding<'a>(found: &ArgMatches<'a>) -> Option<UsageFault<'a>> {
     if is_set(found, "files") && is_set(found, "svg") {
         return Some(UsageFault::Word("--files", "and `--svg` exclude one another"));
     }
-    first_wrong_bytes(found).or(first_wrong_number(found))
+    // A scan, which has no such argument, may have both.
+    let loads = word_in(found, "from-line").is_some();
+    if loads && is_set(found, "json") && is_set(found, "text") {
+        return Some(UsageFault::Word("--json", "and `--text` exclude one another"));
+    }
+    if reads_only_in(found).is_none() {
+        return Some(UsageFault::Word("--read-only", READ_ONLY_EXCLUDES));
+    }
+    None
+}
+
+/// What is wrong with the words of a command.
+fn fault_of<'a>(found: &ArgMatches<'a>) -> Option<UsageFault<'a>> {
+    excluding(found)
+        .or(first_wrong_bytes(found))
+        .or(first_wrong_number(found))
 }
 
 /// What is wrong with the words of the command that was found.

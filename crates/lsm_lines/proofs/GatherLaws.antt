@@ -2,10 +2,10 @@
 use Rattle.std.proofs.Common.{◌≡◌, ℕ, Bool, IsFalse, List, [], ◌∷◌, ◌++◌, Option, Some, None, refl}
 use Rattle.std.proofs.Common.{sym, ap, ◌∙◌, subst, append_assoc, append-nil, inl, inr}
 use Rattle.lsm_text.specs.EntryList.{lines_of}
-use Rattle.lsm_text.specs.BatchText.{AreWriteLines, IsWriteLine}
-use Rattle.lsm_text.specs.declared.form.Form.{Form}
 use Rattle.lsm_batch.specs.Batches.{IsTooLarge}
 use Rattle.lsm_batch.specs.declared.write.Write.{Write}
+use Rattle.lsm_lines.specs.Lines.{SpellWrites, SpellsWrite}
+use Rattle.lsm_lines.specs.declared.line_form.LineForm.{LineForm}
 use Rattle.lsm_lines.specs.Reading.{BeginsWith, IsNextHeld, IsWhole, Lined, TakesLine, TakesWhole}
 use Rattle.lsm_lines.specs.declared.line_reader.HeldLine.TheVariants as held
 use Rattle.lsm_lines.specs.Gathering.{AreEnded, Pending, Reads, Stops, StopsBy, TakesLines}
@@ -24,7 +24,7 @@ takes_begins line None new t = tt
 takes_begins line (Some xs) None t = absurd t
 takes_begins line (Some xs) (Some ys) t = (lines_of ys, t)
 
-pub stops_at : (form : Form) (last : Bool) (line : List ℕ) (old new : Option (List ℕ))
+pub stops_at : (form : LineForm) (last : Bool) (line : List ℕ) (old new : Option (List ℕ))
     (fault : WriteLineFault) → TakesLine line old new → IsNoWrite form line fault
     → Stops form last old fault
 stops_at form last line old new (BadLine place) t none = (line, takes_begins line old new t, none)
@@ -34,12 +34,12 @@ stops_at form last line old new LargeWrite t none = absurd none
 stops_at form last line old new NoNewline t none = absurd none
 stops_at form last line old new Read t none = absurd none
 
-pub stops_unended : (form : Form) (last : Bool) (old new : Lined) → IsFalse last
+pub stops_unended : (form : LineForm) (last : Bool) (old new : Lined) → IsFalse last
     → IsNextHeld old new held.Last → Stops form last old.left NoNewline
 stops_unended form last old new not i =
     (not, (new.line, takes_begins new.line old.left new.left i.1, i.2))
 
-pub stops_long : (form : Form) (last : Bool) (old new : Lined) → IsNextHeld old new held.TooLong
+pub stops_long : (form : LineForm) (last : Bool) (old new : Lined) → IsNextHeld old new held.TooLong
     → Stops form last old.left LongLine
 stops_long form last old new i = (i.0, i.2, i.1)
 
@@ -58,19 +58,19 @@ takes_more lines line (Some xs) (Some ys) (Some zs) t one =
     t ∙ ap (λ (ls : List (List ℕ)). lines ++ ls) one
     ∙ sym (append_assoc lines (line ∷ []) (lines_of zs))
 
-spelled_more : (form : Form) (ls : List (List ℕ)) (ws : List Write) (l : List ℕ) (w : Write)
-    → AreWriteLines form ls ws → IsWriteLine form l w
-    → AreWriteLines form (ls ++ l ∷ []) (ws ++ w ∷ [])
+spelled_more : (form : LineForm) (ls : List (List ℕ)) (ws : List Write) (l : List ℕ) (w : Write)
+    → SpellWrites form ls ws → SpellsWrite form l w
+    → SpellWrites form (ls ++ l ∷ []) (ws ++ w ∷ [])
 spelled_more form [] [] l w h k = (k, tt)
 spelled_more form [] (x ∷ ws) l w h k = absurd h
 spelled_more form (x ∷ ls) [] l w h k = absurd h
 spelled_more form (x ∷ ls) (y ∷ ws) l w h k = (h.0, spelled_more form ls ws l w h.1 k)
 
-pub reads_none : (form : Form) (old : Option (List ℕ)) → Reads form old old []
+pub reads_none : (form : LineForm) (old : Option (List ℕ)) → Reads form old old []
 reads_none form old = record { lines = []; taken = takes_none old; spelled = tt }
 
-pub reads_more : (form : Form) (old mid new : Option (List ℕ)) (ws : List Write) (line : List ℕ)
-    (w : Write) → Reads form old mid ws → TakesLine line mid new → IsWriteLine form line w
+pub reads_more : (form : LineForm) (old mid new : Option (List ℕ)) (ws : List Write) (line : List ℕ)
+    (w : Write) → Reads form old mid ws → TakesLine line mid new → SpellsWrite form line w
     → Reads form old new (ws ++ w ∷ [])
 reads_more form old mid new ws line w r t spells = record {
   lines = r.lines ++ line ∷ [];
@@ -111,7 +111,7 @@ ended_more last old mid new e f h = whole_more old mid new (e h) (f h)
 
 -- ---- a buffer that is filled
 
-pub fills_none : (form : Form) (last : Bool) (old : Option (List ℕ)) (before : List Write)
+pub fills_none : (form : LineForm) (last : Bool) (old : Option (List ℕ)) (before : List Write)
     → Fills form last old old before before
 fills_none form last old before =
     record {
@@ -122,10 +122,10 @@ fills_none form last old before =
           sym (append-nil before);
     }
 
-pub fills_more : (form : Form) (last : Bool) (old mid new : Option (List ℕ))
+pub fills_more : (form : LineForm) (last : Bool) (old mid new : Option (List ℕ))
     (before after : List Write) (line : List ℕ) (w : Write) → Fills form last old mid before after
     → TakesLine line mid new
-    → IsWriteLine form line w → AreEnded last mid new
+    → SpellsWrite form line w → AreEnded last mid new
     → Fills form last old new before (after ++ w ∷ [])
 fills_more form last old mid new before after line w f t spells ended = record {
   writes = f.writes ++ w ∷ [];
@@ -135,10 +135,10 @@ fills_more form last old mid new before after line w f t spells ended = record {
 }
 
 -- the write of the next line would pass a limit
-pub fills_over : (form : Form) (last : Bool) (old mid new : Option (List ℕ))
+pub fills_over : (form : LineForm) (last : Bool) (old mid new : Option (List ℕ))
     (before after after' : List Write) (line : List ℕ) (w back : Write)
     → Fills form last old mid before after
-    → TakesLine line mid new → IsWriteLine form line w → AreEnded last mid new → after' ≡ after
+    → TakesLine line mid new → SpellsWrite form line w → AreEnded last mid new → after' ≡ after
     → back ≡ w → IsTooLarge (after ++ w ∷ [])
     → Fills form last old new before (after' ++ back ∷ []) × IsTooLarge (after' ++ back ∷ [])
 fills_over form last old mid new before after after' line w back f t spells ended same its large =
@@ -153,7 +153,7 @@ fills_over form last old mid new before after after' line w back f t spells ende
 
 -- ---- what is gathered of what was to come
 
-pub gathered : (form : Form) (last : Bool) (old new : Option (List ℕ))
+pub gathered : (form : LineForm) (last : Bool) (old new : Option (List ℕ))
     (before kept later after : List Write) → before ≡ kept
     → Fills form last old new before (after ++ later)
     → (writes : List Write) × Reads form old new writes × (kept ++ writes ≡ after ++ later)
@@ -161,7 +161,7 @@ pub gathered : (form : Form) (last : Bool) (old new : Option (List ℕ))
 gathered form last old new before kept later after same f =
     (f.writes, f.reads, sym (f.put ∙ ap (λ (l : List Write). l ++ f.writes) same), f.ended)
 
-pub gathered_all : (form : Form) (last : Bool) (old new : Option (List ℕ))
+pub gathered_all : (form : LineForm) (last : Bool) (old new : Option (List ℕ))
     (before kept after : List Write) → before ≡ kept → Fills form last old new before after
     → (writes : List Write) × Reads form old new writes × (kept ++ writes ≡ after ++ [])
     × AreEnded last old new
@@ -173,8 +173,8 @@ gathered_all form last old new before kept after same f = (
   f.ended,
 )
 
-pub gathered_none : (form : Form) (last : Bool) (old : Option (List ℕ)) (kept after : List Write)
-    → after ≡ []
+pub gathered_none : (form : LineForm) (last : Bool) (old : Option (List ℕ))
+    (kept after : List Write) → after ≡ []
     → (writes : List Write) × Reads form old old writes × (kept ++ writes ≡ after ++ kept)
     × AreEnded last old old
 gathered_none form last old kept after none = (

@@ -1,12 +1,12 @@
 -- A write buffer that is filled with the writes of lines.
 use Rattle.std.specs.Prelude.{◌≡◌, ℕ, ◌≤◌, ⊤, Bool, List, [], ◌∷◌, ◌++◌, length, Option}
 use Rattle.std.specs.Io.KnownBytes.{IsAtEnd}
-use Rattle.lsm_text.specs.BatchText.{IsWriteLine}
-use Rattle.lsm_text.specs.declared.form.Form.{Form}
 use Rattle.lsm_batch.specs.Batches.{IsTooLarge}
 use Rattle.lsm_batch.specs.Limits.{most_entries}
 use Rattle.lsm_batch.specs.declared.write.Write.{Write}
 use Rattle.lsm_lines.specs.Gathering.{AreEnded, Reads, Stops}
+use Rattle.lsm_lines.specs.Lines.{SpellsWrite}
+use Rattle.lsm_lines.specs.declared.line_form.LineForm.{LineForm}
 use Rattle.lsm_lines.specs.declared.filling.FillEnd.{FillEnd}
 use Rattle.lsm_lines.specs.declared.filling.FillEnd.TheVariants.{Over, Enough, End, Stopped}
 use Rattle.lsm_lines.specs.declared.write_line_fault.WriteLineFault.{WriteLineFault}
@@ -14,14 +14,14 @@ use Rattle.lsm_lines.specs.declared.write_line_fault.WriteLineFault.TheVariants.
 use Rattle.lsm_lines.specs.declared.write_line_fault.WriteLineFault.TheVariants.{OutOfMemory}
 
 -- the line spells no write, or there was no memory for it
-abbrev pub IsNoWrite : Form → List ℕ → WriteLineFault → Type 0
-IsNoWrite form line (BadLine fault) = (w : Write) → IsWriteLine form line w → ⊥
+abbrev pub IsNoWrite : LineForm → List ℕ → WriteLineFault → Type 0
+IsNoWrite form line (BadLine fault) = (w : Write) → SpellsWrite form line w → ⊥
 IsNoWrite form line OutOfMemory = ⊤
 IsNoWrite form line fault = ⊥
 
 -- the writes of the lines up to here stand behind those that were there
-pub record Fills (form : Form) (last : Bool) (old new : Option (List ℕ)) (before after : List Write)
-    : Type 0 where
+pub record Fills (form : LineForm) (last : Bool) (old new : Option (List ℕ))
+    (before after : List Write) : Type 0 where
   pub writes : List Write
   pub reads : Reads form old new writes
   pub ended : AreEnded last old new
@@ -29,7 +29,7 @@ pub record Fills (form : Form) (last : Bool) (old new : Option (List ℕ)) (befo
 
 -- What ended it: a write that would pass a limit; as many writes as may be; the input's end; or the
 -- line that comes next.
-abbrev pub IsFilled : Form → (last : Bool) → (old new : Option (List ℕ))
+abbrev pub IsFilled : LineForm → (last : Bool) → (old new : Option (List ℕ))
     → (before after : List Write) → FillEnd → Type 0
 IsFilled form last old new before after (Over w) =
     Fills form last old new before (after ++ w ∷ []) × IsTooLarge (after ++ w ∷ [])

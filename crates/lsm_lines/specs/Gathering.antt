@@ -3,12 +3,12 @@ use Rattle.std.specs.Prelude.{◌≡◌, ◌⊎◌, ℕ, ◌<◌, ◌≤◌, ⊤
 use Rattle.std.specs.Prelude.{Option, Some, None}
 use Rattle.std.specs.Io.KnownBytes.{IsAtEnd}
 use Rattle.lsm_text.specs.EntryList.{lines_of}
-use Rattle.lsm_text.specs.BatchText.{AreWriteLines, IsWriteLine}
-use Rattle.lsm_text.specs.declared.form.Form.{Form}
 use Rattle.lsm_batch.specs.Batches.{IsBatch, IsLarge, IsTooLarge}
 use Rattle.lsm_batch.specs.Limits.{most_entries}
 use Rattle.lsm_batch.specs.declared.write.Write.{Write}
 use Rattle.lsm_lines.specs.LastWrites.{KeepsLast}
+use Rattle.lsm_lines.specs.Lines.{SpellWrites, SpellsWrite}
+use Rattle.lsm_lines.specs.declared.line_form.LineForm.{LineForm}
 use Rattle.lsm_lines.specs.Reading.{BeginsWith, IsUnended, TakesWhole, most_of_line}
 use Rattle.lsm_lines.specs.declared.gathered.Gathered.{Gathered}
 use Rattle.lsm_lines.specs.declared.gathered.BatchEnd.{BatchEnd}
@@ -28,20 +28,20 @@ TakesLines lines (Some xs) None = ⊥
 TakesLines lines (Some xs) (Some ys) = lines_of xs ≡ lines ++ lines_of ys
 
 -- The first lines of what is left were taken, and spell just these writes.
-pub record Reads (form : Form) (old new : Option (List ℕ)) (writes : List Write) : Type 0 where
+pub record Reads (form : LineForm) (old new : Option (List ℕ)) (writes : List Write) : Type 0 where
   pub lines : List (List ℕ)
   pub taken : TakesLines lines old new
-  pub spelled : AreWriteLines form lines writes
+  pub spelled : SpellWrites form lines writes
 
 -- Why the first line of what is left is no write that a batch may have, where the last one may lack
 -- its newline, or not. A failed read, and want of memory, say nothing of it.
-abbrev pub Stops : Form → (last : Bool) → Option (List ℕ) → WriteLineFault → Type 0
+abbrev pub Stops : LineForm → (last : Bool) → Option (List ℕ) → WriteLineFault → Type 0
 Stops form last left (BadLine fault) =
-    (line : List ℕ) × BeginsWith line left × ((w : Write) → IsWriteLine form line w → ⊥)
+    (line : List ℕ) × BeginsWith line left × ((w : Write) → SpellsWrite form line w → ⊥)
 Stops form last left LongLine =
     (line : List ℕ) × BeginsWith line left × (most_of_line < length line)
 Stops form last left LargeWrite = (line : List ℕ) × BeginsWith line left
-    × ((w : Write) × IsWriteLine form line w × IsLarge w)
+    × ((w : Write) × SpellsWrite form line w × IsLarge w)
 Stops form last left NoNewline =
     IsFalse last × ((line : List ℕ) × BeginsWith line left × IsUnended line left)
 Stops form last left Read = ⊤
@@ -52,7 +52,7 @@ Stops form last left OutOfMemory = ⊤
 -- what is still to come: a write that was read and is held back, if there is one, and what is left
 -- of the input, where that is known; and whether its last line may lack the newline
 pub record Pending : Type 0 where
-  pub form : Form
+  pub form : LineForm
   pub last : Bool
   pub held : List Write
   pub left : Option (List ℕ)

@@ -2,6 +2,8 @@
 pub mod Reading
 pub mod Pieces
 pub mod LastWrites
+pub mod Objects
+pub mod Lines
 pub mod Buffering
 pub mod Gathering
 pub mod Filling

@@ -8,22 +8,22 @@ ghost use Rattle.lsm_lines.specs.Passing.{PassesLines};
 use crate::ahead::ReadFailed;
 use crate::filling::{FillEnd, fill};
 use crate::gathered::{BatchEnd, Gathered};
+use crate::line_form::LineForm;
 use crate::line_reader::LineReader;
 use crate::write_buffer::WriteBuffer;
 use crate::write_line_fault::WriteLineFault;
 use lsm_batch::Write;
-use lsm_text::Form;
 use std::alloc::{AllocError, Global};
 use std::io::Read;
 use std::marker::Model;
 
-/// An input whose lines spell writes in one form, `KEY=VALUE` or `KEY!`, and which is read as
+/// An input whose lines spell writes in one form, as words or as JSON objects, and which is read as
 /// batches. Its last line has a newline too, or may lack it. Contracts see the write that was read
 /// and is in no batch yet, if there is one, and what is left of the input.
 #[derive(Drop)]
 pub struct BatchReader<I: Read + Drop> {
     lines: LineReader<I>,
-    form: Form,
+    form: LineForm,
     last: bool,
     held: Option<Write>,
 }
@@ -60,7 +60,7 @@ impl<I: Read + Drop> BatchReader<I> {
     /// where there is no memory to read ahead.
     pub fn new(
         alloc: Global,
-        form: Form,
+        form: LineForm,
         last: bool,
         input: I,
     ) -> Result<BatchReader<I>, AllocError>

@@ -3,16 +3,21 @@
 ghost use Rattle.std.specs.Prelude.{◌≡◌, List, ℕ, IfErr, IfNone, IfOk, IfSome, false, true};
 ghost use Rattle.std.specs.Io.KnownBytes.{IsAtEnd};
 ghost use Rattle.lsm_text.specs.BatchText.{IsWriteLine};
-ghost use Rattle.lsm_text.specs.declared.form.Form.{Form};
 ghost use Rattle.lsm_lines.specs.Reading.{TakesLine};
 ghost use Rattle.lsm_lines.specs.Gathering.{AreEnded, Stops};
 ghost use Rattle.lsm_lines.specs.Filling.{IsFilled, IsNoWrite};
+ghost use Rattle.lsm_lines.specs.Lines.{SpellsWrite};
+ghost use Rattle.lsm_lines.specs.declared.line_form.LineForm.{LineForm};
+ghost use Rattle.lsm_lines.specs.declared.line_form.LineForm.TheVariants.{Json, Words};
 
+use crate::line_form::LineForm;
 use crate::line_reader::{HeldLine, LineReader};
+use crate::object_fault::ObjectFault;
+use crate::put_object::put_in;
 use crate::write_buffer::{PutFault, WriteBuffer};
-use crate::write_line_fault::WriteLineFault;
+use crate::write_line_fault::{LineFault, WriteLineFault};
 use lsm_batch::{MOST_ENTRIES, Write};
-use lsm_text::{BatchTextFault, Form, LineSyntaxFault, batch_in, write_in};
+use lsm_text::{BatchTextFault, Form, batch_in, write_in};
 use std::alloc::Global;
 use std::io::Read;
 
@@ -29,23 +34,50 @@ pub(crate) enum FillEnd {
     Stopped(WriteLineFault),
 }
 
-/// Where a line that spells no write stops being one; none where it is empty.
-fn syntax_fault(alloc: Global, form: Form, line: &[u8]) -> Option<LineSyntaxFault> {
+/// Where a line of words that spells no write stops being one; none where it is empty.
+fn syntax_fault(alloc: Global, form: Form, line: &[u8]) -> Option<LineFault> {
     match batch_in(alloc, form, line) {
-        Err(BatchTextFault::BadLine(_, fault)) => fault,
+        Err(BatchTextFault::BadLine(_, Some(fault))) => Some(LineFault::Words(fault)),
+        Err(BatchTextFault::BadLine(_, None)) => None,
         Err(BatchTextFault::OutOfMemory) | Ok(_) => None,
     }
 }
 
-/// What a line writes.
-fn write_of(alloc: Global, form: Form, line: &[u8]) -> Result<Write, WriteLineFault>
+/// What a line of words writes.
+fn write_of_words(alloc: Global, form: Form, line: &[u8]) -> Result<Write, WriteLineFault>
     ensures write { IfOk result (IsWriteLine form line.now) }
-    ensures bad { IfErr result (IsNoWrite form line.now) }
+    ensures bad { IfErr result (IsNoWrite (Words form) line.now) }
 {
     match write_in(alloc, form, line) {
         Ok(Some(write)) => Ok(write),
         Ok(None) => Err(WriteLineFault::BadLine(syntax_fault(alloc, form, line))),
         Err(_) => Err(WriteLineFault::OutOfMemory),
+    }
+}
+
+/// What the object of a line writes.
+fn write_of_object(alloc: Global, line: &[u8]) -> Result<Write, WriteLineFault>
+    ensures write { IfOk result (SpellsWrite Json line.now) }
+    ensures bad { IfErr result (IsNoWrite Json line.now) }
+{
+    match put_in(alloc, line) {
+        Ok(Some(write)) => Ok(write),
+        Ok(None) => match ObjectFault::of(alloc, line) {
+            Ok(fault) => Err(WriteLineFault::BadLine(Some(LineFault::Object(fault)))),
+            Err(_) => Err(WriteLineFault::OutOfMemory),
+        },
+        Err(_) => Err(WriteLineFault::OutOfMemory),
+    }
+}
+
+/// What a line writes.
+fn write_of(alloc: Global, form: LineForm, line: &[u8]) -> Result<Write, WriteLineFault>
+    ensures write { IfOk result (SpellsWrite form line.now) }
+    ensures bad { IfErr result (IsNoWrite form line.now) }
+{
+    match form {
+        LineForm::Words(form) => write_of_words(alloc, form, line),
+        LineForm::Json => write_of_object(alloc, line),
     }
 }
 
@@ -56,7 +88,7 @@ fn next_line<I: Read + Drop>(last: bool, lines: &mut LineReader<I>) -> Result<bo
         → TakesLine lines.new.line lines.old.left lines.new.left
         × AreEnded last lines.old.left lines.new.left) }
     ensures none { IfOk result (λ more. more ≡ false → IsAtEnd lines.old.left) }
-    ensures stops { IfErr result (λ e. (form : Form) → Stops form last lines.old.left e) }
+    ensures stops { IfErr result (λ e. (form : LineForm) → Stops form last lines.old.left e) }
 {
     match lines.next_held() {
         Ok(HeldLine::Line) => Ok(true),
@@ -76,12 +108,12 @@ fn next_line<I: Read + Drop>(last: bool, lines: &mut LineReader<I>) -> Result<bo
 /// What the next line writes; none at the end. The last one may lack its newline, or not.
 fn next_write<I: Read + Drop>(
     alloc: Global,
-    form: Form,
+    form: LineForm,
     last: bool,
     lines: &mut LineReader<I>,
 ) -> Result<Option<Write>, WriteLineFault>
     ensures some { IfOk result (λ o. IfSome o (λ w. (line : List ℕ)
-        × TakesLine line lines.old.left lines.new.left × IsWriteLine form line w
+        × TakesLine line lines.old.left lines.new.left × SpellsWrite form line w
         × AreEnded last lines.old.left lines.new.left)) }
     ensures none { IfOk result (λ o. IfNone o (IsAtEnd lines.old.left)) }
     ensures stops { IfErr result (Stops form last lines.old.left) }
@@ -100,7 +132,7 @@ fn next_write<I: Read + Drop>(
 /// is no write of a batch, or none is left. The last one may lack its newline, or not.
 pub(crate) fn fill<I: Read + Drop>(
     alloc: Global,
-    form: Form,
+    form: LineForm,
     last: bool,
     lines: &mut LineReader<I>,
     buffer: &mut WriteBuffer,

@@ -5,4 +5,5 @@ mod TidyLaws
 mod PartsLaws
 mod StartLaws
 mod SweepLaws
+mod ReadingLaws
 pub mod CallerLemmas

@@ -6,4 +6,5 @@ pub mod Names
 pub mod Tidying
 pub mod Preparing
 pub mod Starting
+pub mod Reading
 pub mod Compactions

@@ -19,7 +19,8 @@ mod prepared;
 mod preparing;
 mod tidying;
 
-// A database is begun or opened.
+// A database is begun or opened, or opened to be read alone.
+mod reading;
 mod starting;
 
 // What is removed behind workers.
@@ -36,5 +37,6 @@ pub use obsolete::is_obsolete;
 pub use parts::NewParts;
 pub use prepared::{Prepared, Start};
 pub use preparing::{plainly, prepare};
+pub use reading::open_to_read;
 pub use starting::{begin, begin_with, open, start, start_with};
 pub use sweeping::sweep;

@@ -6,3 +6,8 @@ returns-in-Look-clause-done g c = rw c.in-Look.is c.run_look.ensures.done
 pub returns-in-Load-clause-done : goal.returns-in-Load-clause-done
 returns-in-Load-clause-done g c =
     rw c.in-Load.is (λ done. (c.run_load.ensures.done done, c.run_load.ensures.quiet done))
+
+pub returns-in-Shell-clause-done : goal.returns-in-Shell-clause-done
+returns-in-Shell-clause-done g c =
+    rw c.in-Shell.is
+    (λ done. (c.run_shell.ensures.done done, λ writes. c.run_shell.ensures.quiet writes done))
