@@ -1,4 +1,8 @@
-//! The folder that was opened. No contract says what the system's calls do; they are to be read.
+//! The folder that was opened. Clauses say by which paths its files are found; what the system's
+//! calls do with these no contract says.
+
+ghost use Rattle.std.specs.Prelude.{◌≡◌, IfOk, string_bytes};
+ghost use Rattle.lsm_folder.specs.OpenedFolder.{IsAgain, IsFoundBy, path_in};
 
 use std::alloc::{AllocError, Global};
 use std::fs::{self, File, Files};
@@ -21,7 +25,9 @@ impl OpenedFolder {
     pub(crate) fn open<R: Files<File = File> + AllocGlobal + Clone + Drop>(
         rt: &R,
         path: &str,
-    ) -> io::Result<OpenedFolder> {
+    ) -> io::Result<OpenedFolder>
+        ensures { IfOk result (IsFoundBy path.now) }
+    {
         // It is listed before, to see that it is one: the opening of a pipe would wait.
         fs::read_dir(rt, path)?;
         let file = fs::open(rt, path)?;
@@ -37,7 +43,9 @@ impl OpenedFolder {
     }
 
     /// Another value for the same folder.
-    pub(crate) fn again(&self) -> Result<OpenedFolder, AllocError> {
+    pub(crate) fn again(&self) -> Result<OpenedFolder, AllocError>
+        ensures { IfOk result (IsAgain self.now) }
+    {
         Ok(OpenedFolder {
             file: Arc::try_clone(&self.file)?,
             path: self.path.clone()?,
@@ -45,12 +53,16 @@ impl OpenedFolder {
     }
 
     /// The path by which the folder is found.
-    pub(crate) fn path(&self) -> &str {
+    pub(crate) fn path(&self) -> &str
+        ensures { result.now ≡ string_bytes self.now.path }
+    {
         self.path.as_str()
     }
 
     /// The path by which a file in it is found.
-    pub(crate) fn path_of(&self, alloc: Global, name: &str) -> Result<String, AllocError> {
+    pub(crate) fn path_of(&self, alloc: Global, name: &str) -> Result<String, AllocError>
+        ensures { IfOk result (λ s. string_bytes s ≡ path_in self.now name.now) }
+    {
         format!(in alloc; "{}/{name}", self.path)
     }
 
