@@ -175,6 +175,12 @@ impl<R: Files<File = File> + AllocGlobal + Clone + Drop> SystemFiles<R> {
         self.reasons.note(call, path, fault.error());
     }
 
+    /// Keeps which file was read whole.
+    pub(crate) fn note_read(&self, folder: &str, name: &str) {
+        self.reasons
+            .note_read(shown_path(self.rt.alloc(), folder, name));
+    }
+
     /// The answer of a call that needs no name.
     pub(crate) fn failed<T: Drop>(
         &self,
