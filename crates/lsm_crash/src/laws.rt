@@ -373,9 +373,9 @@ pub fn premises_are_met()
 /// may be lost, or empty; a removal may be undone; of a rename one half may be lost, or the other;
 /// of an append any beginning may be there; a file that was written anew may have its old bytes, or
 /// be missing. A call that was refused, or was cut, may have done nothing, or all, or a beginning;
-/// what it made may be taken away again (`undone`), and a crash may bring that back. A lock may have
-/// made its file, whatever it was answered. On a worse disk any bytes may stand behind the durable
-/// ones, up to the length (`spoilt`).
+/// what it made may be taken away again (`undone`), and a crash may bring that back. A lock may
+/// have made its file, whatever it was answered. On a worse disk any bytes may stand behind the
+/// durable ones, up to the length (`spoilt`).
 pub fn disks_may()
     ensures mixed { (d : Disk) (moments : List ℕ → Names) (fronts : ℕ → ℕ)
         → ((name : List ℕ) → Has d.past (moments name)) → ((i : ℕ) → d.kept i ≤ fronts i)
