@@ -25,6 +25,8 @@ below:
   the refusal has copies all pairs.
 - A log that is not flushed: `lsm put` is refused; once LevelDB has opened the folder without
   compression, all is read, and the put comes in.
+- Tables that overlap, one of which the manifest tells otherwise, and an older entry above a newer one: what the second
+  line of the refusal says of LevelDB helps.
 - A lost manifest: after LevelDB's `RepairDB`, and a compaction, all is read.
 - A damaged table: after `RepairDB` with `paranoid_checks` what was not in the damaged block is read; without them
   nothing helps.
@@ -403,6 +405,50 @@ def makers(folder):
     return {"by_goleveldb": of_goleveldb, "by_rocksdb": of_rocksdb}
 
 
+def mended(folder, name, refusal, cure, line):
+    """A folder is refused so, the second line names a cure, and this line of Python is that one: how
+    many pairs are read behind it, in a copy where LevelDB compressed what it wrote."""
+    said = printed(f"./lsm check {name}", folder)
+    judge(said.startswith(refusal) and cure in said, f"{name} is not {refusal} with {cure}: {said}")
+    printed(f"python3 -c \"import plyvel; {line}\"", folder)
+    if "lsm import" in printed(f"./lsm check {name}", folder):
+        printed(f"mkdir {name}-new; ./lsm import {name} {name}-new; mv {name} {name}-old; mv {name}-new {name}", folder)
+    said = printed(f"./lsm check {name} > /dev/null && ./lsm scan {name} --count", folder)
+    judge(said.isdecimal(), f"{cure} does not cure {refusal}: {said}")
+    return int(said) if said.isdecimal() else 0
+
+
+def damaged_block(folder):
+    (folder / "lines").write_text("".join(f"{number:08}={number:08}\n" for number in range(PAIRS)))
+    printed("mkdir block; ./lsm ingest block lines --text", folder)
+    table = next((folder / "block").glob("*.ldb"))
+    data = bytearray(table.read_bytes())
+    data[len(data) // 2] ^= 255
+    table.write_bytes(data)
+    cure = "RepairDB with paranoid_checks"
+    count = mended(folder, "block", "refused 15 BadChecksum", cure, "plyvel.repair_db('block', paranoid_checks=True)")
+    judge(PAIRS // 2 < count < PAIRS, f"{cure} leaves {count} of {PAIRS} pairs")
+
+
+def shapes(folder):
+    """Folders whose tables are whole, and whose manifest tells of them what is not so."""
+    keys = {"a1": "61 1 put 76\n", "a2": "61 2 put 76\n", "b": "62 3 put 76\n", "ac": "61 1 put 76\n63 2 put 76\n"}
+    repair = "plyvel.repair_db('{}')"
+    for name, tables, adds, refusal, cure, line, count in [
+        ("overlap", ["ac", "b"], ["1,4,127,a@1+,c@2+", "1,5,114,b@3+,b@3+"], "refused 31 Overlap 1", "RepairDB", repair, 3),
+        ("range", ["a1"], ["0,4,115,a@1+,a@1+"], "refused 32 WrongRange 4", "RepairDB", repair, 1),
+        ("age", ["a1", "a2"], ["0,4,114,a@1+,a@1+", "1,5,114,a@2+,a@2+"], "refused 33 AgeOrder 61", "compaction in LevelDB", "db = plyvel.DB('{}', compression=None); db.compact_range(); db.close()", 1),
+    ]:
+        (folder / name).mkdir()
+        for number, table in enumerate(tables, 4):
+            (folder / "list").write_text(keys[table])
+            printed(f"./lsm mktable < list > {name}/{number:06}.ldb", folder)
+        fields = ["log=0", "next=6", "last=3", *(f"add={add}" for add in adds)]
+        (folder / name / "MANIFEST-000001").write_bytes(files.manifest([fields]))
+        (folder / name / "CURRENT").write_text("MANIFEST-000001\n")
+        judge(mended(folder, name, refusal, cure, line.format(name)) == count, f"{name}: other pairs")
+
+
 if not works(sys.argv[1]):
     print("cures: not run, for want of a program\n0 passed, 0 failed")
     sys.exit(0)
@@ -410,7 +456,7 @@ parts = [lost_current, old_names, full_batch, locks, cut_manifest, beside_log, e
 if ctypes.util.find_library("leveldb") is None:
     print("cures: compressed tables and logs not tried, for want of LevelDB's library")
 else:
-    parts += [compressed, logged, repaired, damaged, padded, backwards]
+    parts += [compressed, logged, repaired, damaged, padded, backwards, damaged_block, shapes]
 with tempfile.TemporaryDirectory() as scratch:
     folder = Path(scratch)
     (folder / "lsm").symlink_to(Path(sys.argv[1]).resolve())

@@ -15,7 +15,7 @@ program = sys.argv[1]
 TEXT = "--text"
 
 
-def start(words, out=subprocess.PIPE, limits=()):
+def start(words, out=subprocess.PIPE, limits=(), command=program):
     """A run, with limits of the system."""
 
     def limit():
@@ -25,13 +25,13 @@ def start(words, out=subprocess.PIPE, limits=()):
                 signal.signal(signal.SIGXFSZ, signal.SIG_IGN)
 
     return subprocess.Popen(
-        [program, *words], stdin=subprocess.PIPE, stdout=out, stderr=subprocess.PIPE, preexec_fn=limit
+        [command, *words], stdin=subprocess.PIPE, stdout=out, stderr=subprocess.PIPE, preexec_fn=limit
     )
 
 
-def run(words, said=b"", out=subprocess.PIPE, limits=()):
+def run(words, said=b"", out=subprocess.PIPE, limits=(), command=program):
     """The status, standard output and standard error of a run."""
-    child = start(words, out, limits)
+    child = start(words, out, limits, command)
     written, err = child.communicate(said, timeout=120)
     return child.returncode, (written or b"").decode(errors="replace"), err.decode(errors="replace")
 
@@ -43,6 +43,7 @@ class Making:
         self.said = []
         self.limits = []
         self.out = subprocess.PIPE
+        self.command = program
         self.held = []
         self.names = {}
 
@@ -191,6 +192,17 @@ class Making:
     def memory(self, most):
         self.limits.append((resource.RLIMIT_AS, int(most), False))
 
+    def by_script(self):
+        """The script `lsm` runs the program, which it finds beside itself."""
+        os.makedirs("by_script/tools", exist_ok=True)
+        shutil.copy(os.path.join(os.path.dirname(__file__), "../../lsm"), "by_script")
+        with open("by_script/tools/program", "w") as file:
+            file.write(f"#!/bin/sh\necho '{os.path.abspath('program')}'\n")
+        os.chmod("by_script/tools/program", 0o755)
+        if not os.path.lexists("program"):
+            os.symlink(program, "program")
+        self.command = os.path.abspath("by_script/lsm")
+
     def full(self):
         """Standard output is a device that is full."""
         self.out = open("/dev/full", "wb")
@@ -266,7 +278,7 @@ class Row:
             status, out, err, before = talk(making, self.words)
         else:
             said = "".join(line + "\n" for line in making.said).encode()
-            status, out, err = run(self.words, said, making.out, making.limits)
+            status, out, err = run(self.words, said, making.out, making.limits, making.command)
         self.printed = out + err
         for file in making.held:
             file.close()

@@ -118,7 +118,8 @@ def a_check_that_is_refused():
     status, out, err = run("check", "db", "--workers", "1")
     want((status, out), (1, b""))
     last = err.split(CLEAR)[-1]
-    assert last.startswith(b"refused 15 BadChecksum ") and last.endswith(f"in {name}\n".encode()), err
+    last = last.partition(b"\n")[0]
+    assert last.startswith(b"refused 15 BadChecksum ") and last.endswith(f" in {name}".encode()), err
     with open(f"db/{name}", "r+b") as file:
         file.seek(100)
         file.write(was)

@@ -178,7 +178,8 @@ struct report {
   __attribute__((noinline, no_sanitize_address, no_sanitize_thread, no_sanitize_undefined))
 
 /* The server has a session of its own, so that signals from the terminal do not reach it, and no
-   signal is handled, or is blocked or ignored that this process blocks or ignores. */
+   signal is handled, or is blocked or ignored that this process blocks or ignores. But that of a
+   limit on the size of files is ignored: a write beyond it is refused, and does not end the server. */
 ON_BORROWED_MEMORY static void leave_signals(void) {
   static const int usual[] = {SIGHUP, SIGINT, SIGQUIT, SIGTERM, SIGPIPE, SIGCHLD};
   struct sigaction now, none;
@@ -189,6 +190,8 @@ ON_BORROWED_MEMORY static void leave_signals(void) {
     if (!sigaction(number, NULL, &now) && now.sa_handler != SIG_DFL && now.sa_handler != SIG_IGN)
       sigaction(number, &none, NULL);
   for (size_t i = 0; i < sizeof usual / sizeof *usual; i++) sigaction(usual[i], &none, NULL);
+  none.sa_handler = SIG_IGN;
+  sigaction(SIGXFSZ, &none, NULL);
   setsid();
   sigemptyset(&no_signals);
   sigprocmask(SIG_SETMASK, &no_signals, NULL);

@@ -8,7 +8,8 @@ use Rattle.lsm_folder.specs.Calls.{Call, opened, made, wrote, appended, synced, 
 use Rattle.lsm_crash.specs.Known.{IsSound, Holds, IsFile}
 use Rattle.lsm_crash.specs.Among.{Avoids}
 use Rattle.lsm_crash.specs.Crash.{May}
-use Rattle.lsm_crash.specs.Disk.{Disk, Names, Step, Writes, set, named, moved, with_file, with_names, without, filled}
+use Rattle.lsm_crash.specs.Disk.{Disk, Makes, Names, Step, Undoes, Writes, set, named, moved}
+use Rattle.lsm_crash.specs.Disk.{with_file, with_names, without, filled}
 
 pub some_is : (m n : ℕ) → Some m ≡ Some n → m ≡ n
 some_is m n p = cc
@@ -97,22 +98,33 @@ sound_settled d s = record { now = inl refl; below = s.below; one = s.one }
 pub along : (P : Disk → Type 0) (d e : Disk) → e ≡ d → P d → P e
 along P d e same = subst P (sym same)
 
+sound_made : (d e : Disk) (name bytes : List ℕ) → IsSound d → Makes d name bytes e → IsSound e
+sound_made d e name bytes s h =
+    along IsSound (with_file name bytes d) e h.1 (sound_file d name bytes s)
+
 sound_written : (d e : Disk) (name bytes : List ℕ) → IsSound d → Writes d name bytes e → IsSound e
 sound_written d e name bytes s (inl m) = along IsSound (with_file name bytes d) e m (sound_file d name bytes s)
 sound_written d e name bytes s (inr (inl w)) = along IsSound (filled w.0 bytes 0 d) e w.2 (sound_filled d w.0 bytes 0 s)
 sound_written d e name bytes s (inr (inr m)) = along IsSound (with_file name bytes (without name d)) e m (sound_file (without name d) name bytes (sound_gone d name s))
 
+sound_undone : (d e : Disk) (name : List ℕ) → IsSound d → Undoes d name e → IsSound e
+sound_undone d e name s (inl same) = along IsSound d e same s
+sound_undone d e name s (inr gone) = along IsSound _ e gone (sound_gone d name s)
+
 pub step_sound : (d e : Disk) (c : Call) → IsSound d → Step d c e → IsSound e
 step_sound d e opened s h = along IsSound d e h s
-step_sound d e (made name bytes (Ok v)) s h = along IsSound (with_file name bytes d) e h.1 (sound_file d name bytes s)
+step_sound d e (made name bytes (Ok v)) s h = sound_made d e name bytes s h
 step_sound d e (made name bytes (Err f)) s h = elim h [
   | inl same ↦ along IsSound d e same s
-  | inr m ↦ along IsSound (with_file name (take m.0 bytes) d) e m.1.1 (sound_file d name (take m.0 bytes) s)
+  | inr m ↦ sound_undone m.1 e name (sound_made d m.1 name (take m.0 bytes) s m.2) m.3
 ]
 step_sound d e (wrote name bytes (Ok v)) s h = sound_written d e name bytes s h
 step_sound d e (wrote name bytes (Err f)) s h = elim h [
   | inl same ↦ along IsSound d e same s
-  | inr m ↦ elim m [ inl gone ↦ along IsSound _ e gone (sound_gone d name s) | inr w ↦ sound_written d e name (take w.0 bytes) s w.1 ]
+  | inr m ↦ elim m [
+    | inl gone ↦ along IsSound _ e gone (sound_gone d name s)
+    | inr w ↦ sound_undone w.1 e name (sound_written d w.1 name (take w.0 bytes) s w.2) w.3
+  ]
 ]
 step_sound d e (appended name bytes (Ok v)) s h = along IsSound _ e h.2 (sound_filled d h.0 (d.bytes h.0 ++ bytes) (d.kept h.0) s)
 step_sound d e (appended name bytes (Err f)) s h = elim h [
@@ -202,6 +214,18 @@ holds_written miss P q d e name bytes s other (inr (inl w)) H = along (λ x. Hol
 holds_written miss P q d e name bytes s other (inr (inr m)) H =
     along (λ x. Holds miss x q P) _ e m (holds_file miss P q (without name d) name bytes (sound_gone d name s) other (holds_gone miss P q d name s other H))
 
+holds_made : (miss : Bool) (P : ℕ → List ℕ → ℕ → Type 0) (q : List ℕ) (d e : Disk)
+    → (name bytes : List ℕ) → IsSound d → (name ≡ q → ⊥) → Makes d name bytes e
+    → Holds miss d q P → Holds miss e q P
+holds_made miss P q d e name bytes s other h H =
+    along (λ x. Holds miss x q P) _ e h.1 (holds_file miss P q d name bytes s other H)
+
+holds_undone : (miss : Bool) (P : ℕ → List ℕ → ℕ → Type 0) (q : List ℕ) (d e : Disk) (name : List ℕ)
+    → IsSound d → (name ≡ q → ⊥) → Undoes d name e → Holds miss d q P → Holds miss e q P
+holds_undone miss P q d e name s other (inl same) H = along (λ x. Holds miss x q P) d e same H
+holds_undone miss P q d e name s other (inr gone) H =
+    along (λ x. Holds miss x q P) _ e gone (holds_gone miss P q d name s other H)
+
 -- the folder was synced
 pub holds_settled : (miss : Bool) (P : ℕ → List ℕ → ℕ → Type 0) (q : List ℕ) (d : Disk) → IsSound d → Holds miss d q P → Holds miss (record d { past = d.names ∷ [] }) q P
 holds_settled miss P q d s = holds_by miss P q d (record d { past = d.names ∷ [] })
@@ -209,15 +233,23 @@ holds_settled miss P q d s = holds_by miss P q d (record d { past = d.names ∷ 
 
 pub step_holds : (miss : Bool) (P : ℕ → List ℕ → ℕ → Type 0) (q : List ℕ) (d e : Disk) (c : Call) → IsSound d → Avoids q c → Step d c e → Holds miss d q P → Holds miss e q P
 step_holds miss P q d e opened s a h H = along (λ x. Holds miss x q P) d e h H
-step_holds miss P q d e (made name bytes (Ok v)) s a h H = along (λ x. Holds miss x q P) _ e h.1 (holds_file miss P q d name bytes s a H)
+step_holds miss P q d e (made name bytes (Ok v)) s a h H =
+    holds_made miss P q d e name bytes s a h H
 step_holds miss P q d e (made name bytes (Err f)) s a h H = elim h [
   | inl same ↦ along (λ x. Holds miss x q P) d e same H
-  | inr m ↦ along (λ x. Holds miss x q P) _ e m.1.1 (holds_file miss P q d name (take m.0 bytes) s a H)
+  | inr m ↦ (let s1 = sound_made d m.1 name (take m.0 bytes) s m.2 in
+      let H1 = holds_made miss P q d m.1 name (take m.0 bytes) s a m.2 H in
+      holds_undone miss P q m.1 e name s1 a m.3 H1)
 ]
 step_holds miss P q d e (wrote name bytes (Ok v)) s a h H = holds_written miss P q d e name bytes s a h H
 step_holds miss P q d e (wrote name bytes (Err f)) s a h H = elim h [
   | inl same ↦ along (λ x. Holds miss x q P) d e same H
-  | inr m ↦ elim m [ inl gone ↦ along (λ x. Holds miss x q P) _ e gone (holds_gone miss P q d name s a H) | inr w ↦ holds_written miss P q d e name (take w.0 bytes) s a w.1 H ]
+  | inr m ↦ elim m [
+    | inl gone ↦ along (λ x. Holds miss x q P) _ e gone (holds_gone miss P q d name s a H)
+    | inr w ↦ (let s1 = sound_written d w.1 name (take w.0 bytes) s w.2 in
+        let H1 = holds_written miss P q d w.1 name (take w.0 bytes) s a w.2 H in
+        holds_undone miss P q w.1 e name s1 a w.3 H1)
+  ]
 ]
 step_holds miss P q d e (appended name bytes (Ok v)) s a h H = along (λ x. Holds miss x q P) _ e h.2 (holds_filled miss P q d name h.0 (d.bytes h.0 ++ bytes) (d.kept h.0) a h.1 H)
 step_holds miss P q d e (appended name bytes (Err f)) s a h H = elim h [

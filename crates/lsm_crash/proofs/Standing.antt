@@ -4,7 +4,9 @@ use Rattle.std.proofs.lemmas.List.{take_all, take-take}
 use Rattle.lsm_folder.specs.Calls.{Call, opened, made, wrote, appended, synced, folder_synced, renamed, removed, measured, read, loaded, listed, locked}
 use Rattle.std.specs.Prelude.{Bool, true, false, Option, Ok, Err}
 use Rattle.lsm_crash.specs.Crash.{May}
-use Rattle.lsm_crash.specs.Disk.{Disk, Names, Step, Shows, moved, with_names, Makes, Writes, Appends, Syncs, SyncsFolder, Renames, set, named, with_file, without, filled}
+use Rattle.lsm_crash.specs.Disk.{Disk, Names, Step, Shows, Makes, Writes, Undoes, Appends, Syncs}
+use Rattle.lsm_crash.specs.Disk.{SyncsFolder, Renames, moved, with_names, set, named, with_file}
+use Rattle.lsm_crash.specs.Disk.{without, filled}
 use Rattle.lsm_crash.specs.Known.{IsSound, Holds, IsFile, Is, Stands}
 use Rattle.lsm_crash.specs.Among.{Avoids}
 use Rattle.lsm_crash.proofs.Disks.{along, sound_gone, some_is, set_at, set_else, named_at, named_else, moved_cases, step_holds}
@@ -58,6 +60,12 @@ at_written d e name more q i bytes kept s other (inr (inl w)) a = along (λ x. A
 at_written d e name more q i bytes kept s other (inr (inr m)) a =
     along (λ x. At x q i bytes kept) _ e m (at_file (without name d) name more q i bytes kept (sound_gone d name s) other (at_gone d name q i bytes kept other a))
 
+at_undone : (d e : Disk) (name q : List ℕ) (i : ℕ) (bytes : List ℕ) (kept : ℕ) → (name ≡ q → ⊥)
+    → Undoes d name e → At d q i bytes kept → At e q i bytes kept
+at_undone d e name q i bytes kept other (inl same) a = along (λ x. At x q i bytes kept) d e same a
+at_undone d e name q i bytes kept other (inr gone) a =
+    along (λ x. At x q i bytes kept) _ e gone (at_gone d name q i bytes kept other a)
+
 at_settled : (d : Disk) (q : List ℕ) (i : ℕ) (bytes : List ℕ) (kept : ℕ) → At d q i bytes kept → At (record d { past = d.names ∷ [] }) q i bytes kept
 at_settled d q i bytes kept a = record { names = a.names; bytes_are = a.bytes_are; kept_is = a.kept_is }
 
@@ -66,12 +74,17 @@ at_step d e opened q i bytes kept s o h a = along (λ x. At x q i bytes kept) d 
 at_step d e (made name more (Ok v)) q i bytes kept s o h a = along (λ x. At x q i bytes kept) _ e h.1 (at_file d name more q i bytes kept s o a)
 at_step d e (made name more (Err f)) q i bytes kept s o h a = elim h [
   | inl same ↦ along (λ x. At x q i bytes kept) d e same a
-  | inr m ↦ along (λ x. At x q i bytes kept) _ e m.1.1 (at_file d name (take m.0 more) q i bytes kept s o a)
+  | inr m ↦ (let made = at_file d name (take m.0 more) q i bytes kept s o a in
+      at_undone m.1 e name q i bytes kept o m.3 (along (λ x. At x q i bytes kept) _ m.1 m.2.1 made))
 ]
 at_step d e (wrote name more (Ok v)) q i bytes kept s o h a = at_written d e name more q i bytes kept s o h a
 at_step d e (wrote name more (Err f)) q i bytes kept s o h a = elim h [
   | inl same ↦ along (λ x. At x q i bytes kept) d e same a
-  | inr m ↦ elim m [ inl gone ↦ along (λ x. At x q i bytes kept) _ e gone (at_gone d name q i bytes kept o a) | inr w ↦ at_written d e name (take w.0 more) q i bytes kept s o w.1 a ]
+  | inr m ↦ elim m [
+    | inl gone ↦ along (λ x. At x q i bytes kept) _ e gone (at_gone d name q i bytes kept o a)
+    | inr w ↦ (let written = at_written d w.1 name (take w.0 more) q i bytes kept s o w.2 a in
+        at_undone w.1 e name q i bytes kept o w.3 written)
+  ]
 ]
 at_step d e (appended name more (Ok v)) q i bytes kept s o h a = along (λ x. At x q i bytes kept) _ e h.2 (at_other d name h.0 (d.bytes h.0 ++ more) (d.kept h.0) q i bytes kept s o h.1 a)
 at_step d e (appended name more (Err f)) q i bytes kept s o h a = elim h [

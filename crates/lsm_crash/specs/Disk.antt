@@ -96,20 +96,27 @@ Renames d from to e = (i : ℕ) × (d.names from ≡ Some i)
 abbrev pub Removes : Disk → List ℕ → Disk → Type 0
 Removes d name e = e ≡ without name d
 
+-- a file that was made and could not be filled is left, or its name is taken away again
+abbrev pub Undoes : Disk → List ℕ → Disk → Type 0
+Undoes d name e = (e ≡ d) ⊎ Removes d name e
+
 -- the name has a file of these bytes now
 abbrev pub Shows : Disk → List ℕ → List ℕ → Type 0
 Shows d name bytes = (i : ℕ) × (d.names name ≡ Some i) × (d.bytes i ≡ bytes)
 
 -- What an answered call left. One that was refused, or was cut by a crash, has acted or not; a
--- write, with a beginning of its bytes, or it has only taken the name away. An append for which
--- memory was refused has not. What is loaded is what the file has now. A lock may make its file.
+-- write, with a beginning of its bytes, and perhaps undone, or it has only taken the name away. An
+-- append for which memory was refused has not. What is loaded is what the file has now. A lock may
+-- make its file.
 abbrev pub Step : Disk → Call → Disk → Type 0
 Step d opened e = e ≡ d
 Step d (made name bytes (Ok v)) e = Makes d name bytes e
-Step d (made name bytes (Err f)) e = (e ≡ d) ⊎ ((k : ℕ) × Makes d name (take k bytes) e)
+Step d (made name bytes (Err f)) e =
+    (e ≡ d) ⊎ ((k : ℕ) × (mid : Disk) × Makes d name (take k bytes) mid × Undoes mid name e)
 Step d (wrote name bytes (Ok v)) e = Writes d name bytes e
 Step d (wrote name bytes (Err f)) e =
-    (e ≡ d) ⊎ (Removes d name e ⊎ ((k : ℕ) × Writes d name (take k bytes) e))
+    (e ≡ d) ⊎ (Removes d name e
+    ⊎ ((k : ℕ) × (mid : Disk) × Writes d name (take k bytes) mid × Undoes mid name e))
 Step d (appended name bytes (Ok v)) e = Appends d name bytes e
 Step d (appended name bytes (Err f)) e =
     (e ≡ d) ⊎ ((f ≡ folder.OutOfMemory → ⊥) × (k : ℕ) × Appends d name (take k bytes) e)

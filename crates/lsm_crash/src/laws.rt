@@ -372,9 +372,10 @@ pub fn premises_are_met()
 /// and each file its durable bytes with any beginning of those behind them. So a file that was made
 /// may be lost, or empty; a removal may be undone; of a rename one half may be lost, or the other;
 /// of an append any beginning may be there; a file that was written anew may have its old bytes, or
-/// be missing. A call that was refused, or was cut, may have done nothing, or all, or a beginning.
-/// A lock may have made its file, whatever it was answered. On a worse disk any bytes may stand
-/// behind the durable ones, up to the length (`spoilt`).
+/// be missing. A call that was refused, or was cut, may have done nothing, or all, or a beginning;
+/// what it made may be taken away again (`undone`), and a crash may bring that back. A lock may
+/// have made its file, whatever it was answered. On a worse disk any bytes may stand behind the
+/// durable ones, up to the length (`spoilt`).
 pub fn disks_may()
     ensures mixed { (d : Disk) (moments : List ℕ → Names) (fronts : ℕ → ℕ)
         → ((name : List ℕ) → Has d.past (moments name)) → ((i : ℕ) → d.kept i ≤ fronts i)
@@ -414,6 +415,11 @@ pub fn disks_may()
         × ((fault ≡ folder_fault.FolderFault.OutOfMemory → ⊥)
         → Step d (appended name (take k bytes) (Ok tt)) e
         → Step d (appended name bytes (Err fault)) e) }
+    ensures undone { (d mid e : Disk) (name bytes : List ℕ) (k : ℕ)
+        (fault : folder_fault.FolderFault) → Step mid (removed name (Ok tt)) e
+        → (Step d (made name (take k bytes) (Ok tt)) mid → Step d (made name bytes (Err fault)) e)
+        × (Step d (wrote name (take k bytes) (Ok tt)) mid
+        → Step d (wrote name bytes (Err fault)) e) }
     ensures locked { (d e : Disk) (name : List ℕ) (kind : LockKind)
         (answer : Result Bool folder_fault.FolderFault)
         → Step d (locked name kind answer) d

@@ -192,7 +192,8 @@ table_meaning (table_faults.OutOfOrder offset) = []
 table_meaning table_faults.ShortFile = []
 table_meaning table_faults.BadMagic = []
 table_meaning table_faults.BadHandle = []
-table_meaning (table_faults.BadChecksum offset) = []
+table_meaning (table_faults.BadChecksum offset) =
+    codes "the block is damaged: put a copy back, or RepairDB with paranoid_checks leaves it out\n"
 table_meaning (table_faults.Compressed kind) =
     codes "compressed tables are read by lsm import alone, which copies: lsm import DIR NEW\n"
 table_meaning (table_faults.BadBlockType kind) = []
@@ -205,9 +206,12 @@ read_meaning (read_faults.Table fault) = table_meaning fault
 abbrev pub check_meaning : CheckFault → List ℕ
 check_meaning (check_faults.Read file fault) = read_meaning fault
 check_meaning (check_faults.DoubleFile number) = []
-check_meaning (check_faults.Overlap level) = []
-check_meaning (check_faults.WrongRange number) = []
-check_meaning (check_faults.AgeOrder user) = []
+check_meaning (check_faults.Overlap level) =
+    codes "two tables of the level overlap; LevelDB's RepairDB puts all tables at level 0\n"
+check_meaning (check_faults.WrongRange number) =
+    codes "not the table of which the manifest tells: put that back, or run LevelDB's RepairDB\n"
+check_meaning (check_faults.AgeOrder user) =
+    codes "an older entry lies above a newer one of that key; a compaction in LevelDB orders them\n"
 
 -- what a fault means, beside the file of a table that it names
 abbrev pub meaning_of : DirectoryFault → List ℕ

@@ -17,8 +17,8 @@ use lsm_folder::Reasons;
 use std::fmt;
 use std::io::{self, Write};
 
-/// What is known beside a fault: what the batch writes that was to come in, what the system
-/// answered, and whether the fault's line names the file whose table is refused.
+/// What is known beside a fault: what the batch writes that was to come in, what the system refused
+/// and what was read, and whether the fault's line names the file whose table is refused.
 #[derive(Clone, Copy, Debug)]
 pub struct Known<'a> {
     pub writes: &'a [KeyWrite],
@@ -52,7 +52,8 @@ pub trait Exit: fmt::Display {
     fn table_file(&self) -> Option<u64>
         ensures { result ≡ file self.now };
 
-    /// The number of the refusal, where it may come from what the system answered.
+    /// The number of the refusal, where it may come from what the system answered, or is of a
+    /// manifest.
     fn refusal(&self) -> Option<u64>;
 
     /// Writes what it means, on lines of its own, where there is more to say.
@@ -128,7 +129,8 @@ fn write_file_behind<E: Write>(err: &mut E, file: Option<u64>, names_files: bool
     }
 }
 
-/// Writes what the system answered, where the refusal of this number may come from that.
+/// Writes what the system answered, where the refusal of this number may come from that, or which
+/// manifest it is of.
 #[tactic(auto, using(crate::proofs::Quiet::keeps_same))]
 fn write_answer<E: Write>(
     err: &mut E,
@@ -147,7 +149,8 @@ fn write_answer<E: Write>(
 }
 
 /// Writes the line of a fault, and what stands behind it: the file whose table is refused, where
-/// the line did not name it, what the fault means, and what the system answered; and flushes.
+/// the line did not name it, what the fault means, and what the system answered or was read; and
+/// flushes.
 fn tell<F: Exit, E: Write>(err: &mut E, fault: &F, known: Known<'_>) -> io::Result<()>
     ensures told { known.entry.reasons ≡ None → OnOk result (IfSome (told_text
         known.entry.names_files (F.file fault.now) (F.output fault.now) (F.meaning fault.now))

@@ -8,4 +8,5 @@ pub mod SystemFolder
 pub mod Truth
 -- What private functions and proofs cite alone
 pub mod Directory
+pub mod OpenedFolder
 pub mod SystemFault

@@ -1,4 +1,4 @@
-//! What the system answered where it refused a call, for people.
+//! What the system answered where it refused a call, and what was read, for people.
 
 use std::alloc::{AllocError, Global};
 use std::fmt::{self, Debug, Formatter};
@@ -13,22 +13,33 @@ struct Reason {
     error: io::Error,
 }
 
-/// What the system answered where it last refused a call, of all the folders that note it here. No
-/// contract says what it holds: it is for people.
+/// What was last refused, and the path of the file that was last read whole.
+#[derive(Drop)]
+struct Last {
+    refused: Option<Reason>,
+    read: Option<String>,
+}
+
+/// What the system answered where it last refused a call, and which file was last read whole, of
+/// all the folders that note it here. No contract says what it holds: it is for people.
 #[derive(Drop)]
 pub struct Reasons {
-    last: Arc<Mutex<Option<Reason>>>,
+    last: Arc<Mutex<Last>>,
 }
 
 impl Reasons {
-    /// No refusal yet.
+    /// Nothing was refused or read yet.
     pub fn new(alloc: Global) -> Result<Reasons, AllocError> {
+        let none = Last {
+            refused: None,
+            read: None,
+        };
         Ok(Reasons {
-            last: Arc::new(alloc, Mutex::new(None))?,
+            last: Arc::new(alloc, Mutex::new(none))?,
         })
     }
 
-    /// Another value for the same refusals.
+    /// Another value for the same.
     pub fn again(&self) -> Result<Reasons, AllocError> {
         Ok(Reasons {
             last: Arc::try_clone(&self.last)?,
@@ -47,14 +58,24 @@ impl Reasons {
             return;
         };
         if let Some(mut last) = self.last.try_lock() {
-            *last = Some(Reason { call, path, error });
+            last.refused = Some(Reason { call, path, error });
+        }
+    }
+
+    /// Keeps the path of a file that was read whole, as `note` keeps a refusal.
+    pub(crate) fn note_read(&self, path: Result<String, AllocError>) {
+        let Ok(path) = path else {
+            return;
+        };
+        if let Some(mut last) = self.last.try_lock() {
+            last.read = Some(path);
         }
     }
 
     /// Forgets the last refusal, as a caller does that expected it.
     pub fn forget(&self) {
         if let Some(mut last) = self.last.try_lock() {
-            *last = None;
+            last.refused = None;
         }
     }
 
@@ -63,9 +84,20 @@ impl Reasons {
         let Some(last) = self.last.try_lock() else {
             return Ok(());
         };
-        match &*last {
+        match &last.refused {
             None => Ok(()),
             Some(reason) => writeln!(out, "{} {}: {}", reason.call, reason.path, reason.error),
+        }
+    }
+
+    /// Writes the file that was last read whole as a line, `in PATH`; nothing where there was none.
+    pub fn write_read<W: Write>(&self, out: &mut W) -> io::Result<()> {
+        let Some(last) = self.last.try_lock() else {
+            return Ok(());
+        };
+        match &last.read {
+            None => Ok(()),
+            Some(path) => writeln!(out, "in {path}"),
         }
     }
 }

@@ -171,6 +171,7 @@ fn load_marked<R: Files<File = File> + AllocGlobal + Clone + Drop, W: Witness, T
 {
     let loaded = files.load(alloc, name, MAX_LOAD, ErrorKind::Other);
     let bytes = files.missing("read", folder, name, loaded)?;
+    files.note_read(folder, name);
     match marked(rt, alloc, marks, name, bytes.as_slice()) {
         Ok(mark) => Ok((mark, bytes)),
         Err(fault) => Err(fault),
@@ -206,7 +207,7 @@ impl<R: Files<File = File> + AllocGlobal + Clone + Drop, W: Witness> SystemFolde
     }
 
     /// As `open`. What the system answers where it refuses a call of the folder or of its forks is
-    /// kept in `reasons`.
+    /// kept in `reasons`, and which file was last read whole.
     pub fn open_noting(
         rt: R,
         path: &str,

@@ -4,6 +4,7 @@
 
 ghost use Rattle.std.specs.Prelude.{◌≡◌, ◌↔◌, ◌<◌, ◌≤◌, length, Ok, Err, IfOk, IfErr};
 ghost use Rattle.lsm_folder.specs.FolderFault.{NotMissing, NotExists, NotNamed};
+ghost use Rattle.lsm_folder.specs.OpenedFolder.{IsAgain, IsFoundBy};
 ghost use Rattle.lsm_folder.specs.SystemFault.{fault_kind};
 
 use crate::folder_fault::FolderFault;
@@ -82,7 +83,9 @@ fn opened<R: Files<File = File> + AllocGlobal + Clone + Drop>(
     rt: &R,
     path: &str,
     reasons: &Reasons,
-) -> Result<OpenedFolder, SystemFault> {
+) -> Result<OpenedFolder, SystemFault>
+    ensures { IfOk result (IsFoundBy path.now) }
+{
     match OpenedFolder::open(rt, path) {
         Ok(folder) => Ok(folder),
         Err(error) => {
@@ -136,11 +139,9 @@ fn names_of<R: Files<File = File> + AllocGlobal + Clone + Drop>(
 
 impl<R: Files<File = File> + AllocGlobal + Clone + Drop> SystemFiles<R> {
     /// For the folder of this path. Refused where it is none that can be read.
-    pub(crate) fn open(
-        rt: R,
-        path: &str,
-        reasons: &Reasons,
-    ) -> Result<SystemFiles<R>, SystemFault> {
+    pub(crate) fn open(rt: R, path: &str, reasons: &Reasons) -> Result<SystemFiles<R>, SystemFault>
+        ensures { IfOk result (λ f. IsFoundBy path.now f.folder) }
+    {
         let folder = opened(&rt, path, reasons)?;
         let reasons = reasons.again()?;
         Ok(SystemFiles {
@@ -153,7 +154,9 @@ impl<R: Files<File = File> + AllocGlobal + Clone + Drop> SystemFiles<R> {
     }
 
     /// For another value on the folder.
-    pub(crate) fn fork(&self) -> Result<SystemFiles<R>, AllocError> {
+    pub(crate) fn fork(&self) -> Result<SystemFiles<R>, AllocError>
+        ensures { IfOk result (λ f. IsAgain self.now.folder f.folder) }
+    {
         let rt = self.rt.clone()?;
         let folder = self.folder.again()?;
         let reasons = self.reasons.again()?;
@@ -170,6 +173,12 @@ impl<R: Files<File = File> + AllocGlobal + Clone + Drop> SystemFiles<R> {
     fn note(&self, call: &'static str, folder: &str, name: &str, fault: SystemFault) {
         let path = shown_path(self.rt.alloc(), folder, name);
         self.reasons.note(call, path, fault.error());
+    }
+
+    /// Keeps which file was read whole.
+    pub(crate) fn note_read(&self, folder: &str, name: &str) {
+        self.reasons
+            .note_read(shown_path(self.rt.alloc(), folder, name));
     }
 
     /// The answer of a call that needs no name.
@@ -265,14 +274,22 @@ impl<R: Files<File = File> + AllocGlobal + Clone + Drop> SystemFiles<R> {
         self.open_regular(name, &options)
     }
 
-    /// Makes a file that must not be there, with these bytes.
+    /// Makes a file that must not be there, with these bytes. Where they can't be written it is
+    /// taken away again, so that it takes no room on a device that may be full; whether that was
+    /// refused too is not told.
     fn fill_new(&mut self, path: &str, bytes: &[u8]) -> Result<(), SystemFault> {
         let made = match File::create_new(&self.rt, path) {
             Err(error) if self.open_files.give_way(&error) => File::create_new(&self.rt, path),
             answer => answer,
         };
         match made {
-            Ok(mut file) => acted(file.write_all(bytes)),
+            Ok(mut file) => {
+                let written = file.write_all(bytes);
+                if written.is_err() {
+                    let _ = fs::remove_file(&self.rt, path);
+                }
+                acted(written)
+            }
             Err(error) => Err(SystemFault::asked(error)),
         }
     }

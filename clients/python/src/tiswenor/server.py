@@ -419,7 +419,9 @@ def _start(
     program: str, path: bytes, channels: int, workers: int, flags: int
 ) -> "Tuple[List[socket.socket], subprocess.Popen[bytes]]":
     """Starts the server, with the opening request on its standard input. It gets a session of its
-    own, so that signals from the terminal (as Ctrl-C) do not reach it."""
+    own, so that signals from the terminal (as Ctrl-C) do not reach it. SIGXFSZ, which the
+    interpreter ignores, stays ignored in it: a write beyond a limit on the size of files is
+    refused. So does SIGPIPE, which the server ignores itself."""
     ours: List[socket.socket] = []
     theirs: List[int] = []
     try:
@@ -442,6 +444,7 @@ def _start(
                 stdin=request,
                 stdout=subprocess.DEVNULL,
                 pass_fds=theirs,
+                restore_signals=False,
                 start_new_session=True,
             )
         finally:

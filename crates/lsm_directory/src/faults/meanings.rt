@@ -92,6 +92,9 @@ pub(crate) fn of_table(fault: TableFault) -> &'static str
         TableFault::Compressed(_) => {
             "compressed tables are read by lsm import alone, which copies: lsm import DIR NEW\n"
         }
+        TableFault::BadChecksum(_) => {
+            "the block is damaged: put a copy back, or RepairDB with paranoid_checks leaves it out\n"
+        }
         _ => "",
     }
 }
@@ -112,7 +115,16 @@ fn of_tables(fault: &CheckFault) -> &'static str
 {
     match fault {
         CheckFault::Read(_, fault) => of_read(*fault),
-        _ => "",
+        CheckFault::Overlap(_) => {
+            "two tables of the level overlap; LevelDB's RepairDB puts all tables at level 0\n"
+        }
+        CheckFault::WrongRange(_) => {
+            "not the table of which the manifest tells: put that back, or run LevelDB's RepairDB\n"
+        }
+        CheckFault::AgeOrder(_) => {
+            "an older entry lies above a newer one of that key; a compaction in LevelDB orders them\n"
+        }
+        CheckFault::DoubleFile(_) => "",
     }
 }
 

@@ -1,6 +1,6 @@
 //! Lines behind the line of a refusal, for people.
 
-ghost use Rattle.std.specs.Prelude.{◌≡◌, ◌≢◌, ◌++◌, ◌∷◌, [], OnOk, codes};
+ghost use Rattle.std.specs.Prelude.{◌≡◌, ◌≢◌, ◌<◌, ◌++◌, ◌∷◌, [], OnOk, codes};
 ghost use Rattle.std.specs.Io.KnownBytes.{Appends, Keeps};
 ghost use Rattle.lsm_storage.specs.FileNames.{padded, table_name};
 ghost use Rattle.lsm_directory.specs.Telling.{file_line};
@@ -33,12 +33,16 @@ pub(crate) fn write_file_line<E: Write>(err: &mut E, number: u64) -> io::Result<
 }
 
 /// Writes a line with what the system last answered where it refused a call, if the refusal of this
-/// number may come from that: of 9 and 10.
+/// number may come from that: of 9 and 10. Of 19 to 30, which are of a manifest, one that names it:
+/// it is what was last read whole.
 pub(crate) fn write_reason<E: Write>(err: &mut E, refusal: u64, reasons: &Reasons) -> io::Result<()>
-    ensures { refusal ≢ 9 → refusal ≢ 10 → Keeps (E.contents err.old) (E.contents err.new) }
+    ensures below { refusal ≢ 9 → refusal ≢ 10 → refusal < 19
+        → Keeps (E.contents err.old) (E.contents err.new) }
+    ensures above { 30 < refusal → Keeps (E.contents err.old) (E.contents err.new) }
 {
-    if refusal == 9 || refusal == 10 {
-        return reasons.write_last(err);
+    match refusal {
+        9 | 10 => reasons.write_last(err),
+        19..=30 => reasons.write_read(err),
+        _ => Ok(()),
     }
-    Ok(())
 }

@@ -132,6 +132,10 @@ pub(crate) fn explain_state<E: Write>(
                 "line {line}: its key is not above that of the line before"
             )
         }
+        StateFault::Halted => writeln!(
+            err,
+            "an earlier write of the manifest failed: nothing is written until DIR is opened anew"
+        ),
         _ => Ok(()),
     }
 }

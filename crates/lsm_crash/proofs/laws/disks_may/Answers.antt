@@ -27,7 +27,16 @@ pub returns-clause-all : goal.returns-clause-all
 returns-clause-all c d e name other fault = (inr, inr, inr, inr)
 
 pub returns-clause-begun : goal.returns-clause-begun
-returns-clause-begun c d e name bytes k fault = (λ h. inr (k, h), λ h. inr (inr (k, h)), λ h. inr (inl h), λ own h. inr (own, k, h))
+returns-clause-begun c d e name bytes k fault = (
+  λ h. inr (k, e, h, inl refl),
+  λ h. inr (inr (k, e, h, inl refl)),
+  λ h. inr (inl h),
+  λ own h. inr (own, k, h),
+)
+
+pub returns-clause-undone : goal.returns-clause-undone
+returns-clause-undone c d mid e name bytes k fault gone =
+    (λ h. inr (k, mid, h, inr gone), λ h. inr (inr (k, mid, h, inr gone)))
 
 pub returns-clause-locked : goal.returns-clause-locked
 returns-clause-locked c d e name kind answer = (inl refl, inr)
