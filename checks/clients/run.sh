@@ -151,14 +151,14 @@ few_descriptors() { # a host that may have 64, and a database of 20 channels
   compile story -O1 "$clients/c/tests/story.c" "${child[@]}" && (ulimit -n 64 && run story)
 }
 
-# Of each status that an answer may have both libraries say the same.
+# Of each status that an answer may have, and of lines behind its name, both libraries say the same.
 texts() {
   printf '#!/bin/sh\nexec "%s" "%s/texts.py"\n' "$(command -v "$python")" "$here" > "$work/texts_server"
   chmod +x "$work/texts_server"
   compile texts -O1 "$clients/c/tests/texts.c" "${child[@]}" &&
     TISWENOR_SERVER=$work/texts_server "$work/texts" "$folder/db" > "$folder/c" &&
     TISWENOR_SERVER=$work/texts_server PYTHONPATH=$clients/python/src "$python" "$here/texts.py" "$folder/db" > "$folder/python" &&
-    diff "$folder/c" "$folder/python" && (($(wc -l < "$folder/c") == 104))
+    diff "$folder/c" "$folder/python" && (($(wc -l < "$folder/c") == 116))
 }
 
 thread_sanitizer_inside() { # TEST

@@ -59,6 +59,45 @@ static void set_error(char **errptr, int number, const char *name, const char *d
 
 int tiswenor_error_number(const char *error) { return error ? atoi(error) : 0; }
 
+/* The letters of the call of the system that the server tells of here, on a file whose path has
+   this front; 0 where there is none. */
+static size_t call_at(const char *text, const char *front, size_t length) {
+  static const char *const calls[] = {"append", "list",   "lock",   "make", "open",
+                                      "read",   "remove", "rename", "sync", "write"};
+  for (size_t i = 0; i < sizeof calls / sizeof *calls; i++) {
+    size_t letters = strlen(calls[i]);
+    if (strncmp(text, calls[i], letters) || text[letters] != ' ') continue;
+    if (!strncmp(text + letters + 1, front, length)) return letters;
+  }
+  return 0;
+}
+
+/* The text goes on by a call, a blank, its file, a colon, a blank, and the system's reason. */
+static void split_cause(const char *text, size_t letters, tiswenor_cause_t *cause) {
+  const char *file = text + letters + 1, *end = NULL;
+  for (const char *at = file; (at = strstr(at, ": ")); at++) end = at;
+  if (!end) return;
+  *cause = (tiswenor_cause_t){.call = text, .call_length = letters};
+  cause->file = file;
+  cause->file_length = (size_t)(end - file);
+  cause->reason = end + 2;
+  cause->reason_length = strlen(end + 2);
+}
+
+/* The file is in the database's folder, whose path stands behind the error's name. */
+void tiswenor_error_cause(const char *error, tiswenor_cause_t *cause) {
+  *cause = (tiswenor_cause_t){NULL, 0, NULL, 0, NULL, 0};
+  const char *folder = error ? strstr(error, ": ") : NULL;
+  const char *end = folder ? strstr(folder + 2, ": ") : NULL;
+  for (const char *at = end; at && *at; at++) {
+    if ((*at != ':' && *at != ';') || at[1] != ' ') continue;
+    size_t letters = call_at(at + 2, folder + 2, (size_t)(end - folder) - 2);
+    if (!letters) continue;
+    split_cause(at + 2, letters, cause);
+    return;
+  }
+}
+
 void tiswenor_free(void *ptr) {
   if (!is_lasting(ptr)) free(ptr);
 }
@@ -321,15 +360,33 @@ static void tell_excess(const struct request *request, char *text, size_t room) 
     snprintf(text, room, more, "bytes of a batch's keys and values", LONGEST_BATCH);
 }
 
-/* The request is the one that was refused; NULL for the opening. */
+/* The lines that a refusal has behind its name, as one: "; " stands between two. NULL where there
+   are none, or for want of memory. */
+static char *told_lines(const unsigned char *lines, const unsigned char *end) {
+  while (end > lines && end[-1] == '\n') end--;
+  char *told = lines < end ? malloc(2 * (size_t)(end - lines) + 1) : NULL, *to = told;
+  if (!told) return NULL;
+  for (; lines < end; lines++) {
+    if (*lines == '\n') *to++ = ';';
+    *to++ = *lines == '\n' ? ' ' : (char)*lines;
+  }
+  *to = 0;
+  return told;
+}
+
+/* The request is the one that was refused; NULL for the opening. What the server tells of the
+   refusal stands in the place of what its number means. */
 static void set_refused(tiswenor_t *db, const struct request *request, const unsigned char *answer,
                         size_t length, char **errptr) {
   char name[64], excess[128], *detail = NULL;
-  size_t letters = length - 1 < sizeof name ? length - 1 : sizeof name - 1;
+  const unsigned char *end = answer + length, *line = memchr(answer + 1, '\n', length - 1);
+  size_t letters = (size_t)((line ? line : end) - answer) - 1;
+  if (letters >= sizeof name) letters = sizeof name - 1;
   memcpy(name, answer + 1, letters);
   name[letters] = 0;
   if (!letters) strcpy(name, name_of(answer[0]));
-  const char *reason = reason_of(answer[0]);
+  char *told = line ? told_lines(line + 1, end) : NULL;
+  const char *reason = told ? told : reason_of(answer[0]);
   if (answer[0] == tiswenor_too_large && request) {
     tell_excess(request, excess, sizeof excess);
     reason = excess;
@@ -341,6 +398,7 @@ static void set_refused(tiswenor_t *db, const struct request *request, const uns
   else
     set_error(errptr, answer[0], name, detail);
   free(detail);
+  free(told);
 }
 
 static void set_fault(tiswenor_t *db, int fault, char **errptr) {

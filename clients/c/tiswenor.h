@@ -58,6 +58,20 @@ enum {
 /* The number of an error's text; 0 for NULL. */
 int tiswenor_error_number(const char *error);
 
+/* The call of the system that an error's text tells of, as "open", the path of its file, and what
+   the system answered, as "Permission denied (os error 13)": parts of the text, with their lengths.
+   All are NULL and 0 where it tells of none. */
+typedef struct {
+  const char *call;
+  size_t call_length;
+  const char *file;
+  size_t file_length;
+  const char *reason;
+  size_t reason_length;
+} tiswenor_cause_t;
+
+void tiswenor_error_cause(const char *error, tiswenor_cause_t *cause);
+
 /* Databases */
 
 /* Opens the database in a folder. NULL where it is refused. */

@@ -23,14 +23,33 @@
 
 namespace tiswenor {
 
-// Why a call was not done: the text of tiswenor.h, and its number.
+// Why a call was not done: the text of tiswenor.h, and its number; of a call of the system that the
+// text tells of, the call, the path of its file, and what the system answered, else nothing.
 class Error : public std::runtime_error {
  public:
   explicit Error(const char* text)
       : std::runtime_error(text), number_(tiswenor_error_number(text)) {}
   int number() const noexcept { return number_; }
+  std::string_view call() const noexcept {
+    const tiswenor_cause_t it = cause();
+    return {it.call, it.call_length};
+  }
+  std::string_view file() const noexcept {
+    const tiswenor_cause_t it = cause();
+    return {it.file, it.file_length};
+  }
+  std::string_view reason() const noexcept {
+    const tiswenor_cause_t it = cause();
+    return {it.reason, it.reason_length};
+  }
 
  private:
+  tiswenor_cause_t cause() const noexcept {
+    tiswenor_cause_t it;
+    tiswenor_error_cause(what(), &it);
+    return it;
+  }
+
   int number_;
 };
 

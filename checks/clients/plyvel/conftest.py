@@ -12,7 +12,6 @@ ABSENT = {
     "test_large_lru_cache": OPTIONS,
     "test_threading": "writes for long",
     "test_property": "leveldb.sstables",
-    "test_compaction": "compacts a range",
     "test_approximate_sizes": "approximate_size",
     "test_repair_db": "repair_db",
     "test_destroy_db": "destroy_db",

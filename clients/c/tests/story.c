@@ -48,6 +48,30 @@ static void ends_with(char **error, const char *wanted) {
   *error = NULL;
 }
 
+static void is(const char *part, size_t length, const char *wanted) {
+  CHECK(part && length == strlen(wanted) && !memcmp(part, wanted, length));
+}
+
+/* The error's text tells of this call, its file and why; it is freed. */
+static void tells(char **error, const char *call, const char *file, const char *reason) {
+  tiswenor_cause_t cause;
+  tiswenor_error_cause(*error, &cause);
+  is(cause.call, cause.call_length, call);
+  is(cause.file, cause.file_length, file);
+  is(cause.reason, cause.reason_length, reason);
+  tiswenor_free(*error);
+  *error = NULL;
+}
+
+/* It tells of none. */
+static void tells_none(const char *error) {
+  tiswenor_cause_t cause;
+  memset(&cause, 1, sizeof cause);
+  tiswenor_error_cause(error, &cause);
+  CHECK(!cause.call && !cause.call_length && !cause.file && !cause.file_length);
+  CHECK(!cause.reason && !cause.reason_length);
+}
+
 static void opening(const char *folder, int channels) {
   char *error = NULL;
   tiswenor_options_t *options = tiswenor_options_create();
@@ -62,7 +86,8 @@ static void opening(const char *folder, int channels) {
   DONE(error);
   CHECK(!tiswenor_open(options, path, &error));
   CHECK(tiswenor_error_number(error) == tiswenor_locked);
-  ends_with(&error, "/new: another program has the database open");
+  tells_none(error);
+  ends_with(&error, "/new: another program has the folder open");
   tiswenor_close(db);
   tiswenor_options_set_error_if_exists(options, 1);
   CHECK(!tiswenor_open(options, path, &error));
@@ -71,8 +96,11 @@ static void opening(const char *folder, int channels) {
   CHECK(!tiswenor_open(options, in(folder, "none/below"), &error));
   CHECK(tiswenor_error_number(error) >= 1);
   CHECK(!tiswenor_open(options, "/dev/null", &error));
-  CHECK(tiswenor_error_number(error) >= 1);
-  ends_with(&error, " Device: /dev/null: a call of the system failed");
+  CHECK(tiswenor_error_number(error) == tiswenor_device);
+  CHECK(!strcmp(error, "9 Device: /dev/null: open /dev/null: Not a directory (os error 20)"));
+  tells(&error, "open", "/dev/null", "Not a directory (os error 20)");
+  tells_none(NULL);
+  tells_none("9 Device: /db: a call of the system failed");
   tiswenor_options_set_channels(options, 0);
   CHECK(!tiswenor_open(options, in(folder, "new"), &error));
   FAILED(error, tiswenor_bad_opening);

@@ -45,6 +45,14 @@ int main(int argc, char** argv) {
   CHECK(argc == 2);
   std::string folder = argv[1] + "/db"s;
   CHECK(error_of([&] { Database none(argv[1]); }) == tiswenor_no_database);
+  try {
+    Database file("/dev/null");
+    CHECK(false);
+  } catch (const Error& error) {
+    CHECK(error.call() == "open" && error.file() == "/dev/null");
+    CHECK(error.reason() == "Not a directory (os error 20)");
+  }
+  CHECK(Error("9 Device: /db: a call of the system failed").call().empty());
   Options options;
   options.create_if_missing().channels(3).workers(2);
   {

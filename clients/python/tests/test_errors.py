@@ -1,5 +1,6 @@
 """Why a call was not done: the class, the number, and what the text says."""
 
+import errno
 import mmap
 import os
 import pickle
@@ -27,36 +28,59 @@ def filled(folder, *batches):
 
 
 def change(folder, ending, at):
-    """Turns one byte of a file."""
+    """Turns one byte of a file, whose name is answered."""
     path = next(path for path in sorted(folder.iterdir()) if ending in path.name)
     content = bytearray(path.read_bytes())
     content[at] ^= 1
     path.write_bytes(content)
+    return path.name
 
 
-@pytest.mark.parametrize("ending, at", [(".ldb", 1000), ("MANIFEST", 30)])
-def test_damage(folder, ending, at):
-    """A damaged table is found as it is read, or as the folder is opened."""
+@pytest.mark.parametrize("at", [1000, -1])
+def test_damaged_table(folder, at):
+    """It is found as the folder is opened, and its file is named."""
     filled(folder)
-    change(folder, ending, at)
-
-    def read():
-        with tiswenor.DB(folder) as db:
-            return list(db)
-
-    error = raised(read)
+    name = change(folder, ".ldb", at)
+    error = raised(tiswenor.DB, folder)
     assert type(error) is tiswenor.CorruptionError
     assert error.path == str(folder)
     assert error.number in errors.DAMAGES
-    assert str(error) == f"{error.number} {error.name}: {folder}: files of the database are damaged"
+    assert str(error) == f"{error.number} {error.name}: {folder}: in {name}"
+    assert (error.call, error.file, error.reason) == (None, name, None)
+
+
+def test_damaged_manifest(folder):
+    filled(folder)
+    change(folder, "MANIFEST", 30)
+    error = raised(tiswenor.DB, folder)
+    assert type(error) is tiswenor.CorruptionError
+    where = "in the manifest that CURRENT names; LevelDB's RepairDB makes a new one"
+    assert str(error) == f"{error.number} {error.name}: {folder}: {where}"
+    assert (error.call, error.file, error.reason) == (None, None, None)
 
 
 def test_lost_table(folder):
     filled(folder)
-    next(path for path in folder.iterdir() if path.suffix == ".ldb").unlink()
-    error = raised(lambda: list(tiswenor.DB(folder)))
+    lost = next(path for path in folder.iterdir() if path.suffix == ".ldb")
+    lost.unlink()
+    error = raised(tiswenor.DB, folder)
     assert type(error) is tiswenor.CorruptionError
     assert (error.number, error.name) == (10, "Missing")
+    assert (error.call, error.file) == ("read", str(lost))
+    assert error.reason == "No such file or directory (os error 2)"
+    assert str(error) == (
+        f"10 Missing: {folder}: in {lost.name}; read {lost}: No such file or directory (os error 2)"
+    )
+
+
+def test_manifest_that_is_not_there(folder):
+    filled(folder)
+    (folder / "CURRENT").write_bytes(b"MANIFEST-999999\n")
+    error = raised(tiswenor.DB, folder)
+    assert type(error) is tiswenor.CorruptionError
+    assert (error.call, error.file) == ("read", str(folder / "MANIFEST-999999"))
+    where = "CURRENT has to name a manifest that is there"
+    assert str(error).startswith(f"10 Missing: {folder}: {where}")
 
 
 def test_folder_in_use(folder, db):
@@ -65,14 +89,51 @@ def test_folder_in_use(folder, db):
     assert isinstance(error, (tiswenor.Refused, OSError))
     assert error.filename == error.path == str(folder)
     assert error.errno is None
-    assert str(error) == f"52 Locked: {folder}: another program has the database open"
+    assert (error.call, error.file, error.reason) == (None, None, None)
+    assert str(error) == f"52 Locked: {folder}: another program has the folder open"
 
 
 def test_folder_that_is_a_file(folder):
     folder.write_bytes(b"")
     error = raised(tiswenor.DB, folder)
     assert type(error) is tiswenor.IOError
-    assert str(error) == f"9 Device: {folder}: a call of the system failed"
+    assert (error.call, error.file) == ("open", str(folder))
+    assert error.reason == "Not a directory (os error 20)"
+    assert error.errno == errno.ENOTDIR
+    assert str(error) == f"9 Device: {folder}: open {folder}: Not a directory (os error 20)"
+
+
+def test_lock_that_is_no_file(folder):
+    (folder / "LOCK").mkdir(parents=True)
+    error = raised(tiswenor.DB, folder, create_if_missing=True)
+    assert type(error) is tiswenor.IOError
+    assert (error.call, error.file) == ("lock", str(folder / "LOCK"))
+    assert error.errno is None
+    assert str(error) == f"9 Device: {folder}: lock {folder}/LOCK: not a regular file"
+
+
+def test_name_alone():
+    """Of an answer without lines the number says what it means."""
+    error = errors.refused(9, "Device", "/db")
+    assert str(error) == "9 Device: /db: a call of the system failed"
+    assert (error.told, error.call, error.file, error.reason) == ("", None, None, None)
+
+
+@pytest.mark.parametrize(
+    "told, cause",
+    [
+        ("sync /db: Input/output error", ("sync", "/db", "Input/output error")),
+        ("in 000005.ldb\nread /db/a: b: c", ("read", "/db/a: b", "c")),
+        ("read /db/a\nread /db: b", ("read", "/db/a\nread /db", "b")),
+        ("in 000007.log", (None, "000007.log", None)),
+        ("open /elsewhere: no", (None, None, None)),
+        ("no CURRENT is there: printf", (None, None, None)),
+        ("", (None, None, None)),
+    ],
+)
+def test_causes(told, cause):
+    error = errors.refused(9, "Device", "/db", told)
+    assert (error.call, error.file, error.reason) == cause
 
 
 def test_no_database(folder):
@@ -146,6 +207,7 @@ def test_errors_are_copied():
         tiswenor.Error(250, "NoServer", "nowhere"),
         tiswenor.Refused(40, "LevelZeroFull", "full", "/db"),
         tiswenor.IOError(9, "Device", "failed", "/db"),
+        tiswenor.IOError(9, "Device", "failed", "/db", "sync /db: Broken (os error 5)"),
         tiswenor.CorruptionError(15, "BadChecksum", "damaged", "/db"),
         tiswenor.TooLarge("bytes of a key", 5000, 4096, "/db"),
         tiswenor.Closed("closed"),
@@ -155,3 +217,4 @@ def test_errors_are_copied():
         assert type(copy) is type(error)
         assert str(copy) == str(error)
         assert vars(copy) == vars(error)
+        assert getattr(copy, "errno", None) == getattr(error, "errno", None)

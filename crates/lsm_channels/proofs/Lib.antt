@@ -1,5 +1,6 @@
 mod KeepingLaws
 mod RunLaws
+mod TellingLaws
 mod Sending
 mod TurnLaws
 mod WireLaws

@@ -5,7 +5,6 @@ use Rattle.lsm_folder.specs.Calls.{Call, opened}
 use Rattle.lsm_folder.specs.declared.folder_calls.FolderCalls.{Ghosts}
 use Rattle.lsm_folder.specs.declared.folder_fault.FolderFault.{FolderFault}
 use Rattle.lsm_folder.specs.declared.mark.Mark as mark
-use Rattle.lsm_frames.specs.Answers.{IsRefused}
 use Rattle.lsm_frames.specs.Openings.{IsOpening, Opened}
 use Rattle.lsm_shelf.specs.Place.{IsAtPath, Place}
 use Rattle.lsm_shelf.specs.Asked.{Asked}
@@ -20,15 +19,14 @@ use Rattle.lsm_opening.specs.declared.faults.writer_fault.WriterFault.TheVariant
 use Rattle.lsm_opening.specs.declared.prepared.Start.{Start}
 use Rattle.lsm_opening.specs.declared.prepared.Start.TheVariants.{Begin, Open}
 use Rattle.lsm_wire.specs.Happenings.{Happening, Came, Went, IsUnanswered, IsWritten, unanswered}
-use Rattle.lsm_channels.specs.Answered.{answer_frame}
 use Rattle.lsm_channels.specs.Opening.{AreLeft, AreLost, IsAllowed, IsBarred, IsContentServed}
 use Rattle.lsm_channels.specs.Opening.{IsNoContent, IsNoOpening, IsRun, IsUnpreparedAt}
 use Rattle.lsm_channels.specs.Opening.{IsUnserved, LeavesDoor, Names, NoneOpened, Outcome}
 use Rattle.lsm_channels.specs.Opening.{RefusedOn, SaysRefusal}
-use Rattle.lsm_channels.specs.OpeningFault.{name_of, number_of}
 use Rattle.lsm_channels.specs.Refusal.{AreOpened, IsFirst, IsSaidOn, KeepsLogsOut, none_said}
 use Rattle.lsm_channels.specs.Serving.{AreHandedBack, End, IsDatabaseServed, IsDatabaseUnserved, end, ends_from, opened_from}
 use Rattle.lsm_channels.specs.Starting.{options_for}
+use Rattle.lsm_channels.specs.Telling.{IsRefusalFrame}
 use Rattle.lsm_channels.specs.declared.opening_fault.OpeningFault.{OpeningFault}
 use Rattle.lsm_channels.specs.declared.opening_fault.OpeningFault.TheVariants.{BadOpening, Folder}
 use Rattle.lsm_channels.specs.declared.opening_fault.OpeningFault.TheVariants.{IsThere, Logs}
@@ -37,18 +35,20 @@ use Rattle.lsm_channels.specs.declared.opening_fault.OpeningFault.TheVariants.{N
 -- ---- a refusal
 
 -- it was said over a wire at which nothing had happened
-pub refusal_said : {V E : Type 0} (bytes : V → List ℕ) (e : OpeningFault) (first number : ℕ) (name : List ℕ) (r : Result V E) (whole : Bool) (old w : End) → number ≡ number_of e → name ≡ name_of e
-    → IfOk r (λ v. bytes v ≡ answer_frame (IsRefused number name)) → w.descriptor ≡ old.descriptor
-    → MatchResult r (λ v. IsWritten (bytes v) whole old.happened w.happened) (λ x. IsUnanswered whole old.happened w.happened) → old ≡ end (pos first) [] → SaysRefusal e first w
-refusal_said bytes e first number name (Ok v) whole old w num nam made same said new = (
+pub refusal_said : {V E : Type 0} (bytes : V → List ℕ) (e : OpeningFault) (first : ℕ)
+    (r : Result V E) (whole : Bool) (old w : End) → IfOk r (λ v. IsRefusalFrame e (bytes v))
+    → w.descriptor ≡ old.descriptor
+    → MatchResult r (λ v. IsWritten (bytes v) whole old.happened w.happened)
+    (λ x. IsUnanswered whole old.happened w.happened)
+    → old ≡ end (pos first) [] → SaysRefusal e first w
+refusal_said bytes e first (Ok v) whole old w made same said new = (
   same ∙ ap (λ (x : End). x.descriptor) new,
   (
     whole,
-    inl (said ∙ ap (λ (b : List ℕ). Went b whole ∷ old.happened) made ∙ ap (λ (x : End). Went (answer_frame (IsRefused number name)) whole ∷ x.happened) new
-        ∙ ap (λ (n : ℕ). Went (answer_frame (IsRefused n name)) whole ∷ []) num ∙ ap (λ (m : List ℕ). Went (answer_frame (IsRefused (number_of e) m)) whole ∷ []) nam),
+    inl (bytes v, made, said ∙ ap (λ (x : End). Went (bytes v) whole ∷ x.happened) new),
   ),
 )
-refusal_said bytes e first number name (Err x) whole old w num nam made same said new = (
+refusal_said bytes e first (Err x) whole old w made same said new = (
   same ∙ ap (λ (x : End). x.descriptor) new,
   (said.1.0, inr (said.1.1 ∙ ap (λ (x : End). Went unanswered said.1.0 ∷ x.happened) new)),
 )

@@ -17,6 +17,7 @@ pub mod Serving
 -- How a database is opened
 pub mod Starting
 pub mod OpeningFault
+pub mod Telling
 pub mod Opening
 -- What private functions cite alone
 pub mod Refusing

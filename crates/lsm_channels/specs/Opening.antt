@@ -10,7 +10,6 @@ use Rattle.lsm_folder.specs.Calls.{AreHonest}
 use Rattle.lsm_folder.specs.declared.folder_calls.FolderCalls.{Ghosts}
 use Rattle.lsm_folder.specs.declared.folder_fault.FolderFault.{FolderFault}
 use Rattle.lsm_folder.specs.declared.mark.Mark as mark
-use Rattle.lsm_frames.specs.Answers.{IsRefused}
 use Rattle.lsm_frames.specs.Openings.{IsOpening, Opened}
 use Rattle.lsm_shelf.specs.Refusals.{MayRefuse}
 use Rattle.lsm_shelf.specs.Told.{fresh}
@@ -27,11 +26,10 @@ use Rattle.lsm_recovery.specs.declared.bring_fault.BringFault.{BringFault}
 use Rattle.lsm_recovery.specs.declared.brought.Brought.{Brought}
 use Rattle.lsm_wire.specs.Happenings.{Happening, Came, CameMisfit, CameNone, CameUnheld, Went}
 use Rattle.lsm_wire.specs.Happenings.{unanswered}
-use Rattle.lsm_channels.specs.Answered.{answer_frame}
-use Rattle.lsm_channels.specs.OpeningFault.{name_of, number_of}
 use Rattle.lsm_channels.specs.Serving.{End, IsDatabaseServed, IsDatabaseUnserved, end, ends_from}
 use Rattle.lsm_channels.specs.Serving.{opened_from}
 use Rattle.lsm_channels.specs.Starting.{options_for}
+use Rattle.lsm_channels.specs.Telling.{IsRefusalFrame}
 use Rattle.lsm_channels.specs.declared.ended.Ended.{Ended}
 use Rattle.lsm_channels.specs.declared.ended.Ended.TheVariants as ended
 use Rattle.lsm_channels.specs.declared.opening_fault.OpeningFault.{OpeningFault}
@@ -154,11 +152,11 @@ LeavesDoor (Logs e) left = ⊤
 
 -- ---- a refusal
 
--- Over this wire of the first channel that is said, by the number and the name of the refusal, or
--- that there was no memory for it; and nothing else happened there.
+-- Over this wire of the first channel that is said, by the number and the name of the refusal and
+-- the lines behind it, or that there was no memory for it; and nothing else happened there.
 abbrev pub SaysRefusal : OpeningFault → (first : ℕ) → End → Type 0
 SaysRefusal e first w = (w.descriptor ≡ pos first) × ((whole : Bool)
-    × ((w.happened ≡ Went (answer_frame (IsRefused (number_of e) (name_of e))) whole ∷ [])
+    × (((said : List ℕ) × IsRefusalFrame e said × (w.happened ≡ Went said whole ∷ []))
     ⊎ (w.happened ≡ Went unanswered whole ∷ [])))
 
 -- Beside the wire of the first channel none was made; or one of each other channel, at which

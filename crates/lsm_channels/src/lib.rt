@@ -44,6 +44,7 @@ mod opening_fault;
 mod parts;
 mod plan;
 mod program;
+mod telling;
 
 pub use door::Door;
 pub use ended::Ended;

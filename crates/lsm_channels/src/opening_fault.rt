@@ -6,8 +6,9 @@ ghost use Rattle.lsm_channels.specs.OpeningFault.{name_of_logs, name_of_source};
 ghost use Rattle.lsm_channels.specs.OpeningFault.{number_of, number_of_directory};
 ghost use Rattle.lsm_channels.specs.OpeningFault.{number_of_folder, number_of_logs};
 ghost use Rattle.lsm_channels.specs.OpeningFault.{number_of_source};
+ghost use Rattle.lsm_channels.specs.Telling.{file_of};
 
-use lsm_directory::DirectoryFault;
+use lsm_directory::{DirectoryFault, Exit};
 use lsm_log_files::SourceFault;
 use lsm_opening::WriterFault;
 use lsm_recovery::BringFault;
@@ -107,6 +108,25 @@ impl OpeningFault {
             OpeningFault::IsThere => (203, "IsThere"),
             OpeningFault::Folder(fault) => of_folder(fault),
             OpeningFault::Logs(fault) => of_logs(fault),
+        }
+    }
+    /// The number of the file whose table is refused.
+    pub(crate) fn table_file(&self) -> Option<u64>
+        ensures { result ≡ file_of self.now }
+    {
+        match self {
+            OpeningFault::Folder(fault) => fault.table_file(),
+            OpeningFault::Logs(fault) => fault.table_file(),
+            OpeningFault::BadOpening | OpeningFault::NoDatabase | OpeningFault::IsThere => None,
+        }
+    }
+
+    /// Whether it may come from what the system answered. Where `CURRENT` was lost it does not.
+    pub(crate) fn is_answered(&self) -> bool {
+        match self {
+            OpeningFault::Folder(fault) => fault.refusal().is_some(),
+            OpeningFault::Logs(fault) => fault.refusal().is_some(),
+            OpeningFault::BadOpening | OpeningFault::NoDatabase | OpeningFault::IsThere => false,
         }
     }
 }

@@ -21,8 +21,8 @@ use crate::door::{Door, device};
 use crate::ended::Ended;
 use crate::opening_fault::OpeningFault;
 use crate::plan::Plan;
-use crate::refusing::refuse_by;
 use crate::serving::serve_on;
+use crate::telling::refuse_opening;
 use crate::unserved::Unserved;
 use crate::wires::{are_open, open_wires};
 use lsm_directory::DirectoryFault;
@@ -68,6 +68,7 @@ fn prepare_at<C: FolderCalls, O: Door<C>, R: Wait>(
     rt: &R,
     door: O,
     path: &str,
+    reasons: Option<&Reasons>,
 ) -> Result<(C, Prepared), WriterFault>
     ensures prepared { IfOk result (λ r. IsFolderAt C.FolderCalls path.now
         (IsPrepared plainly r.1.start r.1.logs.items) r.0) }
@@ -75,16 +76,20 @@ fn prepare_at<C: FolderCalls, O: Door<C>, R: Wait>(
         (e ≡ OutOfMemory) ⊎ IsUnpreparedAt C.FolderCalls O.refuses path.now e) }
 {
     let alloc = door.alloc();
-    let reasons = match Reasons::new(alloc) {
-        Ok(reasons) => reasons,
-        Err(_) => return Err(WriterFault::OutOfMemory),
+    let reasons = match reasons {
+        Some(reasons) => reasons,
+        None => return Err(WriterFault::OutOfMemory),
     };
-    let mut folder = match door.open(path, &reasons) {
+    let mut folder = match door.open(path, reasons) {
         Ok(folder) => folder,
         Err(fault) => return Err(WriterFault::Directory(DirectoryFault::Shelf(device(fault)))),
     };
     match prepare(rt, alloc, &mut folder, plainly()) {
-        Ok(prepared) => Ok((folder, prepared)),
+        Ok(prepared) => {
+            // That a file was not there to be locked, or is gone, is no reason of a later refusal.
+            reasons.forget();
+            Ok((folder, prepared))
+        }
         Err(fault) => Err(fault),
     }
 }
@@ -120,6 +125,7 @@ fn ready<C: FolderCalls + Send + Sync, O: Door<C>, R: Wait>(
     rt: &R,
     door: O,
     opening: &Opening<'_>,
+    reasons: Option<&Reasons>,
 ) -> Result<(C, Prepared), OpeningFault>
 where
     C::Mark: Send + Sync,
@@ -131,7 +137,7 @@ where
         (opened_of opening.now)) }
 {
     let alloc = door.alloc();
-    let found = match prepare_at(rt, door, opening.path) {
+    let found = match prepare_at(rt, door, opening.path, reasons) {
         Ok(found) => found,
         Err(fault) => return Err(OpeningFault::Folder(fault)),
     };
@@ -148,6 +154,7 @@ fn serve_path<C: FolderCalls + Send + Sync, O: Door<C>, W: Wire + Send, R: Threa
     door: O,
     opening: &Opening<'_>,
     plan: Plan,
+    reasons: Option<&Reasons>,
     wires: Vec<W>,
 ) -> Result<(C, Vec<Option<W>>), Unserved<W, OpeningFault>>
 where
@@ -166,7 +173,7 @@ where
         AreHandedBack (Folder OutOfMemory) wires.items u.wires.items u.fault) }
 {
     let alloc = door.alloc();
-    let found = match ready(rt, door, opening) {
+    let found = match ready(rt, door, opening, reasons) {
         Ok(found) => found,
         Err(fault) => return Err(Unserved { fault, wires }),
     };
@@ -194,6 +201,7 @@ fn serve_at<C: FolderCalls + Send + Sync, O: Door<C>, D: Descriptors, R: Threads
     door: O,
     descriptors: &mut D,
     opening: &Opening<'_>,
+    reasons: Option<&Reasons>,
 ) -> Result<(C, Vec<Option<D::Wire>>), (Unserved<D::Wire, OpeningFault>, Option<O>)>
 where
     C::Mark: Send + Sync,
@@ -227,7 +235,7 @@ where
         let wires = Vec::new(alloc);
         return Err((Unserved { fault, wires }, Some(door)));
     };
-    match serve_path(rt, door, opening, plan, wires) {
+    match serve_path(rt, door, opening, plan, reasons, wires) {
         Ok(served) => Ok(served),
         Err(unserved) => Err((unserved, None)),
     }
@@ -255,12 +263,14 @@ fn first_of<D: Descriptors>(
 }
 
 /// Answers an opening that is refused, on the first channel: over the first of these wires, or over
-/// a new one where there are none. That wire and the others.
+/// a new one where there are none. That wire and the others. What the system answered is in
+/// `reasons`.
 fn refuse<D: Descriptors>(
     alloc: Global,
     descriptors: &mut D,
     first: u32,
     fault: &OpeningFault,
+    reasons: Option<&Reasons>,
     wires: Vec<D::Wire>,
 ) -> (D::Wire, Vec<D::Wire>)
     requires number { first < 2 ^ 31 }
@@ -271,8 +281,7 @@ fn refuse<D: Descriptors>(
         (map (λ w. end (D.Wire.descriptor w) (D.Wire.happened w)) result.1.items) }
 {
     let (mut wire, others) = first_of(descriptors, first, wires);
-    let (number, name) = fault.refusal();
-    let _is_said = say(&mut wire, &refuse_by(alloc, number, name));
+    let _is_said = say(&mut wire, &refuse_opening(alloc, fault, reasons));
     (wire, others)
 }
 
@@ -305,14 +314,46 @@ fn refuse_content<C: FolderCalls, O: Door<C>, D: Descriptors>(
                 return Ended::Unopened(door);
             }
             let fault = OpeningFault::BadOpening;
-            let (wire, others) = refuse(alloc, descriptors, first, &fault, Vec::new(alloc));
+            let wires = Vec::new(alloc);
+            let (wire, others) = refuse(alloc, descriptors, first, &fault, None, wires);
             Ended::Refused(wire, others, Some(door))
         }
         None => Ended::Unopened(door),
     }
 }
 
-/// Serves the database that an opening request names.
+/// Serves the database that an opening request names. What the system answers where it refuses a
+/// call is kept in `reasons`.
+fn serve_asked<C: FolderCalls + Send + Sync, O: Door<C>, D: Descriptors, R: Threads + Wait + Sync>(
+    rt: &R,
+    door: O,
+    descriptors: &mut D,
+    content: &[u8],
+    reasons: Option<&Reasons>,
+) -> Ended<C, O, D::Wire>
+where
+    C::Mark: Send + Sync,
+    D::Wire: Send,
+    ensures { IsContentServed C.FolderCalls C.Mark.Mark D.says O.refuses D.Wire.gives content.now
+        (outcome_of (λ w. end (D.Wire.descriptor w) (D.Wire.happened w)) result)
+        (D.opened descriptors.old) (D.opened descriptors.new) }
+{
+    let alloc = door.alloc();
+    match Opening::parse(content) {
+        Ok(opening) => match serve_at(rt, door, descriptors, &opening, reasons) {
+            Ok((folder, wires)) => Ended::Served(folder, wires),
+            Err((unserved, door)) => {
+                let Unserved { fault, wires } = unserved;
+                let channel = opening.first_channel;
+                let (wire, others) = refuse(alloc, descriptors, channel, &fault, reasons, wires);
+                Ended::Refused(wire, others, door)
+            }
+        },
+        Err(_) => refuse_content(door, descriptors, content),
+    }
+}
+
+/// The same, with room for what the system answers, where there is memory for that.
 fn serve_content<
     C: FolderCalls + Send + Sync,
     O: Door<C>,
@@ -326,19 +367,8 @@ where
         (outcome_of (λ w. end (D.Wire.descriptor w) (D.Wire.happened w)) result)
         (D.opened descriptors.old) (D.opened descriptors.new) }
 {
-    let alloc = door.alloc();
-    match Opening::parse(content) {
-        Ok(opening) => match serve_at(rt, door, descriptors, &opening) {
-            Ok((folder, wires)) => Ended::Served(folder, wires),
-            Err((unserved, door)) => {
-                let Unserved { fault, wires } = unserved;
-                let channel = opening.first_channel;
-                let (wire, others) = refuse(alloc, descriptors, channel, &fault, wires);
-                Ended::Refused(wire, others, door)
-            }
-        },
-        Err(_) => refuse_content(door, descriptors, content),
-    }
+    let reasons = Reasons::new(door.alloc()).ok();
+    serve_asked(rt, door, descriptors, content, reasons.as_ref())
 }
 
 /// Reads the opening request from descriptor 0, brings unflushed logs in, opens the database, and

@@ -2,7 +2,8 @@
 
 from __future__ import annotations
 
-from typing import Optional
+import re
+from typing import Optional, Tuple
 
 # Numbers of this package. Those from 1 to 99 are the server's refusals, which docs/FORMATS.md
 # lists; 200 to 204 are the protocol's.
@@ -63,6 +64,13 @@ REASONS = {
 }
 DAMAGED = "files of the database are damaged"
 
+# The system's calls that the server tells of, and the end of the system's reason.
+CALLS = ("append", "list", "lock", "make", "open", "read", "remove", "rename", "sync", "write")
+NUMBERED = re.compile(r" \(os error (\d+)\)$")
+
+# A line that names a file whose bytes are refused.
+IN_FILE = re.compile(r"^in (\d+\.(?:ldb|log))$", re.MULTILINE)
+
 
 class Error(Exception):
     """A call was not done. `number` and `name` say why, `detail` says more for people."""
@@ -80,30 +88,48 @@ class Error(Exception):
 class Refused(Error):
     """The server refused the request. Nothing of it was done, and other requests go on.
 
-    `path` is the folder of the database; None where no server was asked.
+    `path` is the folder of the database; None where no server was asked. `told` are the lines that
+    the server told of it. Where these say which call of the system failed, `call` is its name, as
+    "open", `file` the file's path, and `reason` what the system said; else they are None, but that
+    `file` is the name of a file whose bytes are refused.
     """
 
     def __init__(
-        self, number: int, name: str, detail: str = "", path: Optional[str] = None
+        self,
+        number: int,
+        name: str,
+        detail: str = "",
+        path: Optional[str] = None,
+        told: str = "",
     ) -> None:
         Error.__init__(self, number, name, detail)
-        self.args = (number, name, detail, path)
+        self.args = (number, name, detail, path, told)
         self.path = path
+        self.told = told
+        self.call, self.file, self.reason = _cause(path, told)
 
 
 class IOError(Refused, OSError):
     """A call of the system failed in the server, or another program has the database open.
 
-    It is an OSError too, as plyvel's is: `filename` is the folder of the database. The server does
-    not tell the system's number, so `errno` is None. Where `folder` raises it, its `__cause__` has
-    the number.
+    It is an OSError too, as plyvel's is: `filename` is the folder of the database. `errno` is the
+    system's number, and None where the server does not tell it. Where `folder` raises it, its
+    `__cause__` has the number.
     """
 
     def __init__(
-        self, number: int, name: str, detail: str = "", path: Optional[str] = None
+        self,
+        number: int,
+        name: str,
+        detail: str = "",
+        path: Optional[str] = None,
+        told: str = "",
     ) -> None:
-        Refused.__init__(self, number, name, detail, path)
+        Refused.__init__(self, number, name, detail, path, told)
         self.filename = path
+        numbered = NUMBERED.search(self.reason or "")
+        if numbered:
+            self.errno = int(numbered[1])
 
 
 class CorruptionError(Refused):
@@ -149,11 +175,23 @@ class Ended(Error):
         self.status = status
 
 
-def refused(number: int, name: str, path: Optional[str]) -> Refused:
-    """The refusal of a number, but for TooLarge, whose limit the number does not tell."""
+def refused(number: int, name: str, path: Optional[str], told: str = "") -> Refused:
+    """The refusal of a number, but for TooLarge, whose limit the number does not tell. What the
+    server told of it stands in the place of what the number means."""
     kind = IOError if number in FAULTS else CorruptionError if number in DAMAGES else Refused
     reason = DAMAGED if number in DAMAGES else REASONS.get(number, "")
-    return kind(number, name, _at(path, reason), path)
+    return kind(number, name, _at(path, "; ".join(told.splitlines()) or reason), path, told)
+
+
+def _cause(path: Optional[str], told: str) -> Tuple[Optional[str], Optional[str], Optional[str]]:
+    """The call, its file and the system's reason, as the last of the lines tells them."""
+    calls = "|".join(CALLS)
+    place = re.escape(path or "")
+    cause = re.search(rf"^({calls}) ({place}.*): (.*)\Z", told, re.MULTILINE | re.DOTALL)
+    if cause:
+        return cause[1], cause[2], cause[3]
+    named = IN_FILE.search(told)
+    return None, named[1] if named else None, None
 
 
 def _at(path: Optional[str], reason: str) -> str:

@@ -394,14 +394,15 @@ class Server:
             channel.forget()
 
 
-def _refusal(status: int, name: bytes, request: bytes, path: str) -> Error:
-    """Why a request was answered by this status."""
-    named = name.decode("utf-8", "replace") or NAMES.get(status, "Refused")
+def _refusal(status: int, text: bytes, request: bytes, path: str) -> Error:
+    """Why a request was answered by this status: its text is a name, and lines behind it."""
+    name, _, told = text.decode("utf-8", "replace").partition("\n")
+    named = name or NAMES.get(status, "Refused")
     if status == UNANSWERED:
         return Error(status, named, REASONS[status])
     if status == TOO_LARGE:
         return TooLarge(*frames.excess(request), path)
-    return refused(status, named, path)
+    return refused(status, named, path, told.rstrip("\n"))
 
 
 def _release(lock: threading.Lock) -> None:

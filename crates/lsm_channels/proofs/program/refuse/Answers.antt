@@ -4,10 +4,13 @@ use Rattle.lsm_channels.proofs.program.refuse.Goals as goal
 
 pub returns : goal.returns
 returns g c =
-    let old = end (g.D.Wire.Wire.descriptor c.first_of-wire.result.0) (g.D.Wire.Wire.happened c.first_of-wire.result.0) in
-    let new = end (g.D.Wire.Wire.descriptor c.say-is_said.new.wire) (g.D.Wire.Wire.happened c.say-is_said.new.wire) in (
+    let old = end (g.D.Wire.Wire.descriptor c.first_of-wire.result.0)
+    (g.D.Wire.Wire.happened c.first_of-wire.result.0) in
+    let new = end (g.D.Wire.Wire.descriptor c.say-is_said.new.wire)
+    (g.D.Wire.Wire.happened c.say-is_said.new.wire) in (
       old,
       c.first_of-wire.ensures.first,
-      refusal_said (λ v. v.items) c.args.fault.now c.args.first c.refusal-number.result.0 c.refusal-number.result.1.now c.refuse_by.result c.say-is_said.result old new c.refusal-number.ensures.number c.refusal-number.ensures.name
-          c.refuse_by.ensures c.say-is_said.ensures.same c.say-is_said.ensures.said,
+      refusal_said (λ v. v.items) c.args.fault.now c.args.first c.refuse_opening.result
+          c.say-is_said.result old new c.refuse_opening.ensures c.say-is_said.ensures.same
+          c.say-is_said.ensures.said,
     )

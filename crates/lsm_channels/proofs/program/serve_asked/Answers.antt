@@ -2,7 +2,7 @@ use Rattle.std.proofs.Common.{arith, map, sym, true≢false}
 use Rattle.lsm_frames.specs.OpeningView.{opened_of}
 use Rattle.lsm_channels.specs.Serving.{End, end}
 use Rattle.lsm_channels.proofs.RunLaws.{opening_refused}
-use Rattle.lsm_channels.proofs.program.serve_content.Goals as goal
+use Rattle.lsm_channels.proofs.program.serve_asked.Goals as goal
 
 pub returns-in-Ok-serve_at : goal.returns-in-Ok-serve_at
 returns-in-Ok-serve_at g c = (opened_of c.in-Ok.opening, c.in-Ok.ensures.found, c.in-Ok-serve_at.ensures.open, c.in-Ok-serve_at.ensures.served, c.in-Ok-serve_at.ensures.opened)

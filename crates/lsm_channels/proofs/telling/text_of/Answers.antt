@@ -1,0 +1,11 @@
+use Rattle.std.proofs.Common.{List, ℕ, ◌++◌, ap, ◌∙◌}
+use Rattle.lsm_channels.specs.Telling.{behind}
+use Rattle.lsm_channels.proofs.telling.text_of.Goals as goal
+
+pub returns : goal.returns
+returns c = (
+  c.in_ok-lines.lines.items,
+  c.in_ok-lines.ensures,
+  c.in_ok-text.ensures
+      ∙ ap (λ (ls : List ℕ). c.args.name.now ++ behind ls) c.as_slice.ensures.value,
+)
