@@ -102,24 +102,24 @@ class Bytes:
         return (key, value) in self.held
 
     def is_in_order(self):
-        """Whether each table of the version has its entries in order, within the keys of its index and of the manifest,
-        as far as they can be read: LevelDB relies on it."""
+        """Whether each table of the version has its entries in order, each block's between two keys of its index, and
+        all within those of the manifest, as far as they can be read: LevelDB relies on it."""
         for number, (_, _, smallest, largest) in self.tables.items():
             try:
                 table = (self.folder / f"{number:06}.ldb").read_bytes()
                 index = reading.index(table)
             except (OSError, reading.Damaged):
                 continue
-            last = None
+            last = order(smallest)
             for bound, offset, size in index:
                 try:
                     keys = [order(key) for key, _ in reading.entries(reading.block(table, offset, size))]
                 except reading.Damaged:
                     keys = []
-                keys = [last, *keys, order(bound)] if last else [order(smallest), *keys, order(bound)]
-                if any(one > other for one, other in zip(keys, keys[1:])) or (len(keys) > 2 and keys[-2] > order(largest)):
+                keys = [last, *keys, order(bound)]
+                if any(one > other for one, other in zip(keys, keys[1:])) or keys[-2] > order(largest):
                     return False
-                last = keys[-2]
+                last = order(bound)
         return True
 
     def some_keys(self):
@@ -461,6 +461,7 @@ def main():
     looks = Looks()
     for part in (of_rows, of_named_cases, of_no_files, of_whole_kinds, of_damaged_kinds, of_drawn_tables, of_large_spellings):
         before = looks.count
+        drawn.seed(f"{SEED} {part.__name__}")
         part(looks)
         print(f"{part.__name__.replace('_', ' ')}: {looks.count - before} folders", flush=True)
     looks.print_rows()
