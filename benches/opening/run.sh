@@ -1,16 +1,22 @@
 #!/usr/bin/env bash
-# What `lsm` does with a folder that it did not open before, beside LevelDB, in one run, a process each, in turn:
+# What `lsm` does with a folder that it did not open before, beside LevelDB, in one run, a process
+# each, in turn:
 #
-#   recover       a log of so many MB (LOGS="4 64"), beside LevelDB's opening, which flushes the same log
-#   get --quick   of 10 MB and of 1 GB (PAIRS="86000 8600000"), and over 5,000 and 50,000 tables of 2 MiB, most of
-#                 their bytes a hole (TABLES="5000 50000"), beside LevelDB's opening and `Get`
-#   import        of so many pairs that LevelDB compressed (SNAPPY=2000000), beside LevelDB's scan of them
-#   scan          of what was imported, printed into nothing, beside LevelDB's scan that prints the compressed ones
+#   recover       a log of so many MB (LOGS="4 64"), beside LevelDB's opening, which flushes the
+#                 same log
+#   get --quick   of 10 MB and of 1 GB (PAIRS="86000 8600000"), and over 5,000 and 50,000 tables of
+#                 2 MiB, most of their bytes a hole (TABLES="5000 50000"), beside LevelDB's opening
+#                 and `Get`
+#   import        of so many pairs that LevelDB compressed (SNAPPY=2000000), beside LevelDB's scan
+#                 of them
+#   scan          of what was imported, printed into nothing, beside LevelDB's scan that prints the
+#                 compressed ones
 #
-# Prints a table: of each the milliseconds that passed, those of the processor, the most memory in MB (10^6 bytes),
-# the least of TURNS=5 turns, and how many times LevelDB's time it took. What both print, or leave, is compared.
-# LSM=/path/to/lsm names a program, ROOM=/dev/shm where folders are made: it has to have 3 GB, and 100,000 files.
-# Needs gcc, g++, libleveldb-dev, python3, and a machine with nothing else to do.
+# Prints a table: of each the milliseconds that passed, those of the processor, the most memory in
+# MB (10^6 bytes), the least of TURNS=5 turns, and how many times LevelDB's time it took. What both
+# print, or leave, is compared. LSM=/path/to/lsm names a program, ROOM=/dev/shm where folders are
+# made: it has to have 3 GB, and 100,000 files. An empty list leaves its rows out. Needs gcc, g++,
+# libleveldb-dev, python3, and a machine with nothing else to do.
 set -euo pipefail
 here=$(cd "$(dirname "$0")" && pwd)
 program=$(readlink -f "${LSM:-$("$here/../../tools/program")}")
@@ -118,12 +124,12 @@ echo "$(nproc) processors, load $(cut -d ' ' -f 1-3 /proc/loadavg), $(stat -f -c
 [[ $program != */unproved/* ]] || echo "this is the unproved build: ./prove makes the program that is to be timed"
 printf '| | %s | %s | %s | %s | %s | %s | %s |\n|---|---|---|---|---|---|---|---|\n' \
   "lsm, ms" "processor, ms" "memory, MB" "LevelDB, ms" "processor, ms" "memory, MB" "ratio"
-for size in ${LOGS:-4 64}; do recovered "$size"; done
-for pairs in ${PAIRS:-86000 8600000}; do
+for size in ${LOGS-4 64}; do recovered "$size"; done
+for pairs in ${PAIRS-86000 8600000}; do
   "$leveldb" sorted "$scratch/sorted" "$pairs"
   got "get --quick, $(megabytes "$scratch/sorted")" sorted "$(printf %016d $((pairs / 2)))"
 done
-for count in ${TABLES:-5000 50000}; do
+for count in ${TABLES-5000 50000}; do
   key=$(tables "$count")
   got "get --quick, $count tables" sparse "$key"
 done

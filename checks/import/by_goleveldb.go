@@ -1,11 +1,11 @@
-// Folders by goleveldb (Debian's golang-github-syndtr-goleveldb-dev), by its defaults: Snappy, and a
-// log that is not flushed; with PLAIN set not compressed.
+// Folders by goleveldb (Debian's golang-github-syndtr-goleveldb-dev), by its defaults: Snappy, and
+// a log that is not flushed; with PLAIN set not compressed.
 //
 //	by_goleveldb kinds | make DIR KIND | scan DIR
 //	by_goleveldb put DIR KEY VALUE | open DIR | compact DIR | recover DIR | deep DIR
 //
-// `open` writes nothing of its own; `recover` makes a new manifest of the tables that are there, and compacts none; `deep`
-// makes a folder with levels so small that it needs more than seven of them.
+// `open` writes nothing of its own; `recover` makes a new manifest of the tables that are there, and
+// compacts none; `deep` makes a folder with levels so small that it needs more than seven of them.
 package main
 
 import (

@@ -1,5 +1,5 @@
-"""Folders by plyvel, which is LevelDB in Python, by its defaults: Snappy, and a log that is not flushed; with
-PLAIN set not compressed.
+"""Folders by plyvel, which is LevelDB in Python, by its defaults: Snappy, and a log that is not
+flushed; with PLAIN set not compressed.
 
   by_plyvel.py kinds | make DIR KIND
 """

@@ -1,8 +1,9 @@
-// Folders by RocksDB (Debian's librocksdb-dev), not compressed, in the oldest form of its tables; a log that is
-// not flushed.
+// Folders by RocksDB (Debian's librocksdb-dev), not compressed, in the oldest form of its tables;
+// a log that is not flushed.
 //
-//   by_rocksdb kinds | make DIR KIND    its kinds that were never flushed, which LevelDB's tools read
-//   by_rocksdb scan DIR              prints each live key with its value, as KEY=VALUE in hex
+//   by_rocksdb kinds            the kinds that were never flushed; the other one is rocksdb_flushed
+//   by_rocksdb make DIR KIND
+//   by_rocksdb scan DIR         prints each live key with its value, as KEY=VALUE in hex
 #include <rocksdb/db.h>
 #include <rocksdb/options.h>
 #include <rocksdb/table.h>

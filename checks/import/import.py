@@ -1,7 +1,7 @@
 """Imports folders of LevelDB, whole and damaged ones: import.py LSM MAKERS WORK SEED FLIPS [KIND..]
 
-MAKERS are programs, with a colon between two: each tells its `kinds`, and makes a folder of one; the first is
-LevelDB, which reads the folders."""
+MAKERS are programs, with a colon between two: each tells its `kinds`, and makes a folder of one;
+the first is LevelDB, which reads the folders."""
 
 import collections
 import random

@@ -1,6 +1,7 @@
-# Sourced by run.sh here and by that of checks/recover: what makes folders beside LevelDB, as far as it can be had.
+# Sourced by run.sh here and by that of checks/recover: what makes folders beside LevelDB, as far
+# as it can be had.
 
-make_makers() { # FOLDER: puts the programs of these there, and their paths into `makers`, each behind a colon
+make_makers() { # FOLDER: puts them there, and their paths into `makers`, each behind a colon
   local here python
   here=$(dirname "${BASH_SOURCE[0]}")
   makers=

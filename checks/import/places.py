@@ -1,4 +1,5 @@
-"""Damage to a folder of LevelDB's, by the place where it is: a log, a data block of a table, or the rest of one."""
+"""Damage to a folder of LevelDB's, by the place where it is: a log, a data block of a table, or
+the rest of one."""
 
 import os
 import sys
@@ -42,8 +43,8 @@ def ranges(path, place, is_compressed):
 
 
 def damage(drawn, folder, place, is_compressed=False):
-    """Damages a file of the folder there: the file, and what was done to it; none where the folder has no such
-    place. With `is_compressed` blocks are those that Snappy compressed."""
+    """Damages a file of the folder there: the file, and what was done to it; none where the folder
+    has no such place. With `is_compressed` blocks are those that Snappy compressed."""
     for path in drawn.sample(found := files(folder, place), len(found)):
         parts = ranges(path, place, is_compressed)
         if not parts:

@@ -9,8 +9,8 @@ Without LevelDB:
 - A batch of `shell` that has no room: `commit`, `begin`, and the write once more.
 - Locks: a folder that another program holds, by `flock` as goleveldb or by `fcntl` as LevelDB, is
   `refused 52 Locked`, and done once that has ended.
-- A manifest that was cut short: `check` tells the rest, and `compact` is refused; once the longer one is put
-  back, all is read, and `recover` brings the log in.
+- A manifest that was cut short: `check` tells the rest, and `compact` is refused; once the longer
+  one is put back, all is read, and `recover` brings the log in.
 - A log: what reads tells of it, what writes is refused, `--beside-log` writes all the same, and
   `compact` and `clean` leave it.
 - The commands of examples/README.md, and the picture of `levels`; what README says of `rt version`,
@@ -28,19 +28,21 @@ below:
 - Tables that overlap, one of which the manifest tells otherwise, and an older entry above a newer one: what the second
   line of the refusal says of LevelDB helps.
 - A lost manifest: after LevelDB's `RepairDB`, and a compaction, all is read.
-- A damaged table: after `RepairDB` with `paranoid_checks` what was not in the damaged block is read; without them
-  nothing helps.
-- Handles with zeros behind them, as iq80 writes them: after `RepairDB` and a compaction all is read.
+- A damaged table: after `RepairDB` with `paranoid_checks` what was not in the damaged block is
+  read; without them nothing helps.
+- Handles with zeros behind them, as iq80 writes them: after `RepairDB` and a compaction all is
+  read.
 - Another comparator: the pairs, printed by a program of LevelDB's and loaded.
 
 With goleveldb (golang-go, golang-github-syndtr-goleveldb-dev) and LevelDB:
 
-- A table that was added twice: one opening by LevelDB cures it, and two by goleveldb, without a write.
+- A table that was added twice: one opening by LevelDB cures it, and two by goleveldb, without a
+  write.
 - Old ages, by `RecoverFile`: a compaction in either.
 - More than seven levels: no compaction in goleveldb helps, and `RepairDB` with a compaction does.
 
-With RocksDB (librocksdb-dev), before it has flushed a table: `lsm import` copies all pairs; behind that the folder is
-refused, and the pairs are printed by a program of RocksDB's and loaded.
+With RocksDB (librocksdb-dev), before it has flushed a table: `lsm import` copies all pairs; behind
+that the folder is refused, and the pairs are printed by a program of RocksDB's and loaded.
 
 Where the library or the program is not there, what needs it is not judged.
 """

@@ -3,24 +3,26 @@
   folders.py LSM REFUSALS READER LEVELDB WORK SEED COUNT
 
 REFUSALS is checks/refusals/refusals.txt, READER what reader.cc makes, LEVELDB what
-checks/leveldb_directories/directory.cc makes, WORK an empty folder. Looked at are the folders that the rows
-of REFUSALS make; those of CASES, whose answers are known; pipes in the place of tables; LevelDB's, of each
-kind; COUNT copies of some of these, each with one damage; COUNT whose tables, of right checksums, hold
-entries, index keys and bounds that were drawn; and tables that spell far more bytes than they have.
+checks/leveldb_directories/directory.cc makes, WORK an empty folder. Looked at are the folders that
+the rows of REFUSALS make; those of CASES, whose answers are known; pipes in the place of tables;
+LevelDB's, of each kind; COUNT copies of some of these, each with one damage; COUNT whose tables,
+of right checksums, hold entries, index keys and bounds that were drawn; and tables that spell far
+more bytes than they have.
 
 Of each folder:
 
 - a command ends within a minute, with status 0 or 1;
 - where `lsm check` is done, `--quick` prints what is printed without it, to the byte;
 - status 0 of `list` has the tables of the manifest, as reading.py reads it;
-- where it is not, a value, and each line of a scan, also of one that is refused in the midst, stands in a whole
-  block of a table of the version, as reading.py reads them;
-- status 0 of `get` has what LevelDB's `Get`, or its scan, reads there, `absent` too; that of `scan` what its scan
-  reads, which passed nothing over; lines of a scan that is refused are the first that it reads. But not where a
-  table's entries are not in order, or beyond the keys of its index or of the manifest.
+- where it is not, a value, and each line of a scan, also of one that is refused in the midst,
+  stands in a whole block of a table of the version, as reading.py reads them;
+- status 0 of `get` has what LevelDB's `Get`, or its scan, reads there, `absent` too; that of
+  `scan` what its scan reads, which passed nothing over; lines of a scan that is refused are the
+  first that it reads. But not where a table's entries are not in order, or beyond the keys of its
+  index or of the manifest.
 
-Prints, by the refusal of `lsm check`, how often the three were refused alike, otherwise (by what), or answered.
-Ends with status 1 at the first that is otherwise, and leaves the folder.
+Prints, by the refusal of `lsm check`, how often the three were refused alike, otherwise (by what),
+or answered. Ends with status 1 at the first that is otherwise, and leaves the folder.
 """
 
 import collections
@@ -102,24 +104,25 @@ class Bytes:
         return (key, value) in self.held
 
     def is_in_order(self):
-        """Whether each table of the version has its entries in order, within the keys of its index and of the manifest,
-        as far as they can be read: LevelDB relies on it."""
+        """Whether each table of the version has its entries in order, each block's between two
+        keys of its index, and all within those of the manifest, as far as they can be read:
+        LevelDB relies on it."""
         for number, (_, _, smallest, largest) in self.tables.items():
             try:
                 table = (self.folder / f"{number:06}.ldb").read_bytes()
                 index = reading.index(table)
             except (OSError, reading.Damaged):
                 continue
-            last = None
+            last = order(smallest)
             for bound, offset, size in index:
                 try:
                     keys = [order(key) for key, _ in reading.entries(reading.block(table, offset, size))]
                 except reading.Damaged:
                     keys = []
-                keys = [last, *keys, order(bound)] if last else [order(smallest), *keys, order(bound)]
-                if any(one > other for one, other in zip(keys, keys[1:])) or (len(keys) > 2 and keys[-2] > order(largest)):
+                keys = [last, *keys, order(bound)]
+                if any(one > other for one, other in zip(keys, keys[1:])) or keys[-2] > order(largest):
                     return False
-                last = keys[-2]
+                last = order(bound)
         return True
 
     def some_keys(self):
@@ -142,8 +145,8 @@ def internal(key):
 
 
 def by_leveldb(folder, keys):
-    """What LevelDB answers of these keys, and of a scan the lines and whether it passed nothing over; none where it
-    does not open the folder, or fails."""
+    """What LevelDB answers of these keys, and of a scan the lines and whether it passed nothing
+    over; none where it does not open the folder, or fails."""
     copy = WORK / "copy"
     shutil.rmtree(copy, ignore_errors=True)
     shutil.copytree(folder, copy, ignore=shutil.ignore_patterns("*.log", "LOCK"))
@@ -159,8 +162,8 @@ def by_leveldb(folder, keys):
 
 
 def scanned(theirs, key):
-    """What LevelDB's scan says of a key, where it passed nothing over. Its `Get` looks in one block of a table, so of a
-    table whose index leads to another one the two differ."""
+    """What LevelDB's scan says of a key, where it passed nothing over. Its `Get` looks in one
+    block of a table, so of a table whose index leads to another one the two differ."""
     _, lines, is_whole = theirs
     found = [line for line in lines if line.startswith(f"{spell(key)}=")]
     return None if not is_whole else f"value {found[0].split('=')[1]}" if found else "absent"
@@ -461,6 +464,7 @@ def main():
     looks = Looks()
     for part in (of_rows, of_named_cases, of_no_files, of_whole_kinds, of_damaged_kinds, of_drawn_tables, of_large_spellings):
         before = looks.count
+        drawn.seed(f"{SEED} {part.__name__}")
         part(looks)
         print(f"{part.__name__.replace('_', ' ')}: {looks.count - before} folders", flush=True)
     looks.print_rows()

@@ -1,7 +1,8 @@
-// What LevelDB reads of a folder as it is: `reader DIR`, by its default, which is not to be paranoid, but with each
-// block's checksum looked at. Standard input has keys, in hex, a line each. Printed are a line for each, `value V`,
-// `absent` or `refused`, and then each pair, as KEY=VALUE, and last `end`, or `refused` where something was passed
-// over; or `unopened` alone. It writes into DIR, but compacts nothing.
+// What LevelDB reads of a folder as it is: `reader DIR`, by its default, which is not to be
+// paranoid, but with each block's checksum looked at. Standard input has keys, in hex, a line
+// each. Printed are a line for each, `value V`, `absent` or `refused`, and then each pair, as
+// KEY=VALUE, and last `end`, or `refused` where something was passed over; or `unopened` alone. It
+// writes into DIR, but compacts nothing.
 #include <unistd.h>
 
 #include <cstdio>

@@ -1,10 +1,10 @@
 """Lives of a folder that change hands: lives.py LSM LEVELDB WORK SEED LIVES.
 
-Each turn of a life is LevelDB's, which leaves its last writes in a log, or one of `lsm put`, `delete`,
-`ingest`, `load` and `shell` with --recover; `lsm compact`, `lsm clean` and a `put --recover` that is
-killed come between. Where level 0 is full, nothing may be lost, and a compaction makes room. What was
-answered is kept in memory beside it. After each turn LevelDB reads a copy of the folder, and at the
-end `lsm check` and `lsm scan` read the folder itself."""
+Each turn of a life is LevelDB's, which leaves its last writes in a log, or one of `lsm put`,
+`delete`, `ingest`, `load` and `shell` with --recover; `lsm compact`, `lsm clean` and a `put
+--recover` that is killed come between. Where level 0 is full, nothing may be lost, and a
+compaction makes room. What was answered is kept in memory beside it. After each turn LevelDB reads
+a copy of the folder, and at the end `lsm check` and `lsm scan` read the folder itself."""
 
 import os
 import random
@@ -30,7 +30,8 @@ def run(*words, given=b"", status=0, reuse=False):
 
 
 def bring_in(folder, pairs, *words, given=b""):
-    """A run of `lsm` on the folder with --recover: once more behind a compaction where level 0 is full."""
+    """A run of `lsm` on the folder with --recover; where level 0 is full it compacts, and runs it
+    again."""
     words = [LSM, words[0], folder, *words[1:], "--recover"]
     done = run(*words, given=given, status=None)
     if done.returncode == 1 and FULL in done.stderr:

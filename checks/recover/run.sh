@@ -1,16 +1,17 @@
 #!/usr/bin/env bash
 # Recovers folders of the real LevelDB (Debian's libleveldb-dev) with a log that is not flushed, or
-# two after a kill: the kinds of checks/import (LevelDB's, plyvel's, goleveldb's), with blocks that are
-# not compressed, and some of them once more by LevelDB's `reuse_logs`. Of each one is made and
+# two after a kill: the kinds of checks/import (LevelDB's, plyvel's, goleveldb's), with blocks that
+# are not compressed, and some of them once more by LevelDB's `reuse_logs`. Of each one is made and
 # recovered; then LevelDB, with `reuse_logs` and without, goleveldb in its own, and `lsm scan` read
-# what LevelDB read before, LevelDB recovers no log, `lsm put` comes in, and a second recovery writes
-# nothing. Then FLIPS (200) copies of folders with damage, two fifths to a log, two to a data block,
-# one elsewhere in a table: a bit flipped, or an end cut off. Each is refused, and its files are as
-# they were; or it has the same pairs; or those that LevelDB reads of it, behind bytes that are told as
-# the rest. And KILLS (100) times a recovery is killed at any moment: LevelDB reads the same pairs, and
-# the next recovery is done. Then LIVES (100) folders change hands between LevelDB and commands with --recover
-# (lives.py). Words name kinds (none: all). SEED draws. Prints a line each, and stops at the first
-# that is otherwise. Needs g++, libleveldb-dev, python3; LSM=/path/to/lsm names a program.
+# what LevelDB read before, LevelDB recovers no log, `lsm put` comes in, and a second recovery
+# writes nothing. Then FLIPS (200) copies of folders with damage, two fifths to a log, two to a
+# data block, one elsewhere in a table: a bit flipped, or an end cut off. Each is refused, and its
+# files are as they were; or it has the same pairs; or those that LevelDB reads of it, behind bytes
+# that are told as the rest. And KILLS (100) times a recovery is killed at any moment: LevelDB
+# reads the same pairs, and the next recovery is done. Then LIVES (100) folders change hands
+# between LevelDB and commands with --recover (lives.py). Words name kinds (none: all). SEED draws.
+# Prints a line each, and stops at the first that is otherwise. Needs g++, libleveldb-dev, python3;
+# LSM=/path/to/lsm names a program.
 set -euo pipefail
 here=$(cd "$(dirname "$0")" && pwd)
 top=$(cd "$here/../.." && pwd)

@@ -339,7 +339,7 @@ def table_of(path):
 
 
 def unlike(table, command, said):
-    """What of the refusals that stand in these lines is not as the table, and the text before it, has it."""
+    """What of the refusals in these lines is not as FORMATS has it."""
     for number, name, rest in re.findall(r"\brefused (\d+)(?: (\w+))?([^\n]*)", said):
         wanted, count, _ = table.get(int(number), (None, 0, False))
         fields = rest.partition(" in ")[0].partition(": ")[0].split()
