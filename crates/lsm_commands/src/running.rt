@@ -142,6 +142,7 @@ where
         Request::Load(line) => run_load(rt, paths, line, input, out, err),
         Request::Import(line) => run_import(rt, paths, line, out, err),
         Request::Recover(path) => run_recover(rt, paths, path, out, err),
+        Request::Repair(_) => refuse(Fault::OutOfMemory, err),
         Request::Compact(line) => run_compact(rt, paths, line, out, err),
         Request::Script(found) => run_script(rt, paths, *found, input, out, err),
         Request::Shell(line) => run_shell(

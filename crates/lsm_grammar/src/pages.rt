@@ -496,6 +496,28 @@ logs are in; after `refused 9 Device` they may be.",
     example: "Example: lsm recover db",
 };
 
+const REPAIR: Page = Page {
+    name: "repair",
+    arguments: &[FOLDER, COMPARE, WAIT],
+    about: "Makes a new manifest for a folder that nothing opens",
+    text: "Makes a new manifest for the LevelDB folder DIR, of the tables that stand there,
+and names it in CURRENT, as LevelDB's `RepairDB` does where a manifest was lost or
+is damaged. The old manifest is kept under another name. Standard output names
+what was taken, and what is left out.
+
+The tables are read and checked: one that is damaged or compressed is left out.
+The logs (`N.log`) are not read, and stay: behind `repair` bring them in by
+`lsm recover DIR`. A key that was deleted or written over may be back where the
+manifest no longer told which tables were old. Where `lsm check DIR` finds no
+fault there is nothing to repair.
+
+Another program that has DIR open is `refused 52 Locked`.
+
+Exit status: 0 done, 1 refused, 2 bad command line.",
+    example: "Examples: lsm repair db && lsm recover db
+          lsm repair db && lsm check db",
+};
+
 const COMPACT: Page = Page {
     name: "compact",
     arguments: &[
@@ -682,7 +704,7 @@ Exit status: 0 done, 1 refused, 2 bad command line, also where COMMAND is none."
 };
 
 /// The commands, in the order in which the overview lists them.
-pub(crate) const COMMANDS: [Page; 20] = [
+pub(crate) const COMMANDS: [Page; 21] = [
     MAKE_TABLE, DUMP, MANIFEST, SCRIPT, CHECK, LIST, LEVELS, GET, SCAN, INGEST, PUT, DELETE, LOAD,
-    IMPORT, RECOVER, COMPACT, CLEAN, SHELL, BENCH, HELP,
+    IMPORT, RECOVER, REPAIR, COMPACT, CLEAN, SHELL, BENCH, HELP,
 ];
