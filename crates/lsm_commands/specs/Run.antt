@@ -33,6 +33,8 @@ use Rattle.lsm_cmd_import.specs.Imported.{FailsToImport, ImportsAt}
 use Rattle.lsm_cmd_import.specs.declared.copy_fault.CopyFault.{CopyFault}
 use Rattle.lsm_cmd_recover.specs.Recovered.{ComesFirst, FailsFirst, FailsToRecover, RecoversAt}
 use Rattle.lsm_cmd_recover.specs.declared.recover_fault.RecoverFault.{RecoverFault}
+use Rattle.lsm_cmd_repair.specs.Repaired.{FailsToRepair, RepairsAt}
+use Rattle.lsm_cmd_repair.specs.declared.repair_fault.RepairFault.{RepairFault}
 use Rattle.lsm_recovery.specs.declared.bring_fault.BringFault.{BringFault}
 use Rattle.lsm_cmd_levels.specs.Layout.{FailsToLayOut, LaysOutAt}
 use Rattle.lsm_cmd_load.specs.LoadedAt.{FailsToLoad, LoadsAt}
@@ -111,7 +113,8 @@ module _ {C M : Type 0} (folders : Ghosts C M) (marks : mark.Ghosts M)
       ImportsAt folders marks line old new × Keeps said_old said_new
   IsDone text (Recover path) old new said_old said_new =
       RecoversAt folders marks path.now old new × Keeps said_old said_new
-  IsDone text (Repair path) old new said_old said_new = ⊥
+  IsDone text (Repair path) old new said_old said_new =
+      RepairsAt folders marks path.now old new × Keeps said_old said_new
   IsDone text (Compact line) old new said_old said_new =
       IsCompactedAt folders line old new × (IsFalse line.options.progress → Keeps said_old said_new)
   IsDone text (Script input) old new said_old said_new =
@@ -180,7 +183,8 @@ module _ {C M : Type 0} (folders : Ghosts C M) (marks : mark.Ghosts M)
       (fault : CopyFault) × FailsToImport folders marks line fault old new
   IsUndone text (Recover path) old new =
       (fault : RecoverFault) × FailsToRecover folders marks path.now fault old new
-  IsUndone text (Repair path) old new = Keeps old new
+  IsUndone text (Repair path) old new =
+      (fault : RepairFault) × FailsToRepair folders marks path.now fault old new
   IsUndone text (Compact line) old new = IsUncompacted folders marks line old new
   IsUndone text (Script input) old new = IsUnplayed (text input) old new
   IsUndone text (Shell line) old new =

@@ -499,23 +499,27 @@ logs are in; after `refused 9 Device` they may be.",
 const REPAIR: Page = Page {
     name: "repair",
     arguments: &[FOLDER, COMPARE, WAIT],
-    about: "Makes a new manifest for a folder that nothing opens",
-    text: "Makes a new manifest for the LevelDB folder DIR, of the tables that stand there,
-and names it in CURRENT, as LevelDB's `RepairDB` does where a manifest was lost or
-is damaged. The old manifest is kept under another name. Standard output names
-what was taken, and what is left out.
+    about: "Makes a new manifest of the tables of a folder that nothing opens",
+    text: "Makes a new manifest for the LevelDB folder DIR, whose own is lost or damaged, and
+names it in CURRENT. Its database is one new table, at level 6, of each entry of
+the tables that are there and whole, compressed ones too. Prints `repaired tables
+T entries E level 6`, how many tables were whole, and how many entries the new
+one has; and for each table that is not whole, as in
+`left out 000005.ldb: refused 15 BadChecksum`, why it is not.
 
-The tables are read and checked: one that is damaged or compressed is left out.
-The logs (`N.log`) are not read, and stay: behind `repair` bring them in by
-`lsm recover DIR`. A key that was deleted or written over may be back where the
-manifest no longer told which tables were old. Where `lsm check DIR` finds no
-fault there is nothing to repair.
+Each file stays but CURRENT: the old tables, the old manifest, and the logs
+(`N.log`), each of which is then one to read: `lsm recover DIR` brings them in. A
+key that was deleted is back where the table with its deletion is left out, or
+where a table is there that the database had given up. What is read is held in
+memory. Where `lsm check DIR` finds no fault there is nothing to repair.
 
+It is `refused 64 NothingWhole` where no whole table has an entry, and `refused
+65 TwoValues N M` where these two have two values of one key and sequence.
 Another program that has DIR open is `refused 52 Locked`.
 
-Exit status: 0 done, 1 refused, 2 bad command line.",
-    example: "Examples: lsm repair db && lsm recover db
-          lsm repair db && lsm check db",
+Exit status: 0 done, 1 refused, 2 bad command line. After a `write fault` it is
+done; after `refused 9 Device` it may be.",
+    example: "Example: lsm repair db && lsm recover db",
 };
 
 const COMPACT: Page = Page {
