@@ -20,7 +20,7 @@ use Rattle.lsm_cmd_read.specs.Quick.{is_quick}
 use Rattle.lsm_grammar.specs.declared.request.Request.{Request}
 use Rattle.lsm_grammar.specs.declared.request.Request.TheVariants.{Convert, Look, Levels}
 use Rattle.lsm_grammar.specs.declared.request.Request.TheVariants.{Write as WriteFolder, Load}
-use Rattle.lsm_grammar.specs.declared.request.Request.TheVariants.{Import, Recover, Compact}
+use Rattle.lsm_grammar.specs.declared.request.Request.TheVariants.{Import, Recover, Repair, Compact}
 use Rattle.lsm_grammar.specs.declared.request.Request.TheVariants.{Script, Shell, Bench}
 use Rattle.lsm_grammar.specs.Requests.{Asks, IsMannerOf}
 use Rattle.lsm_grammar.specs.declared.manner.Manner.{Manner}
@@ -68,6 +68,7 @@ module _ {C M : Type 0} (folders : Ghosts C M) (marks : mark.Ghosts M)
   shows text (Load line) old new said_old said_new done = tt
   shows text (Import line) old new said_old said_new done = tt
   shows text (Recover path) old new said_old said_new done = tt
+  shows text (Repair path) old new said_old said_new done = tt
   shows text (Compact line) old new said_old said_new done = tt
   shows text (Script input) old new said_old said_new done = tt
   shows text (Shell line) old new said_old said_new done = tt

@@ -20,7 +20,7 @@ use Rattle.lsm_commands.specs.Run.{AreFollowed}
 use Rattle.lsm_grammar.specs.declared.request.Request.{Request}
 use Rattle.lsm_grammar.specs.declared.request.Request.TheVariants.{Convert, Look, Levels as LayOut}
 use Rattle.lsm_grammar.specs.declared.request.Request.TheVariants.{Write as WriteFolder, Load}
-use Rattle.lsm_grammar.specs.declared.request.Request.TheVariants.{Import, Recover, Compact}
+use Rattle.lsm_grammar.specs.declared.request.Request.TheVariants.{Import, Recover, Repair, Compact}
 use Rattle.lsm_grammar.specs.declared.request.Request.TheVariants.{Script, Shell, Bench}
 
 module _ {C M : Type 0} (folders : Ghosts C M) (marks : mark.Ghosts M) where
@@ -46,6 +46,7 @@ module _ {C M : Type 0} (folders : Ghosts C M) (marks : mark.Ghosts M) where
   ShowsTheTruth (Load line) old new = ⊤
   ShowsTheTruth (Import line) old new = ⊤
   ShowsTheTruth (Recover path) old new = ⊤
+  ShowsTheTruth (Repair path) old new = ⊤
   ShowsTheTruth (Compact line) old new = ⊤
   ShowsTheTruth (Script input) old new = ⊤
   ShowsTheTruth (Shell line) old new = ⊤

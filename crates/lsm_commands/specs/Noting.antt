@@ -27,7 +27,7 @@ use Rattle.lsm_directory.specs.declared.folder.named_manifest.NamedManifest.{Nam
 use Rattle.lsm_grammar.specs.declared.request.Request.{Request}
 use Rattle.lsm_grammar.specs.declared.request.Request.TheVariants.{Convert, Look, Levels}
 use Rattle.lsm_grammar.specs.declared.request.Request.TheVariants.{Write as WriteFolder, Load}
-use Rattle.lsm_grammar.specs.declared.request.Request.TheVariants.{Import, Recover, Compact}
+use Rattle.lsm_grammar.specs.declared.request.Request.TheVariants.{Import, Recover, Repair, Compact}
 use Rattle.lsm_grammar.specs.declared.request.Request.TheVariants.{Script, Shell, Bench}
 use Rattle.lsm_grammar.specs.declared.shell_line.ShellLine.{ShellLine}
 
@@ -47,6 +47,7 @@ noted_by (WriteFolder line) strict = Some (line.path.now, false)
 noted_by (Load line) strict = Some (line.path.now, false)
 noted_by (Import line) strict = None
 noted_by (Recover path) strict = Some (path.now, false)
+noted_by (Repair path) strict = None
 noted_by (Compact line) strict = Some (line.path.now, false)
 noted_by (Script input) strict = None
 noted_by (Shell line) strict = noted_by_shell line strict

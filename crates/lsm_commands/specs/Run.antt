@@ -18,7 +18,7 @@ use Rattle.lsm_grammar.specs.declared.request.Request.{Request}
 use Rattle.lsm_grammar.specs.declared.request.Request.TheVariants.{Convert, Look, Levels}
 use Rattle.lsm_grammar.specs.declared.request.Request.TheVariants.{Write as WriteFolder, Load}
 use Rattle.lsm_grammar.specs.declared.request.Request.TheVariants.{Compact}
-use Rattle.lsm_grammar.specs.declared.request.Request.TheVariants.{Import, Recover}
+use Rattle.lsm_grammar.specs.declared.request.Request.TheVariants.{Import, Recover, Repair}
 use Rattle.lsm_grammar.specs.declared.request.Request.TheVariants.{Script, Shell, Bench}
 use Rattle.lsm_grammar.specs.declared.writing_command.WritingCommand.{WritingCommand}
 use Rattle.lsm_grammar.specs.declared.writing_command.WritingCommand.TheVariants.{Ingest, WriteKey}
@@ -33,6 +33,8 @@ use Rattle.lsm_cmd_import.specs.Imported.{FailsToImport, ImportsAt}
 use Rattle.lsm_cmd_import.specs.declared.copy_fault.CopyFault.{CopyFault}
 use Rattle.lsm_cmd_recover.specs.Recovered.{ComesFirst, FailsFirst, FailsToRecover, RecoversAt}
 use Rattle.lsm_cmd_recover.specs.declared.recover_fault.RecoverFault.{RecoverFault}
+use Rattle.lsm_cmd_repair.specs.Repaired.{FailsToRepair, RepairsAt}
+use Rattle.lsm_cmd_repair.specs.declared.repair_fault.RepairFault.{RepairFault}
 use Rattle.lsm_recovery.specs.declared.bring_fault.BringFault.{BringFault}
 use Rattle.lsm_cmd_levels.specs.Layout.{FailsToLayOut, LaysOutAt}
 use Rattle.lsm_cmd_load.specs.LoadedAt.{FailsToLoad, LoadsAt}
@@ -59,6 +61,7 @@ opened_by (WriteFolder line) = opened_by_writing line.path.now line.command
 opened_by (Load line) = Some (line.path.now, line.options.ingest.begins)
 opened_by (Import line) = None
 opened_by (Recover path) = None
+opened_by (Repair path) = None
 opened_by (Compact line) = None
 opened_by (Script input) = None
 opened_by (Shell line) = Some (line.path.now, line.options.begins)
@@ -110,6 +113,8 @@ module _ {C M : Type 0} (folders : Ghosts C M) (marks : mark.Ghosts M)
       ImportsAt folders marks line old new × Keeps said_old said_new
   IsDone text (Recover path) old new said_old said_new =
       RecoversAt folders marks path.now old new × Keeps said_old said_new
+  IsDone text (Repair path) old new said_old said_new =
+      RepairsAt folders marks path.now old new × Keeps said_old said_new
   IsDone text (Compact line) old new said_old said_new =
       IsCompactedAt folders line old new × (IsFalse line.options.progress → Keeps said_old said_new)
   IsDone text (Script input) old new said_old said_new =
@@ -178,6 +183,8 @@ module _ {C M : Type 0} (folders : Ghosts C M) (marks : mark.Ghosts M)
       (fault : CopyFault) × FailsToImport folders marks line fault old new
   IsUndone text (Recover path) old new =
       (fault : RecoverFault) × FailsToRecover folders marks path.now fault old new
+  IsUndone text (Repair path) old new =
+      (fault : RepairFault) × FailsToRepair folders marks path.now fault old new
   IsUndone text (Compact line) old new = IsUncompacted folders marks line old new
   IsUndone text (Script input) old new = IsUnplayed (text input) old new
   IsUndone text (Shell line) old new =

@@ -10,7 +10,7 @@ use Rattle.lsm_shelf.specs.Place.{IsAtPath}
 use Rattle.lsm_grammar.specs.declared.request.Request.{Request}
 use Rattle.lsm_grammar.specs.declared.request.Request.TheVariants.{Convert, Look, Levels}
 use Rattle.lsm_grammar.specs.declared.request.Request.TheVariants.{Write as WriteFolder, Load}
-use Rattle.lsm_grammar.specs.declared.request.Request.TheVariants.{Import, Recover, Compact}
+use Rattle.lsm_grammar.specs.declared.request.Request.TheVariants.{Import, Recover, Repair, Compact}
 use Rattle.lsm_grammar.specs.declared.request.Request.TheVariants.{Script, Shell, Bench}
 
 -- of a shell that only reads the lock is shared
@@ -27,6 +27,7 @@ locked_by (WriteFolder line) = Some (line.path.now, Exclusive)
 locked_by (Load line) = Some (line.path.now, Exclusive)
 locked_by (Import line) = None
 locked_by (Recover path) = Some (path.now, Exclusive)
+locked_by (Repair path) = Some (path.now, Exclusive)
 locked_by (Compact line) = Some (line.path.now, Exclusive)
 locked_by (Script input) = None
 locked_by (Shell line) = Some (line.path.now, shell_lock line.reads_only)

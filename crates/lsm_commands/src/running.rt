@@ -22,6 +22,7 @@ use lsm_cmd_levels::run_levels;
 use lsm_cmd_load::run_load;
 use lsm_cmd_read::run_look;
 use lsm_cmd_recover::{recover_first, run_recover};
+use lsm_cmd_repair::run_repair;
 use lsm_cmd_shell::run_shell;
 use lsm_cmd_write::{run_clean, run_ingest, run_write};
 use lsm_directory::{Known, Paths, refuse, status_of};
@@ -142,6 +143,7 @@ where
         Request::Load(line) => run_load(rt, paths, line, input, out, err),
         Request::Import(line) => run_import(rt, paths, line, out, err),
         Request::Recover(path) => run_recover(rt, paths, path, out, err),
+        Request::Repair(path) => run_repair(rt, paths, path, out, err),
         Request::Compact(line) => run_compact(rt, paths, line, out, err),
         Request::Script(found) => run_script(rt, paths, *found, input, out, err),
         Request::Shell(line) => run_shell(

@@ -38,6 +38,7 @@ fn locked_by<'a>(request: &Request<'a>) -> Option<(&'a str, LockKind)>
         Request::Write(line) => Some((line.path, LockKind::Exclusive)),
         Request::Load(line) => Some((line.path, LockKind::Exclusive)),
         Request::Recover(path) => Some((path, LockKind::Exclusive)),
+        Request::Repair(path) => Some((path, LockKind::Exclusive)),
         Request::Compact(line) => Some((line.path, LockKind::Exclusive)),
         Request::Shell(line) => Some((line.path, shell_lock(line.reads_only))),
         _ => None,

@@ -5,18 +5,18 @@ use Rattle.clap.specs.Words.{IsAmong, Kinds, Text}
 use Rattle.clap.specs.declared.error.ErrorKind.{ErrorKind}
 use Rattle.clap.specs.declared.error.ErrorKind.TheVariants as kind
 use Rattle.clap.proofs.OnLiterals.{clap_on_literals}
-use Rattle.lsm_grammar.specs.Grammar.{bare, bench, check, clean, compact, delete, dump, get, help, import_folder, ingest, levels, list, load, lsm, make_table, manifest, put, recover, scan, script, shell, with_inputs, with_looks, with_writes}
+use Rattle.lsm_grammar.specs.Grammar.{bare, bench, check, clean, compact, delete, dump, get, help, import_folder, ingest, levels, list, load, lsm, make_table, manifest, put, recover, repair, scan, script, shell, with_inputs, with_looks, with_writes}
 use Rattle.lsm_grammar.specs.Requests.{AskHelp, HaveUsageFault, faults_in, found_in, named, named_converting, named_otherwise, named_reading, named_writing, topic_in, word_in, word_of}
 use Rattle.lsm_grammar.specs.declared.command_name.CommandName.{CommandName}
 use Rattle.lsm_grammar.specs.declared.command_name.CommandName.TheVariants as name
 
 -- what clap finds wrong with `--help`, alone or behind the name of a command
 pub overview_asked : faults_in (codes "--help" ∷ []) ≡ kind.DisplayHelp ∷ []
-unfolding clap_on_literals faults_in bare bench check clean compact delete dump get help import_folder ingest levels list load lsm make_table manifest put recover scan script shell with_inputs with_looks with_writes
+unfolding clap_on_literals faults_in bare bench check clean compact delete dump get help import_folder ingest levels list load lsm make_table manifest put recover repair scan script shell with_inputs with_looks with_writes
 overview_asked = refl
 
 pub page_asked : (n : CommandName) → faults_in (word_of n ∷ codes "--help" ∷ []) ≡ kind.DisplayHelp ∷ []
-unfolding clap_on_literals faults_in bare bench check clean compact delete dump get help import_folder ingest levels list load lsm make_table manifest put recover scan script shell with_inputs with_looks with_writes
+unfolding clap_on_literals faults_in bare bench check clean compact delete dump get help import_folder ingest levels list load lsm make_table manifest put recover repair scan script shell with_inputs with_looks with_writes
 page_asked name.MakeTable = refl
 page_asked name.Dump = refl
 page_asked name.Manifest = refl
@@ -32,6 +32,7 @@ page_asked name.Delete = refl
 page_asked name.Load = refl
 page_asked name.Import = refl
 page_asked name.Recover = refl
+page_asked name.Repair = refl
 page_asked name.Compact = refl
 page_asked name.Clean = refl
 page_asked name.Shell = refl
@@ -40,15 +41,15 @@ page_asked name.Help = refl
 
 -- `help`, alone or before the name of a command, is of the grammar
 pub alone_good : faults_in (codes "help" ∷ []) ≡ []
-unfolding clap_on_literals faults_in bare bench check clean compact delete dump get help import_folder ingest levels list load lsm make_table manifest put recover scan script shell with_inputs with_looks with_writes
+unfolding clap_on_literals faults_in bare bench check clean compact delete dump get help import_folder ingest levels list load lsm make_table manifest put recover repair scan script shell with_inputs with_looks with_writes
 alone_good = refl
 
 pub alone_topic : is_some (topic_in (found_in (codes "help" ∷ []))) ≡ true
-unfolding clap_on_literals found_in word_in named named_converting named_reading named_writing named_otherwise bare bench check clean compact delete dump get help import_folder ingest levels list load lsm make_table manifest put recover scan script shell with_inputs with_looks with_writes
+unfolding clap_on_literals found_in word_in named named_converting named_reading named_writing named_otherwise bare bench check clean compact delete dump get help import_folder ingest levels list load lsm make_table manifest put recover repair scan script shell with_inputs with_looks with_writes
 alone_topic = refl
 
 pub named_good : (n : CommandName) → faults_in (codes "help" ∷ word_of n ∷ []) ≡ []
-unfolding clap_on_literals faults_in bare bench check clean compact delete dump get help import_folder ingest levels list load lsm make_table manifest put recover scan script shell with_inputs with_looks with_writes
+unfolding clap_on_literals faults_in bare bench check clean compact delete dump get help import_folder ingest levels list load lsm make_table manifest put recover repair scan script shell with_inputs with_looks with_writes
 named_good name.MakeTable = refl
 named_good name.Dump = refl
 named_good name.Manifest = refl
@@ -64,6 +65,7 @@ named_good name.Delete = refl
 named_good name.Load = refl
 named_good name.Import = refl
 named_good name.Recover = refl
+named_good name.Repair = refl
 named_good name.Compact = refl
 named_good name.Clean = refl
 named_good name.Shell = refl
@@ -71,7 +73,7 @@ named_good name.Bench = refl
 named_good name.Help = refl
 
 pub named_topic : (n : CommandName) → is_some (topic_in (found_in (codes "help" ∷ word_of n ∷ []))) ≡ true
-unfolding clap_on_literals found_in word_in named named_converting named_reading named_writing named_otherwise bare bench check clean compact delete dump get help import_folder ingest levels list load lsm make_table manifest put recover scan script shell with_inputs with_looks with_writes
+unfolding clap_on_literals found_in word_in named named_converting named_reading named_writing named_otherwise bare bench check clean compact delete dump get help import_folder ingest levels list load lsm make_table manifest put recover repair scan script shell with_inputs with_looks with_writes
 named_topic name.MakeTable = refl
 named_topic name.Dump = refl
 named_topic name.Manifest = refl
@@ -87,6 +89,7 @@ named_topic name.Delete = refl
 named_topic name.Load = refl
 named_topic name.Import = refl
 named_topic name.Recover = refl
+named_topic name.Repair = refl
 named_topic name.Compact = refl
 named_topic name.Clean = refl
 named_topic name.Shell = refl

@@ -201,6 +201,9 @@ import_folder = command (codes "import") (word (codes "SRC") ∷ word (codes "DS
 unfoldable pub recover : App
 recover = command (codes "recover") (folder ∷ strict ∷ compare ∷ wait ∷ [])
 
+unfoldable pub repair : App
+repair = command (codes "repair") (folder ∷ compare ∷ wait ∷ [])
+
 unfoldable pub compact : App
 compact = command (codes "compact") (folder ∷ flag (codes "all") ∷ valued (codes "from")
     ∷ valued (codes "to") ∷ text ∷ workers ∷ accept_rest ∷ strict ∷ compare ∷ progress ∷ wait
@@ -250,9 +253,9 @@ with_looks =
 -- with those that write keys into a folder
 unfoldable pub with_writes : App
 with_writes =
-    with_subcommand (with_subcommand (with_subcommand (with_subcommand
+    with_subcommand (with_subcommand (with_subcommand (with_subcommand (with_subcommand
     (with_subcommand (with_subcommand with_looks ingest.top) put.top) delete.top) load.top)
-    import_folder.top) recover.top
+    import_folder.top) recover.top) repair.top
 
 -- all commands
 unfoldable pub lsm : App

@@ -40,7 +40,7 @@ use Rattle.lsm_grammar.specs.declared.manner.Manner.{Manner}
 use Rattle.lsm_grammar.specs.declared.request.Request.{Request}
 use Rattle.lsm_grammar.specs.declared.request.Request.TheVariants.{Convert, Look, Levels}
 use Rattle.lsm_grammar.specs.declared.request.Request.TheVariants.{Write as WriteFolder, Load, Compact}
-use Rattle.lsm_grammar.specs.declared.request.Request.TheVariants.{Import, Recover}
+use Rattle.lsm_grammar.specs.declared.request.Request.TheVariants.{Import, Recover, Repair}
 use Rattle.lsm_grammar.specs.declared.request.Request.TheVariants.{Script, Shell, Bench}
 use Rattle.lsm_requests.specs.declared.scan_options.ScanOptions.{ScanOptions}
 use Rattle.lsm_requests.specs.declared.scan_output.ScanOutput.{ScanOutput}
@@ -102,6 +102,7 @@ named_writing word =
     else if bytes_eq word (codes "load") then Some name.Load
     else if bytes_eq word (codes "import") then Some name.Import
     else if bytes_eq word (codes "recover") then Some name.Recover
+    else if bytes_eq word (codes "repair") then Some name.Repair
     else if bytes_eq word (codes "compact") then Some name.Compact
     else if bytes_eq word (codes "clean") then Some name.Clean
     else None
@@ -137,6 +138,7 @@ word_of name.Delete = codes "delete"
 word_of name.Load = codes "load"
 word_of name.Import = codes "import"
 word_of name.Recover = codes "recover"
+word_of name.Repair = codes "repair"
 word_of name.Compact = codes "compact"
 word_of name.Clean = codes "clean"
 word_of name.Shell = codes "shell"
@@ -172,6 +174,7 @@ name_of (WriteFolder line) = name_of_write line.command
 name_of (Load line) = name.Load
 name_of (Import line) = name.Import
 name_of (Recover path) = name.Recover
+name_of (Repair path) = name.Repair
 name_of (Compact line) = name.Compact
 name_of (Script input) = name.Script
 name_of (Shell line) = name.Shell
@@ -363,6 +366,7 @@ Says rows (Load line) =
 Says rows (Import line) = (word_in (codes "SRC") rows ≡ Some line.source.now)
     × (word_in (codes "DST") rows ≡ Some line.target.now)
 Says rows (Recover path) = word_in (codes "DIR") rows ≡ Some path.now
+Says rows (Repair path) = word_in (codes "DIR") rows ≡ Some path.now
 Says rows (Compact line) =
     (word_in (codes "DIR") rows ≡ Some line.path.now)
     × AreWorkers (word_in (codes "workers") rows) line.options.workers

@@ -486,6 +486,14 @@ fn recover_in<'a>(found: &ArgMatches<'a>) -> Option<Request<'a>>
     Some(Request::Recover(path))
 }
 
+/// A folder that gets a new manifest.
+fn repair_in<'a>(found: &ArgMatches<'a>) -> Option<Request<'a>>
+    ensures { Reads CommandName.Repair (rows_in found.now) result }
+{
+    let path = word_in(found, "DIR")?;
+    Some(Request::Repair(path))
+}
+
 /// The bounds of a range that is compacted. `None` where a word spells no key.
 fn range_of(
     alloc: Global,
@@ -629,6 +637,7 @@ fn request_in<'a>(
         CommandName::Load => Ok(load_in(found)),
         CommandName::Import => Ok(import_in(found)),
         CommandName::Recover => Ok(recover_in(found)),
+        CommandName::Repair => Ok(repair_in(found)),
         CommandName::Compact => compact_in(alloc, found),
         CommandName::Clean => Ok(clean_in(found)),
         CommandName::Shell => Ok(shell_in(found)),

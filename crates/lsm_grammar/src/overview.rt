@@ -21,14 +21,14 @@ database in a DIR that has no manifest and no table either. A DIR that is a
 symbolic link is the folder that it leads to; what is no regular file is not
 read.
 
-`ingest`, `put`, `delete`, `load`, `recover`, `compact`, `clean` and `shell`
-without --read-only hold LevelDB's lock file, DIR/LOCK, alone, and make it where
-it is not there; the other commands share it where it is there. Where another
-program holds it, also a LevelDB, it is `refused 52 Locked`, and nothing is read
-or written. A LevelDB is noticed where the system has the file /proc/locks; it
-does not notice `lsm`: do not open DIR while `lsm` writes there. With --wait a
-command first waits until the lock is free, SECONDS at most; it asks for it 20
-times a second.
+`ingest`, `put`, `delete`, `load`, `recover`, `repair`, `compact`, `clean` and
+`shell` without --read-only hold LevelDB's lock file, DIR/LOCK, alone, and make
+it where it is not there; the other commands share it where it is there. Where
+another program holds it, also a LevelDB, it is `refused 52 Locked`, and nothing
+is read or written. A LevelDB is noticed where the system has the file
+/proc/locks; it does not notice `lsm`: do not open DIR while `lsm` writes there.
+With --wait a command first waits until the lock is free, SECONDS at most; it
+asks for it 20 times a second.
 
 No command but `import` and `recover` reads a write-ahead log (`N.log`). Of each
 one that LevelDB has not flushed, `list`, `get` and `scan` say on standard error
@@ -40,7 +40,7 @@ Where the last record of DIR's manifest is cut off, DIR has a later manifest tha
 the one that CURRENT names, or files of RocksDB, standard error says so, also
 before a command that writes; with --strict that is `refused 61 TornManifest B`,
 `refused 62 LaterManifest N` or `refused 63 RocksDbFiles`. `levels` looks at the
-manifest's end alone; `import` and `bench` do not look.
+manifest's end alone; `import`, `repair` and `bench` do not look.
 
 Tables that are compressed, as LevelDB makes them unless told otherwise, are
 refused: `refused 16 Compressed 1`.

@@ -496,6 +496,32 @@ logs are in; after `refused 9 Device` they may be.",
     example: "Example: lsm recover db",
 };
 
+const REPAIR: Page = Page {
+    name: "repair",
+    arguments: &[FOLDER, COMPARE, WAIT],
+    about: "Makes a new manifest of the tables of a folder that nothing opens",
+    text: "Makes a new manifest for the LevelDB folder DIR, whose own is lost or damaged, and
+names it in CURRENT. Its database is one new table, at level 6, of each entry of
+the tables that are there and whole, compressed ones too. Prints `repaired tables
+T entries E level 6`, how many tables were whole, and how many entries the new
+one has; and for each table that is not whole, as in
+`left out 000005.ldb: refused 15 BadChecksum`, why it is not.
+
+Each file stays but CURRENT: the old tables, the old manifest, and the logs
+(`N.log`), each of which is then one to read: `lsm recover DIR` brings them in. A
+key that was deleted is back where the table with its deletion is left out, or
+where a table is there that the database had given up. What is read is held in
+memory. Where `lsm check DIR` finds no fault there is nothing to repair.
+
+It is `refused 64 NothingWhole` where no whole table has an entry, and `refused
+65 TwoValues N M` where these two have two values of one key and sequence.
+Another program that has DIR open is `refused 52 Locked`.
+
+Exit status: 0 done, 1 refused, 2 bad command line. After a `write fault` it is
+done; after `refused 9 Device` it may be.",
+    example: "Example: lsm repair db && lsm recover db",
+};
+
 const COMPACT: Page = Page {
     name: "compact",
     arguments: &[
@@ -682,7 +708,7 @@ Exit status: 0 done, 1 refused, 2 bad command line, also where COMMAND is none."
 };
 
 /// The commands, in the order in which the overview lists them.
-pub(crate) const COMMANDS: [Page; 20] = [
+pub(crate) const COMMANDS: [Page; 21] = [
     MAKE_TABLE, DUMP, MANIFEST, SCRIPT, CHECK, LIST, LEVELS, GET, SCAN, INGEST, PUT, DELETE, LOAD,
-    IMPORT, RECOVER, COMPACT, CLEAN, SHELL, BENCH, HELP,
+    IMPORT, RECOVER, REPAIR, COMPACT, CLEAN, SHELL, BENCH, HELP,
 ];

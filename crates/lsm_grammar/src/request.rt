@@ -24,6 +24,8 @@ pub enum Request<'a> {
     Import(ImportLine<'a>),
     /// `recover` of a folder.
     Recover(&'a str),
+    /// `repair` of a folder.
+    Repair(&'a str),
     /// `compact`.
     Compact(CompactLine<'a>),
     /// `script`: the commands that an input spells.

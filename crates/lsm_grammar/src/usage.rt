@@ -36,6 +36,7 @@ fn usage(name: CommandName) -> &'static str {
              [--wait <SECONDS>]",
         CommandName::Import => "lsm import <SRC> <DST> [--compare]",
         CommandName::Recover => "lsm recover <DIR> [--strict] [--compare] [--wait <SECONDS>]",
+        CommandName::Repair => "lsm repair <DIR> [--compare] [--wait <SECONDS>]",
         CommandName::Compact =>
             "lsm compact <DIR> [--all] [--from <KEY>] [--to <KEY>] [--text] [--workers <N>] \
              [--accept-rest] [--strict] [--compare] [--progress] [--wait <SECONDS>]",

@@ -5,18 +5,18 @@ use Rattle.clap.specs.Words.{App, FailsBy, IsAmong, Kinds, app_of, fault_of, is_
 use Rattle.clap.specs.declared.error.Error.{Error}
 use Rattle.clap.specs.declared.error.ErrorKind.TheVariants.{OutOfMemory}
 use Rattle.clap.proofs.OnLiterals.{clap_on_literals}
-use Rattle.lsm_grammar.specs.Grammar.{bare, bench, check, clean, compact, delete, dump, get, help, import_folder, ingest, levels, list, load, lsm, make_table, manifest, put, recover, scan, script, shell, with_inputs, with_looks, with_writes}
+use Rattle.lsm_grammar.specs.Grammar.{bare, bench, check, clean, compact, delete, dump, get, help, import_folder, ingest, levels, list, load, lsm, make_table, manifest, put, recover, repair, scan, script, shell, with_inputs, with_looks, with_writes}
 use Rattle.lsm_grammar.specs.Requests.{faults_in, found_in}
 use Rattle.lsm_grammar.proofs.grammar.found_in.Goals as goal
 
 -- the grammar is one of which clap's specs give the matches and the faults
 
 is_simple_here : is_simple lsm ≡ true
-unfolding clap_on_literals bare bench check clean compact delete dump get help import_folder ingest levels list load lsm make_table manifest put recover scan script shell with_inputs with_looks with_writes
+unfolding clap_on_literals bare bench check clean compact delete dump get help import_folder ingest levels list load lsm make_table manifest put recover repair scan script shell with_inputs with_looks with_writes
 is_simple_here = refl
 
 is_free_here : is_simple_and_free lsm ≡ true
-unfolding clap_on_literals bare bench check clean compact delete dump get help import_folder ingest levels list load lsm make_table manifest put recover scan script shell with_inputs with_looks with_writes
+unfolding clap_on_literals bare bench check clean compact delete dump get help import_folder ingest levels list load lsm make_table manifest put recover repair scan script shell with_inputs with_looks with_writes
 is_free_here = refl
 
 -- what the kinds of a failure say
