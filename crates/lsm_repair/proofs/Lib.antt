@@ -1,0 +1,5 @@
+pub mod ReadLaws
+pub mod MergeLaws
+pub mod MendLaws
+pub mod FreeLaws
+pub mod OnFolder

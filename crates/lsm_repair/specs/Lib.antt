@@ -1,0 +1,8 @@
+-- What public clauses cite, and so what a caller reads
+pub mod LeftOut
+pub mod MendFault
+pub mod Reading
+pub mod Merging
+pub mod Mending
+pub mod FreeNumber
+pub mod Repairing
