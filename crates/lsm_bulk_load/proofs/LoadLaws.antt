@@ -45,7 +45,8 @@ spelled_then form [] ms (w ∷ ws) vs h k = absurd h
 spelled_then form (l ∷ ls) ms [] vs h k = absurd h
 spelled_then form (l ∷ ls) ms (w ∷ ws) vs h k = (h.0, spelled_then form ls ms ws vs h.1 k)
 
-reads_then : (form : LineForm) (old mid new : Option (List ℕ)) (ws vs : List Write) → Reads form old mid ws → Reads form mid new vs → Reads form old new (ws ++ vs)
+reads_then : (form : LineForm) (old mid new : Option (List ℕ)) (ws vs : List Write)
+    → Reads form old mid ws → Reads form mid new vs → Reads form old new (ws ++ vs)
 reads_then form old mid new ws vs r s = record {
   lines = r.lines ++ s.lines;
   taken = takes_then r.lines s.lines old mid new r.taken s.taken;
@@ -76,7 +77,8 @@ pub gathers_then : (old mid : Pending) (left : Option (List ℕ)) (held ws vs : 
     → Gathers old left held (ws ++ vs)
 gathers_then old mid left held ws vs form g h = (
   g.0 ++ h.0,
-  reads_then old.form old.left mid.left left g.0 h.0 g.1 (subst (λ (f : LineForm). Reads f mid.left left h.0) form.0 h.1),
+  reads_then old.form old.left mid.left left g.0 h.0 g.1
+      (subst (λ (f : LineForm). Reads f mid.left left h.0) form.0 h.1),
   sym (append_assoc old.held g.0 h.0) ∙ ap (λ (l : List Write). l ++ h.0) g.2 ∙ append_assoc ws mid.held h.0
       ∙ ap (λ (l : List Write). ws ++ l) h.2 ∙ sym (append_assoc ws vs held),
   λ whole. takes_whole_then old.left mid.left left (g.3 whole) (h.3 (subst IsFalse (sym form.1) whole)),
@@ -187,7 +189,10 @@ not_taken Refused keeps old new r was now Due g k = absurd k
 -- the same lines that were to come, as their parts
 same_pending : (old mid : Pending) → SameForm mid old → mid ≡ record { form = old.form; last = old.last; held = mid.held; left = mid.left }
 same_pending old mid form =
-    ap (λ (f : LineForm). record { form = f; last = mid.last; held = mid.held; left = mid.left }) form.0 ∙ ap (λ (b : Bool). record { form = old.form; last = b; held = mid.held; left = mid.left }) form.1
+    ap (λ (f : LineForm). record { form = f; last = mid.last; held = mid.held; left = mid.left })
+    form.0
+    ∙ ap (λ (b : Bool). record { form = old.form; last = b; held = mid.held; left = mid.left })
+    form.1
 
 kept_next_out : (Refused : Asked → ShelfFault → Type 0) (keeps : Held → Type 0) (old mid : Pending) (found was now : Marked) (p : Progress) (fault : StateFault) → SameForm mid old
     → Loads old mid.left mid.held found was p → IsNotTaken Refused keeps mid was now (Ingest fault) → KeepsNextOut Refused keeps old found now p fault
@@ -225,8 +230,12 @@ ended old mid new found was now p q form l t = (t.ends.0, on old mid new t.ends.
 stops_behind : (old mid new : Pending) (found was now : Marked) (p q : Progress) (fault : WriteLineFault) → SameForm mid old → Loads old mid.left mid.held found was p
     → (t : TakesBatch mid new was now p q (Stopped fault)) → (left : Option (List ℕ)) → Gathers mid left [] t.ws → Stops mid.form mid.last left fault
     → (left : Option (List ℕ)) × Loads old left [] found now q × Stops old.form old.last left fault
-stops_behind old mid new found was now p q fault form l t left g s =
-    (left, on old mid new left [] found was now p q (Stopped fault) form l t g, subst (λ (b : Bool). Stops old.form b left fault) form.1 (subst (λ (f : LineForm). Stops f mid.last left fault) form.0 s))
+stops_behind old mid new found was now p q fault form l t left g s = (
+  left,
+  on old mid new left [] found was now p q (Stopped fault) form l t g,
+  subst (λ (b : Bool). Stops old.form b left fault) form.1
+      (subst (λ (f : LineForm). Stops f mid.last left fault) form.0 s),
+)
 
 pub stopped_behind : (old mid new : Pending) (found was now : Marked) (p q : Progress) (fault : WriteLineFault) → SameForm mid old → Loads old mid.left mid.held found was p
     → TakesBatch mid new was now p q (Stopped fault) → StopsBehind old found now q fault
