@@ -302,9 +302,9 @@ each key once. KEY and VALUE are
 hex, or text with --text, `.` for no bytes: `scan` prints such lines. In text a
 blank is `\\x20`, `=` is `\\x3d`, `!` `\\x21`, `@` `\\x40` and `\\` `\\x5c`, and
 each byte that does not print or is not ASCII is `\\xNN`. Lines in hex are put in
-order by `LC_ALL=C sort -t= -k1,1`. FILE is judged before DIR is opened, but
-behind --recover; the first line of another form is `bad line I`, and a second
-line says where it is wrong.
+order by `LC_ALL=C sort -t= -k1,1`. FILE is judged before DIR is opened to
+write, but behind --recover; the first line of another form is `bad line I`, and
+a second line says where it is wrong.
 
 Limits: 64 MiB of FILE, 65536 lines, 4194304 bytes of keys and values together,
 4096 bytes of a key, 1048576 bytes of a value. Past 64 MiB it is a `read fault`,
