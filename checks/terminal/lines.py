@@ -117,9 +117,9 @@ def a_check_that_is_refused():
         file.write(bytes([was[0] ^ 1]))
     status, out, err = run("check", "db", "--workers", "1")
     want((status, out), (1, b""))
-    last = err.split(CLEAR)[-1]
-    last = last.partition(b"\n")[0]
-    assert last.startswith(b"refused 15 BadChecksum ") and last.endswith(f" in {name}".encode()), err
+    line, meaning = err.split(CLEAR)[-2:]
+    assert line.startswith(b"refused 15 BadChecksum ") and line.endswith(f"in {name}\n".encode()), err
+    assert meaning.startswith(b"the block is damaged: "), err
     with open(f"db/{name}", "r+b") as file:
         file.seek(100)
         file.write(was)
