@@ -1,6 +1,6 @@
 -- What an opening that is refused is told behind the refusal's name: the lines that `lsm` prints of
 -- it behind its first one (docs/PROTOCOL.md, this project's rule).
-use Rattle.std.specs.Prelude.{◌≡◌, ◌≢◌, ℕ, false, List, [], ◌∷◌, ◌++◌, Option, None, Some, IfSome}
+use Rattle.std.specs.Prelude.{◌≡◌, ◌≢◌, ◌<◌, ℕ, false, List, [], ◌∷◌, ◌++◌, Option, None, Some, IfSome}
 use Rattle.lsm_frames.specs.Answers.{IsRefused}
 use Rattle.lsm_verify.specs.declared.check_fault.CheckFault.{CheckFault}
 use Rattle.lsm_directory.specs.DirectoryFault as directory
@@ -66,9 +66,11 @@ meaning_of (Logs fault) = meaning_of_logs fault
 
 -- ---- what is told
 
--- What the system answered. A refusal of another number does not come from that.
+-- What the system answered, or which manifest is refused. A refusal of another number does not
+-- come from the one, and is not of the other.
 abbrev pub IsAnswer : (number : ℕ) → List ℕ → Type 0
-IsAnswer number answer = number ≢ 9 → number ≢ 10 → answer ≡ []
+IsAnswer number answer = (number ≢ 9 → number ≢ 10 → number < 19 → answer ≡ [])
+    × (30 < number → answer ≡ [])
 
 -- The line of the file whose table is refused, what it means, and what the system answered.
 pub record AreLines (e : OpeningFault) (lines : List ℕ) : Type 0 where

@@ -10,7 +10,7 @@ ghost use Rattle.lsm_channels.specs.Telling.{meaning_of_source, meaning_of_table
 
 use crate::opening_fault::OpeningFault;
 use crate::refusing::refuse_by;
-use lsm_directory::{DirectoryFault, Exit};
+use lsm_directory::{DirectoryFault, Exit, check_meaning};
 use lsm_folder::Reasons;
 use lsm_log_files::SourceFault;
 use lsm_opening::WriterFault;
@@ -83,10 +83,9 @@ fn meaning_of_tables(alloc: Global, fault: &CheckFault) -> Result<Vec<u8>, Alloc
     ensures { IfOk result (λ v.
         IfSome (meaning_of_tables fault.now) (λ text. v.items ≡ text)) }
 {
-    match fault {
-        CheckFault::Read(_, fault) => explained(alloc, &DirectoryFault::Read(*fault)),
-        _ => Ok(Vec::new(alloc)),
-    }
+    let mut lines = Vec::new(alloc);
+    lines.extend_from_slice(check_meaning(fault).as_bytes())?;
+    Ok(lines)
 }
 
 /// What a fault of logs means.
@@ -116,18 +115,20 @@ fn meaning_of(alloc: Global, fault: &OpeningFault) -> Result<Vec<u8>, AllocError
 }
 
 /// The line of what the system last answered where it refused a call, if a refusal of this number
-/// may come from that.
+/// may come from that; or that names the manifest, if it is of one.
 fn last_answer(alloc: Global, number: u8, reasons: &Reasons) -> Result<Vec<u8>, AllocError>
     ensures { IfOk result (λ v. IsAnswer number v.items) }
 {
     let mut line = Vec::new(alloc);
-    if number == 9 || number == 10 {
-        return match reasons.write_last(&mut line) {
-            Ok(()) => Ok(line),
-            Err(_) => Err(AllocError),
-        };
+    let written = match number {
+        9 | 10 => reasons.write_last(&mut line),
+        19..=30 => reasons.write_read(&mut line),
+        _ => return Ok(line),
+    };
+    match written {
+        Ok(()) => Ok(line),
+        Err(_) => Err(AllocError),
     }
-    Ok(line)
 }
 
 /// The line of what the system answered, where the refusal may come from that.

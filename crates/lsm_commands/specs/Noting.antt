@@ -12,6 +12,8 @@ use Rattle.lsm_manifest.specs.Shape.{Form}
 use Rattle.lsm_journal.specs.HeldManifest.{HeldManifest}
 use Rattle.lsm_journal.specs.Recovering.{IsRecovered, IsRecoverRefusal}
 use Rattle.lsm_journal.specs.declared.recover_fault.RecoverFault.{RecoverFault}
+use Rattle.lsm_journal.specs.declared.recover_fault.RecoverFault.TheVariants as recover_faults
+use Rattle.lsm_shelf.specs.declared.shelf_fault.ShelfFault.TheVariants as shelf_faults
 use Rattle.lsm_text.specs.Printing.{Begins}
 use Rattle.lsm_directory.specs.Beside.{IsFirstLeftOut, IsWhole, LooksBeside, beside_text}
 use Rattle.lsm_directory.specs.Folders.{IsShelfAt, told_by}
@@ -72,6 +74,10 @@ abbrev pub Counts : Bool → (seen beside : Beside) → Type 0
 Counts true seen beside = beside ≡ seen
 Counts false seen beside = IsButForLogs seen beside
 
+-- there is no manifest that `CURRENT` names: no database
+abbrev pub IsNew : DirectoryFault → Type 0
+IsNew fault = fault ≡ Manifest (recover_faults.Shelf shelf_faults.Missing)
+
 module _ {C M : Type 0} (folders : Ghosts C M) where
   -- The folder at the path was looked at, and a shelf on it gave its manifest, with these numbers
   -- and so many bytes at its end that hold no whole record. This counts of what lies beside the
@@ -108,11 +114,13 @@ module _ {C M : Type 0} (folders : Ghosts C M) where
   IsUnseenAt path fault = (fault ≡ OutOfMemory) ⊎ (IsFolderFault fault ⊎ IsUnreadAt path fault)
 
   -- The folder was seen, and all of it is read where that is asked for. Its notes were written, or
-  -- a beginning of them where a write failed. Where it was not seen, nothing was written.
+  -- a beginning of them where a write failed. Where it was not seen, nothing was written; where all
+  -- is to be read, then only since there is no database.
   abbrev pub IsNotedAt : List ℕ → (logs strict : Bool) → (said_old said_new : Option (List ℕ))
       → Type 0
   IsNotedAt path logs strict said_old said_new =
-      (((fault : DirectoryFault) × IsUnseenAt path fault) × Keeps said_old said_new)
+      (((fault : DirectoryFault) × IsUnseenAt path fault × (IsTrue strict → IsNew fault))
+      × Keeps said_old said_new)
       ⊎ ((m : NamedManifest) × (beside : Beside) × IsSeenAt path logs m beside
       × (IsTrue strict → IsWhole m beside) × Begins said_old said_new (notes m beside))
 
@@ -122,11 +130,12 @@ module _ {C M : Type 0} (folders : Ghosts C M) where
   IsNoted (Some (path, logs)) strict said_old said_new =
       IsNotedAt path logs strict said_old said_new
 
-  -- All of it is to be read, and the folder was seen: this is not.
+  -- All of it is to be read, and the folder was not seen; or it was, and this is not read.
   abbrev pub IsRefusedAt : List ℕ → (logs strict : Bool) → Type 0
   IsRefusedAt path logs strict = IsTrue strict
-      × ((m : NamedManifest) × (beside : Beside) × (fault : DirectoryFault)
-      × IsSeenAt path logs m beside × IsFirstLeftOut m beside fault)
+      × (((fault : DirectoryFault) × IsUnseenAt path fault × (IsNew fault → ⊥))
+      ⊎ ((m : NamedManifest) × (beside : Beside) × (fault : DirectoryFault)
+      × IsSeenAt path logs m beside × IsFirstLeftOut m beside fault))
 
   abbrev pub IsRefused : Option (List ℕ × Bool) → (strict : Bool) → Type 0
   IsRefused None strict = ⊥

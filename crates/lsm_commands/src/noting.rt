@@ -1,15 +1,15 @@
 //! What is noted of a folder that is written, before the command.
 
-ghost use Rattle.std.specs.Prelude.{◌≡◌, ◌≢◌, ◌++◌, IfErr, IfOk, IsTrue, OnErr, OnOk};
+ghost use Rattle.std.specs.Prelude.{◌≡◌, ◌≢◌, ◌↔◌, ◌++◌, IfErr, IfOk, IsTrue, OnErr, OnOk};
 ghost use Rattle.std.specs.Prelude.{option_map};
-ghost use Rattle.std.specs.Io.KnownBytes.{Appends};
+ghost use Rattle.std.specs.Io.KnownBytes.{Appends, Keeps};
 ghost use Rattle.lsm_text.specs.Printing.{Begins};
 ghost use Rattle.lsm_directory.specs.Beside.{IsFirstLeftOut, IsWhole, LooksBeside};
 ghost use Rattle.lsm_directory.specs.Folders.{IsShelfAt};
 ghost use Rattle.lsm_directory.specs.Holding.{IsFolderFault};
 ghost use Rattle.lsm_directory.specs.declared.faults.directory_fault.DirectoryFault.{DirectoryFault};
-ghost use Rattle.lsm_commands.specs.Noting.{Counts, IsNoted, IsNotedAt, IsRefused, IsRefusedAt};
-ghost use Rattle.lsm_commands.specs.Noting.{IsSeenAt, IsUnseenAt, noted_by, noted_by_shell, notes};
+ghost use Rattle.lsm_commands.specs.Noting.{Counts, IsNew, IsNoted, IsNotedAt, IsRefused};
+ghost use Rattle.lsm_commands.specs.Noting.{IsRefusedAt, IsSeenAt, IsUnseenAt, noted_by, noted_by_shell, notes};
 ghost use Rattle.lsm_commands.specs.Noting.{rest_text};
 
 use lsm_admission::recover_manifest;
@@ -19,7 +19,8 @@ use lsm_directory::{
 };
 use lsm_folder::{FolderCalls, Reasons};
 use lsm_grammar::{Request, ShellLine};
-use lsm_journal::{ManifestLimit, Recovered};
+use lsm_journal::{ManifestLimit, RecoverFault, Recovered};
+use lsm_shelf::ShelfFault;
 use lsm_storage::FileShelf;
 use std::alloc::{AllocError, Global};
 use std::io::Write;
@@ -185,6 +186,30 @@ fn note_seen<E: Write>(
     0
 }
 
+/// Whether a folder that was not seen has no database: the manifest that `CURRENT` names is not
+/// there.
+fn is_new(fault: &DirectoryFault) -> bool
+    ensures { IsTrue result ↔ IsNew fault.now }
+{
+    match fault {
+        DirectoryFault::Manifest(RecoverFault::Shelf(ShelfFault::Missing)) => true,
+        _ => false,
+    }
+}
+
+/// Answers the exit status where a folder was not seen: 0, or where it is strict and there is a
+/// database the refusal's.
+fn note_unseen<E: Write>(fault: DirectoryFault, strict: bool, err: &mut E) -> u8
+    ensures left { result ≡ 0 → (IsTrue strict → IsNew fault)
+        × Keeps (E.contents err.old) (E.contents err.new) }
+    ensures refused { result ≢ 0 → (result ≡ 1) × IsTrue strict × (IsNew fault → ⊥) }
+{
+    if strict && !is_new(&fault) {
+        return refuse(fault, err);
+    }
+    0
+}
+
 /// Notes what is not read of the folder at a path, or is refused by that, and answers the exit
 /// status.
 fn note_at<C: FolderCalls + Send + Sync, P: Paths<C>, R: Wait, E: Write>(
@@ -203,11 +228,11 @@ where
         → (result ≡ 1) × IsRefusedAt C.FolderCalls path.now logs strict }
 {
     let Ok(reasons) = Reasons::new(paths.alloc()) else {
-        return 0;
+        return note_unseen(DirectoryFault::OutOfMemory, strict, err);
     };
     match see(rt, paths, path, logs, &reasons) {
         Ok(seen) => note_seen(paths.alloc(), seen.0, &seen.1, strict, err),
-        Err(_) => 0,
+        Err(fault) => note_unseen(fault, strict, err),
     }
 }
 
@@ -218,7 +243,7 @@ where
 /// its lock let go: in between another program may change it.
 ///
 /// Nothing is noted where the folder is not opened, another has its lock, or its manifest is not
-/// read: the command says so itself.
+/// read. Where it is strict that is refused, unless there is no database.
 pub(crate) fn note<C: FolderCalls + Send + Sync, P: Paths<C>, R: Wait, E: Write>(
     rt: &R,
     paths: &P,

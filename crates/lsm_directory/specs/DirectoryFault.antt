@@ -176,7 +176,7 @@ replay_meaning replay_faults.NoLastSequence = damaged
 replay_meaning replay_faults.OtherComparator =
     codes "in the manifest that CURRENT names; lsm manifest prints which comparator it has\n"
 replay_meaning (replay_faults.DoubleFile number) =
-    codes "in the manifest that CURRENT names; open it once more in the program that wrote it\n"
+    codes "in the manifest that CURRENT names; open it in LevelDB once more, without a write\n"
 
 abbrev pub recover_meaning : RecoverFault → List ℕ
 recover_meaning (recover_faults.Shelf fault) = shelf_meaning fault

@@ -18,6 +18,7 @@ mod faults;
 mod telling;
 
 pub use faults::directory_fault::DirectoryFault;
+pub use faults::meanings::check_meaning;
 pub use folder::beside::{Beside, look_beside};
 pub use folder::file_kind::FileKind;
 pub use folder::folder_file::FolderFile;

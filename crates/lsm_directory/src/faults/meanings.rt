@@ -64,7 +64,7 @@ fn of_replay(fault: ReplayFault) -> &'static str
             "in the manifest that CURRENT names; lsm manifest prints which comparator it has\n"
         }
         ReplayFault::DoubleFile(_) => {
-            "in the manifest that CURRENT names; open it once more in the program that wrote it\n"
+            "in the manifest that CURRENT names; open it in LevelDB once more, without a write\n"
         }
         ReplayFault::NoNextFile | ReplayFault::NoLogNumber | ReplayFault::NoLastSequence => {
             damaged()
@@ -109,8 +109,8 @@ fn of_read(fault: ReadFault) -> &'static str
     }
 }
 
-/// Of tables that are no version.
-fn of_tables(fault: &CheckFault) -> &'static str
+/// What it means that tables are no version: lines, or nothing.
+pub fn check_meaning(fault: &CheckFault) -> &'static str
     ensures { result.now ≡ check_meaning fault.now }
 {
     match fault {
@@ -134,7 +134,7 @@ pub(crate) fn meaning_of(fault: &DirectoryFault) -> &'static str
 {
     match fault {
         DirectoryFault::Manifest(fault) => of_manifest(*fault),
-        DirectoryFault::Tables(fault) => of_tables(fault),
+        DirectoryFault::Tables(fault) => check_meaning(fault),
         DirectoryFault::Read(fault) => of_read(*fault),
         DirectoryFault::Locked => "another program has the folder open\n",
         DirectoryFault::UnflushedLog(_) => {
