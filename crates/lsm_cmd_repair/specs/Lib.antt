@@ -1,0 +1,2 @@
+-- What public clauses cite, and so what a caller reads
+pub mod Repaired
