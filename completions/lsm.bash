@@ -3,7 +3,7 @@ _lsm() {
   local current=${COMP_WORDS[COMP_CWORD]} command= options= places= place=0 index word kind
   COMPREPLY=()
   if ((COMP_CWORD == 1)); then
-    COMPREPLY=($(compgen -W 'mktable dump manifest script check list levels get scan ingest put delete load import recover compact clean shell bench help --help --version' -- "$current"))
+    COMPREPLY=($(compgen -W 'mktable dump manifest script check list levels get scan ingest put delete load import recover repair compact clean shell bench help --help --version' -- "$current"))
     return
   fi
   command=${COMP_WORDS[1]}
@@ -17,15 +17,16 @@ _lsm() {
     levels) options='--text --files --svg --strict --help' places='DIR' ;;
     get) options='--text --raw --exists --quick --strict --compare --wait --help' places='DIR KEY' ;;
     scan) options='--from --to --prefix --limit --text --keys --json --count --quick --strict --compare --progress --wait --help' places='DIR' ;;
-    ingest) options='--text --begin --beside-log --recover --compare --wait --help' places='DIR FILE' ;;
-    put) options='--text --begin --beside-log --recover --compare --wait --help' places='DIR KEY VALUE' ;;
-    delete) options='--text --begin --beside-log --recover --compare --wait --help' places='DIR KEY' ;;
-    load) options='--text --begin --beside-log --recover --workers --from-line --last-line --compare --progress --wait --help' places='DIR FILE' ;;
+    ingest) options='--text --begin --beside-log --recover --strict --compare --wait --help' places='DIR FILE' ;;
+    put) options='--text --begin --beside-log --recover --strict --compare --wait --help' places='DIR KEY VALUE' ;;
+    delete) options='--text --begin --beside-log --recover --strict --compare --wait --help' places='DIR KEY' ;;
+    load) options='--text --begin --beside-log --recover --workers --from-line --last-line --json --strict --compare --progress --wait --help' places='DIR FILE' ;;
     import) options='--compare --help' places='SRC DST' ;;
-    recover) options='--compare --wait --help' places='DIR' ;;
-    compact) options='--all --from --to --text --workers --accept-rest --compare --progress --wait --help' places='DIR' ;;
-    clean) options='--accept-rest --wait --help' places='DIR' ;;
-    shell) options='--text --begin --beside-log --recover --workers --bail --compare --wait --help' places='DIR' ;;
+    recover) options='--strict --compare --wait --help' places='DIR' ;;
+    repair) options='--compare --wait --help' places='DIR' ;;
+    compact) options='--all --from --to --text --workers --accept-rest --strict --compare --progress --wait --help' places='DIR' ;;
+    clean) options='--accept-rest --strict --wait --help' places='DIR' ;;
+    shell) options='--text --begin --beside-log --recover --workers --bail --read-only --strict --compare --wait --help' places='DIR' ;;
     bench) options='--benchmarks --num --value-size --workers --help' places='DIR' ;;
     help) options='--help' places='COMMAND' ;;
     *) return ;;
@@ -54,7 +55,7 @@ _lsm() {
   case $kind in
     DIR | SRC | DST) compopt -o filenames 2> /dev/null; mapfile -t COMPREPLY < <(compgen -d -- "$current") ;;
     FILE) compopt -o filenames 2> /dev/null; mapfile -t COMPREPLY < <(compgen -f -- "$current") ;;
-    COMMAND) COMPREPLY=($(compgen -W 'mktable dump manifest script check list levels get scan ingest put delete load import recover compact clean shell bench help' -- "$current")) ;;
+    COMMAND) COMPREPLY=($(compgen -W 'mktable dump manifest script check list levels get scan ingest put delete load import recover repair compact clean shell bench help' -- "$current")) ;;
     *) COMPREPLY=($(compgen -W "$options" -- "$current")) ;;
   esac
 }
