@@ -1,5 +1,5 @@
 -- What is noted of a folder: notes that were written, or of which a beginning was; and why none is.
-use Rattle.std.proofs.Common.{◌≡◌, ◌≢◌, ⊥, ℕ, Bool, List, [], Option, OnErr, OnOk, append-nil}
+use Rattle.std.proofs.Common.{◌≡◌, ◌≢◌, ℕ, Bool, List, [], Option, OnErr, OnOk, append-nil}
 use Rattle.std.proofs.Common.{inl, inr, refl, sym}
 use Rattle.std.specs.Prelude.{Result, Ok, Err, IsTrue}
 use Rattle.std.specs.Io.KnownBytes.{Appends, Keeps}

@@ -31,10 +31,10 @@ returns-in-Ok-see-clause-refused g c =
 pub returns-clause-done : goal.returns-clause-done
 returns-clause-done g c =
     unseen_at g.C.FolderCalls c.args.path.now c.args.logs c.args.strict c.in-Err.fault
-    c.in-Err.ensures.unseen c.note_unseen-2.result (g.E.Write.contents c.args.err.now)
-    (g.E.Write.contents c.note_unseen-2.new.err) c.note_unseen-2.ensures.left
+    c.in-Err.ensures.unseen c.note_unseen-in-Err.result (g.E.Write.contents c.args.err.now)
+    (g.E.Write.contents c.note_unseen-in-Err.new.err) c.note_unseen-in-Err.ensures.left
 
 pub returns-clause-refused : goal.returns-clause-refused
 returns-clause-refused g c =
     unseen_stops g.C.FolderCalls c.args.path.now c.args.logs c.args.strict c.in-Err.fault
-    c.in-Err.ensures.unseen c.note_unseen-2.result c.note_unseen-2.ensures.refused
+    c.in-Err.ensures.unseen c.note_unseen-in-Err.result c.note_unseen-in-Err.ensures.refused
