@@ -7,7 +7,7 @@ pub struct Manner {
     pub recovers: bool,
     /// What is read of tables is compared with what was read before.
     pub compares: bool,
-    /// What would be noted of the folder before it is refused.
+    /// What would be noted of the folder is refused.
     pub strict: bool,
     /// So many seconds at most are waited for a lock that another program holds.
     pub waits: Option<u64>,
