@@ -45,18 +45,18 @@ def test_damaged_table(folder, at):
     assert type(error) is tiswenor.CorruptionError
     assert error.path == str(folder)
     assert error.number in errors.DAMAGES
-    assert str(error) == f"{error.number} {error.name}: {folder}: in {name}"
+    assert str(error).startswith(f"{error.number} {error.name}: {folder}: in {name}")
     assert (error.call, error.file, error.reason) == (None, name, None)
 
 
 def test_damaged_manifest(folder):
     filled(folder)
-    change(folder, "MANIFEST", 30)
+    name = change(folder, "MANIFEST", 30)
     error = raised(tiswenor.DB, folder)
     assert type(error) is tiswenor.CorruptionError
     where = "in the manifest that CURRENT names; LevelDB's RepairDB makes a new one"
-    assert str(error) == f"{error.number} {error.name}: {folder}: {where}"
-    assert (error.call, error.file, error.reason) == (None, None, None)
+    assert str(error) == f"{error.number} {error.name}: {folder}: {where}; in {folder}/{name}"
+    assert (error.call, error.file, error.reason) == (None, name, None)
 
 
 def test_lost_table(folder):

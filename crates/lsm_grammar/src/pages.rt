@@ -508,10 +508,13 @@ one has; and for each table that is not whole, as in
 `left out 000005.ldb: refused 15 BadChecksum`, why it is not.
 
 Each file stays but CURRENT: the old tables, the old manifest, and the logs
-(`N.log`), each of which is then one to read: `lsm recover DIR` brings them in. A
-key that was deleted is back where the table with its deletion is left out, or
-where a table is there that the database had given up. What is read is held in
-memory. Where `lsm check DIR` finds no fault there is nothing to repair.
+(`N.log`), each of which is then one to read: `lsm recover DIR` brings them in as
+the newest writes, so first move those away that came in before. A key that was
+deleted is back where the table with its deletion is left out, or where a table
+is there that the database had given up. Later openings and `lsm clean` remove
+the old tables: copy DIR first. `N.sst` is not read. Keys are in bytewise order.
+What is read is held in memory. Where `lsm check DIR` finds no fault there is
+nothing to repair.
 
 It is `refused 64 NothingWhole` where no whole table has an entry, and `refused
 65 TwoValues N M` where these two have two values of one key and sequence.
@@ -519,7 +522,7 @@ Another program that has DIR open is `refused 52 Locked`.
 
 Exit status: 0 done, 1 refused, 2 bad command line. After a `write fault` it is
 done; after `refused 9 Device` it may be.",
-    example: "Example: lsm repair db && lsm recover db",
+    example: "Example: cp -r db kept && lsm repair db",
 };
 
 const COMPACT: Page = Page {

@@ -69,7 +69,7 @@ CALLS = ("append", "list", "lock", "make", "open", "read", "remove", "rename", "
 NUMBERED = re.compile(r" \(os error (\d+)\)$")
 
 # A line that names a file whose bytes are refused.
-IN_FILE = re.compile(r"^in (\d+\.(?:ldb|log))$", re.MULTILINE)
+IN_FILE = re.compile(r"^in (?:.*/)?(\d+\.(?:ldb|log)|MANIFEST-\d+)$", re.MULTILINE)
 
 
 class Error(Exception):
@@ -180,7 +180,7 @@ def refused(number: int, name: str, path: Optional[str], told: str = "") -> Refu
     server told of it stands in the place of what the number means."""
     kind = IOError if number in FAULTS else CorruptionError if number in DAMAGES else Refused
     reason = DAMAGED if number in DAMAGES else REASONS.get(number, "")
-    return kind(number, name, _at(path, "; ".join(told.splitlines()) or reason), path, told)
+    return kind(number, name, _at(path, told.rstrip("\n").replace("\n", "; ") or reason), path, told)
 
 
 def _cause(path: Optional[str], told: str) -> Tuple[Optional[str], Optional[str], Optional[str]]:
