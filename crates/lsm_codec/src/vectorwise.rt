@@ -4,9 +4,8 @@
 //! in tables of 16 bytes: a pair of them for each of the four, one for the lower half of the byte,
 //! one for the upper. A vector reads such a table at all its bytes at once.
 
-ghost use Rattle.std.specs.Prelude.{◌≡◌, ◌∷◌, [], ◌++◌, ◌≤◌, ◌<◌, ◌/◌, ◌%◌, ℕ, List, length, map};
-ghost use Rattle.std.specs.Prelude.{bit_xor, slice_index, take, drop};
-ghost use Rattle.lsm_codec.specs.Crc.{register_after, crc_of, crc_after};
+ghost use Rattle.std.specs.Prelude.{◌≡◌, ◌<◌, ◌/◌, ◌%◌, ℕ, length, map, slice_index};
+ghost use Rattle.lsm_codec.specs.Crc.{register_after};
 ghost use Rattle.lsm_codec.specs.Turns.{turns};
 ghost use Rattle.lsm_codec.specs.Words.{after_parts, after_vectors, spread};
 

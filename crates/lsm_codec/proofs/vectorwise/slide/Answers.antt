@@ -1,5 +1,4 @@
 use Rattle.std.proofs.Common.{◌∙◌, arith}
-use Rattle.lsm_codec.specs.Words.{after_vectors}
 use Rattle.lsm_codec.proofs.LaneLaws.{lane_fits}
 use Rattle.lsm_codec.proofs.VectorLaws.{in_parts, slid, tables_spread}
 use Rattle.lsm_codec.proofs.vectorwise.slide.Goals as goal

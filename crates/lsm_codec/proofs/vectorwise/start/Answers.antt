@@ -1,4 +1,4 @@
-use Rattle.std.proofs.Common.{◌≡◌, length, take, drop, sym, ap, ◌∙◌, arith}
+use Rattle.std.proofs.Common.{◌∙◌, arith}
 use Rattle.lsm_codec.proofs.VectorLaws.{in_parts, started}
 use Rattle.lsm_codec.proofs.vectorwise.start.Goals as goal
 
