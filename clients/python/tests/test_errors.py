@@ -4,6 +4,7 @@ import errno
 import mmap
 import os
 import pickle
+import shutil
 
 import pytest
 
@@ -110,6 +111,30 @@ def test_lock_that_is_no_file(folder):
     assert (error.call, error.file) == ("lock", str(folder / "LOCK"))
     assert error.errno is None
     assert str(error) == f"9 Device: {folder}: lock {folder}/LOCK: not a regular file"
+
+
+def test_calls_that_fail_behind_the_opening(folder, db):
+    """A table that is gone, as it is read and compacted; and a folder that is."""
+    db.put(b"a", b"1")
+    lost = next(path for path in folder.iterdir() if path.suffix == ".ldb")
+    lost.unlink()
+    gone = "No such file or directory (os error 2)"
+    for call, kind, name in (
+        (lambda: db.get(b"a"), tiswenor.CorruptionError, "Missing"),
+        (db.compact_range, tiswenor.IOError, "ReadFailed"),
+    ):
+        error = raised(call)
+        assert (type(error), error.name) == (kind, name)
+        assert (error.call, error.file, error.reason) == ("read", str(lost), gone)
+    shutil.rmtree(folder)
+    error = raised(db.put, b"a", b"2")
+    assert (type(error), error.name, error.call, error.reason) == (
+        tiswenor.IOError,
+        "Device",
+        "make",
+        gone,
+    )
+    assert error.errno == errno.ENOENT
 
 
 def test_name_alone():

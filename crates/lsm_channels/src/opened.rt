@@ -10,6 +10,7 @@ ghost use Rattle.lsm_store.specs.Readers.{SeatsPinners};
 
 use crate::knowing::remember;
 use crate::session::Session;
+use lsm_folder::Reasons;
 use lsm_reader::Cached;
 use lsm_slots::Boarded;
 use lsm_state::{Options, State};
@@ -41,6 +42,7 @@ fn man_one<N: Boarded, S: Shelf, K: Invariant, R: Wait>(
     store: &Store<N, S, K>,
     reader: Reader<N, S>,
     shelf: &mut NamedShelf<N, S>,
+    reasons: Option<&Reasons>,
 ) -> Result<Session<N, S>, ShelfFault>
     requires looks { IsKeptByLooks K.keeps }
     ensures fresh { IfOk result (λ s. IsFresh K.keeps s) }
@@ -52,7 +54,7 @@ fn man_one<N: Boarded, S: Shelf, K: Invariant, R: Wait>(
     let own = shelf.fork(alloc)?;
     let reading = shelf.fork(alloc)?;
     let blocks = blocks_over(alloc, reading)?;
-    Ok(Session::new(alloc, reader, blocks, own, remember(rt, store)))
+    Ok(Session::new(alloc, reader, blocks, own, remember(rt, store)).with_reasons(reasons))
 }
 
 /// A session for each reader, by two forks of the shelf for each. Each knows what had come in by
@@ -63,6 +65,7 @@ fn man<N: Boarded, S: Shelf, K: Invariant, R: Wait>(
     store: &Store<N, S, K>,
     readers: Vec<Reader<N, S>>,
     shelf: &mut NamedShelf<N, S>,
+    reasons: Option<&Reasons>,
 ) -> Result<Vec<Session<N, S>>, ShelfFault>
     requires looks { IsKeptByLooks K.keeps }
     ensures fresh { IfOk result (λ v. All (IsFresh K.keeps) v.items) }
@@ -74,7 +77,7 @@ fn man<N: Boarded, S: Shelf, K: Invariant, R: Wait>(
 {
     let mut sessions = Vec::new(alloc);
     for reader in readers {
-        let session = man_one(rt, alloc, store, reader, shelf)?;
+        let session = man_one(rt, alloc, store, reader, shelf, reasons)?;
         sessions.push(session)?;
     }
     Ok(sessions)
@@ -94,6 +97,7 @@ fn open_store<N: Boarded, S: Shelf, K: Invariant, R: Wait>(
     alloc: Global,
     state: State<N, S>,
     shelf: &mut NamedShelf<N, S>,
+    reasons: Option<&Reasons>,
 ) -> Result<(Store<N, S, K>, Vec<Session<N, S>>), ShelfFault>
     requires seats { SeatsPinners state }
     requires kept { (h : Held) → IsSeated state h → K.keeps h }
@@ -108,7 +112,7 @@ fn open_store<N: Boarded, S: Shelf, K: Invariant, R: Wait>(
     let reading = shelf.fork(alloc)?;
     match Store::new(alloc, state, reading) {
         Ok((store, readers)) => {
-            let sessions = man(rt, alloc, &store, readers, shelf)?;
+            let sessions = man(rt, alloc, &store, readers, shelf, reasons)?;
             Ok((store, sessions))
         }
         Err((_state, _shelf, fault)) => Err(fault),
@@ -123,6 +127,7 @@ pub(crate) fn open_state<N: Boarded, S: Shelf, K: Invariant, R: Wait>(
     state: State<N, S>,
     shelf: &mut NamedShelf<N, S>,
     workers: usize,
+    reasons: Option<&Reasons>,
 ) -> Result<Opened<N, S, K>, ShelfFault>
     requires seats { SeatsPinners state }
     requires kept { (h : Held) → IsSeated state h → K.keeps h }
@@ -137,7 +142,7 @@ pub(crate) fn open_state<N: Boarded, S: Shelf, K: Invariant, R: Wait>(
     ensures forked { Forked shelf.old shelf.new }
     ensures cause { IfErr result NotNamed }
 {
-    let (store, sessions) = open_store(rt, alloc, state, shelf)?;
+    let (store, sessions) = open_store(rt, alloc, state, shelf, reasons)?;
     let shelves = forks(alloc, shelf, workers)?;
     Ok(Opened {
         store,

@@ -121,12 +121,12 @@ impl OpeningFault {
         }
     }
 
-    /// Whether it may come from what the system answered. Where `CURRENT` was lost it does not.
-    pub(crate) fn is_answered(&self) -> bool {
+    /// Its number, where it may come from what the system answered: not where `CURRENT` was lost.
+    pub(crate) fn cause(&self) -> Option<u64> {
         match self {
-            OpeningFault::Folder(fault) => fault.refusal().is_some(),
-            OpeningFault::Logs(fault) => fault.refusal().is_some(),
-            OpeningFault::BadOpening | OpeningFault::NoDatabase | OpeningFault::IsThere => false,
+            OpeningFault::Folder(fault) => fault.refusal(),
+            OpeningFault::Logs(fault) => fault.refusal(),
+            OpeningFault::BadOpening | OpeningFault::NoDatabase | OpeningFault::IsThere => None,
         }
     }
 }

@@ -22,9 +22,10 @@ use crate::channel_thread::{Serves, Thread};
 use crate::opened::{Opened, open_state};
 use crate::parts::options_for;
 use crate::plan::Plan;
-use crate::refusing::refuse;
+use crate::refusing::refuse_alone;
 use crate::session::Session;
 use crate::unserved::Unserved;
+use lsm_folder::Reasons;
 use lsm_frames::nothing;
 use lsm_opening::{NewParts, Prepared, WriterFault, start_with};
 use lsm_slots::Boarded;
@@ -153,7 +154,7 @@ fn say_open<W: Wire>(alloc: Global, wire: &mut W, are_served: bool) -> bool
     if are_served {
         return say(wire, &nothing(alloc));
     }
-    let _is_said = say(wire, &refuse(alloc, StateFault::OutOfMemory));
+    let _is_said = say(wire, &refuse_alone(alloc, StateFault::OutOfMemory));
     false
 }
 
@@ -422,6 +423,7 @@ fn serve_state<N: Boarded, S: Shelf, K: Invariant, W: Wire + Send, R: Threads + 
     state: State<N, S>,
     shelf: &mut NamedShelf<N, S>,
     workers: usize,
+    reasons: Option<&Reasons>,
     wires: Vec<W>,
 ) -> Result<Vec<Option<W>>, Unserved<W, WriterFault>>
     requires seats { SeatsPinners state }
@@ -438,7 +440,7 @@ fn serve_state<N: Boarded, S: Shelf, K: Invariant, W: Wire + Send, R: Threads + 
     ensures back { IfErr result (λ u.
         AreHandedBack OutOfMemory wires.items u.wires.items u.fault) }
 {
-    match open_state::<N, S, K, R>(rt, alloc, state, shelf, workers) {
+    match open_state::<N, S, K, R>(rt, alloc, state, shelf, workers, reasons) {
         Ok(opened) => match serve_opened(rt, alloc, opened, wires) {
             Ok(wires) => Ok(wires),
             Err(unserved) => Err(unserved),
@@ -459,6 +461,7 @@ fn serve_named<N: Boarded, S: Shelf, W: Wire + Send, R: Threads + Wait + Sync>(
     prepared: &Prepared,
     plan: Plan,
     parts: NewParts<S>,
+    reasons: Option<&Reasons>,
     wires: Vec<W>,
 ) -> Result<Vec<Option<W>>, Unserved<W, WriterFault>>
     requires parts { AreOf parts.options N.registry N.board N.history parts }
@@ -476,7 +479,8 @@ fn serve_named<N: Boarded, S: Shelf, W: Wire + Send, R: Threads + Wait + Sync>(
         Ok(state) => state,
         Err(fault) => return Err(Unserved { fault, wires }),
     };
-    match serve_state::<N, S, Brand, W, R>(rt, alloc, state, shelf, plan.workers, wires) {
+    let workers = plan.workers;
+    match serve_state::<N, S, Brand, W, R>(rt, alloc, state, shelf, workers, reasons, wires) {
         Ok(wires) => Ok(wires),
         Err(unserved) => Err(unserved),
     }
@@ -490,6 +494,7 @@ fn serve_as<N: Boarded, S: Shelf, W: Wire + Send, R: Threads + Wait + Sync>(
     prepared: &Prepared,
     plan: Plan,
     parts: NewParts<S>,
+    reasons: Option<&Reasons>,
     wires: Vec<W>,
 ) -> (Result<Vec<Option<W>>, Unserved<W, WriterFault>>, S)
     requires parts { AreOf parts.options N.registry N.board N.history parts }
@@ -505,7 +510,7 @@ fn serve_as<N: Boarded, S: Shelf, W: Wire + Send, R: Threads + Wait + Sync>(
         AreHandedBack OutOfMemory wires.items u.wires.items u.fault) }
 {
     let mut shelf: NamedShelf<N, S> = NamedShelf::of(shelf);
-    let done = serve_named(rt, alloc, &mut shelf, prepared, plan, parts, wires);
+    let done = serve_named(rt, alloc, &mut shelf, prepared, plan, parts, reasons, wires);
     (done, shelf.into_shelf())
 }
 
@@ -518,6 +523,7 @@ pub(crate) fn serve_on<S: Shelf, W: Wire + Send, R: Threads + Wait + Sync>(
     shelf: S,
     prepared: &Prepared,
     plan: Plan,
+    reasons: Option<&Reasons>,
     wires: Vec<W>,
 ) -> (Result<Vec<Option<W>>, Unserved<W, WriterFault>>, S)
     requires some { 1 ≤ plan.channels }
@@ -535,7 +541,9 @@ pub(crate) fn serve_on<S: Shelf, W: Wire + Send, R: Threads + Wait + Sync>(
         AreHandedBack OutOfMemory wires.items u.wires.items u.fault) }
 {
     match NewParts::with(alloc, options_for(plan.channels)) {
-        Ok(parts) => serve_as::<Brand, S, W, R>(rt, alloc, shelf, prepared, plan, parts, wires),
+        Ok(parts) => {
+            serve_as::<Brand, S, W, R>(rt, alloc, shelf, prepared, plan, parts, reasons, wires)
+        }
         Err(_) => (
             Err(Unserved {
                 fault: WriterFault::OutOfMemory,

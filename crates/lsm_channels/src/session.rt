@@ -16,12 +16,14 @@ use crate::collecting::collect;
 use crate::compacting::{compact, compact_range};
 use crate::knowing::note;
 use crate::reading::read;
-use crate::refusing::refuse;
+use crate::refusing::refuse_alone;
 use crate::saying::{say_collected, say_compacted, say_released, say_taken, say_written};
 use crate::scanning::scan;
 use crate::snapshots::{release, take};
 use crate::statistics::{list, sizes_of};
+use crate::telling::refuse;
 use crate::writing::write;
+use lsm_folder::Reasons;
 use lsm_frames::{Bounds, Keys, Range, Request, When, Writes, told};
 use lsm_history::Memory;
 use lsm_reader::Cached;
@@ -55,21 +57,30 @@ fn answer_statistics<N: Boarded, S: Shelf, K: Invariant, R: Wait>(
             Ok(answer)
         }
         Err(_) => {
-            let answer = refuse(alloc, StateFault::OutOfMemory)?;
+            let answer = refuse_alone(alloc, StateFault::OutOfMemory)?;
             Ok(answer)
         }
     }
 }
 
+/// Another value for the same reasons; none without memory.
+fn again(reasons: Option<&Reasons>) -> Option<Reasons> {
+    match reasons {
+        Some(reasons) => reasons.again().ok(),
+        None => None,
+    }
+}
+
 /// What a channel is served with: a reader, which holds no pin between two requests, and a shelf;
-/// all that it knows to have come in, to be recalled; and the snapshots that it took, each a number
-/// and a sequence.
+/// all that it knows to have come in, to be recalled; the snapshots that it took, each a number and
+/// a sequence; and what the system answered where it refused a call of the folder, for people.
 #[derive(Drop)]
 pub struct Session<N: Boarded, S: Shelf> {
     reader: ChannelReader<N, S>,
     shelf: NamedShelf<N, S>,
     memory: Memory<N>,
     taken: Vec<(u64, u64)>,
+    reasons: Option<Reasons>,
 }
 
 impl<N: Boarded, S: Shelf> Model for Session<N, S> {
@@ -105,6 +116,28 @@ impl<N: Boarded, S: Shelf> Session<N, S> {
             shelf,
             memory,
             taken: Vec::new(alloc),
+            reasons: None,
+        }
+    }
+
+    /// The same, whose refusals tell of what these reasons hold. Without memory they do not.
+    pub(crate) fn with_reasons(self, reasons: Option<&Reasons>) -> Session<N, S>
+        ensures { result ≡ self }
+    {
+        let Session {
+            reader,
+            shelf,
+            memory,
+            taken,
+            reasons: _,
+        } = self;
+        let reasons = again(reasons);
+        Session {
+            reader,
+            shelf,
+            memory,
+            taken,
+            reasons,
         }
     }
 
@@ -148,7 +181,7 @@ impl<N: Boarded, S: Shelf> Session<N, S> {
             &mut self.shelf,
             writes,
         );
-        let answer = say_written(alloc, done)?;
+        let answer = say_written(alloc, done, self.reasons.as_ref())?;
         Ok(answer)
     }
 
@@ -176,7 +209,7 @@ impl<N: Boarded, S: Shelf> Session<N, S> {
             &mut self.memory,
             &mut self.shelf,
         );
-        let answer = say_compacted(alloc, done)?;
+        let answer = say_compacted(alloc, done, self.reasons.as_ref())?;
         Ok(answer)
     }
 
@@ -207,7 +240,7 @@ impl<N: Boarded, S: Shelf> Session<N, S> {
             &mut self.shelf,
             bounds,
         );
-        let answer = say_compacted(alloc, done)?;
+        let answer = say_compacted(alloc, done, self.reasons.as_ref())?;
         Ok(answer)
     }
 
@@ -227,7 +260,7 @@ impl<N: Boarded, S: Shelf> Session<N, S> {
         ensures kept { IsKnown K.keeps self.old.known → IsKnown K.keeps self.new.known }
     {
         let done = collect(rt, alloc, store, &mut self.memory, &mut self.shelf);
-        let answer = say_collected(alloc, done)?;
+        let answer = say_collected(alloc, done, self.reasons.as_ref())?;
         Ok(answer)
     }
 
@@ -247,7 +280,7 @@ impl<N: Boarded, S: Shelf> Session<N, S> {
         ensures kept { IsKnown K.keeps self.old.known → IsKnown K.keeps self.new.known }
     {
         let done = take(rt, store, &mut self.memory, &mut self.taken);
-        let answer = say_taken(alloc, done)?;
+        let answer = say_taken(alloc, done, self.reasons.as_ref())?;
         Ok(answer)
     }
 
@@ -269,7 +302,7 @@ impl<N: Boarded, S: Shelf> Session<N, S> {
         ensures kept { IsKnown K.keeps self.old.known → IsKnown K.keeps self.new.known }
     {
         let done = release(rt, store, &mut self.memory, &mut self.taken, number);
-        let answer = say_released(alloc, done)?;
+        let answer = say_released(alloc, done, self.reasons.as_ref())?;
         Ok(answer)
     }
 
@@ -314,6 +347,7 @@ impl<N: Boarded, S: Shelf> Session<N, S> {
             shelf,
             mut memory,
             taken,
+            reasons,
         } = self;
         let (reader, done) = read(rt, alloc, store, reader, &mut memory, &taken, when, keys);
         match done {
@@ -323,16 +357,18 @@ impl<N: Boarded, S: Shelf> Session<N, S> {
                     shelf,
                     memory,
                     taken,
+                    reasons,
                 },
                 Ok(answer),
             ),
-            Err(fault) => match refuse(alloc, fault) {
+            Err(fault) => match refuse(alloc, fault, reasons.as_ref()) {
                 Ok(answer) => (
                     Session {
                         reader,
                         shelf,
                         memory,
                         taken,
+                        reasons,
                     },
                     Ok(answer),
                 ),
@@ -342,6 +378,7 @@ impl<N: Boarded, S: Shelf> Session<N, S> {
                         shelf,
                         memory,
                         taken,
+                        reasons,
                     },
                     Err(error),
                 ),
@@ -371,6 +408,7 @@ impl<N: Boarded, S: Shelf> Session<N, S> {
             shelf,
             mut memory,
             taken,
+            reasons,
         } = self;
         let (reader, done) = scan(rt, alloc, store, reader, &mut memory, &taken, range);
         match done {
@@ -380,16 +418,18 @@ impl<N: Boarded, S: Shelf> Session<N, S> {
                     shelf,
                     memory,
                     taken,
+                    reasons,
                 },
                 Ok(answer),
             ),
-            Err(fault) => match refuse(alloc, fault) {
+            Err(fault) => match refuse(alloc, fault, reasons.as_ref()) {
                 Ok(answer) => (
                     Session {
                         reader,
                         shelf,
                         memory,
                         taken,
+                        reasons,
                     },
                     Ok(answer),
                 ),
@@ -399,6 +439,7 @@ impl<N: Boarded, S: Shelf> Session<N, S> {
                         shelf,
                         memory,
                         taken,
+                        reasons,
                     },
                     Err(error),
                 ),

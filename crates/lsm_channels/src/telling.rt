@@ -1,10 +1,12 @@
-//! What an opening that is refused is told behind the refusal's name.
+//! What is told behind the name of a refusal.
 
 ghost use Rattle.std.specs.Prelude.{◌≡◌, ◌++◌, false, IfOk, IfSome, string_bytes};
 ghost use Rattle.lsm_directory.specs.Telling.{file_behind, file_line};
 ghost use Rattle.lsm_storage.specs.FileNames.{table_name};
-ghost use Rattle.lsm_channels.specs.OpeningFault.{number_of};
-ghost use Rattle.lsm_channels.specs.Telling.{AreLines, IsAnswer, IsRefusalFrame, IsTold, behind};
+ghost use Rattle.lsm_frames.specs.Answers.{IsRefused};
+ghost use Rattle.lsm_channels.specs.Answered.{answer_frame};
+ghost use Rattle.lsm_channels.specs.Telling.{IsAnswer, IsOpeningRefused, IsStateRefused};
+ghost use Rattle.lsm_channels.specs.Telling.{IsWorkerRefused, behind};
 ghost use Rattle.lsm_channels.specs.Telling.{meaning_of, meaning_of_folder, meaning_of_logs};
 ghost use Rattle.lsm_channels.specs.Telling.{meaning_of_source, meaning_of_tables};
 
@@ -13,8 +15,10 @@ use crate::refusing::refuse_by;
 use lsm_directory::{DirectoryFault, Exit};
 use lsm_folder::Reasons;
 use lsm_log_files::SourceFault;
-use lsm_opening::WriterFault;
+use lsm_opening::{CompactFault, WriterFault};
 use lsm_recovery::BringFault;
+use lsm_state::StateFault;
+use lsm_store::WorkerFault;
 use lsm_verify::CheckFault;
 use std::alloc::{AllocError, Global};
 
@@ -121,7 +125,7 @@ fn last_answer(alloc: Global, number: u8, reasons: &Reasons) -> Result<Vec<u8>, 
     ensures { IfOk result (λ v. IsAnswer number v.items) }
 {
     let mut line = Vec::new(alloc);
-    if number == 9 || number == 10 {
+    if number == 9 || number == 10 || number == 35 || number == 36 {
         return match reasons.write_last(&mut line) {
             Ok(()) => Ok(line),
             Err(_) => Err(AllocError),
@@ -130,17 +134,18 @@ fn last_answer(alloc: Global, number: u8, reasons: &Reasons) -> Result<Vec<u8>, 
     Ok(line)
 }
 
-/// The line of what the system answered, where the refusal may come from that.
+/// The line of what the system answered, where a refusal of this number comes from that: its cause,
+/// or itself, is one of 9 or 10.
 fn answer_to(
     alloc: Global,
-    fault: &OpeningFault,
+    number: u8,
+    cause: Option<u64>,
     reasons: Option<&Reasons>,
 ) -> Result<Vec<u8>, AllocError>
-    ensures { IfOk result (λ v. IsAnswer (number_of fault.now) v.items) }
+    ensures { IfOk result (λ v. IsAnswer number v.items) }
 {
-    let (number, _name) = fault.refusal();
     match reasons {
-        Some(reasons) if fault.is_answered() => last_answer(alloc, number, reasons),
+        Some(reasons) if matches!(cause, Some(9 | 10)) => last_answer(alloc, number, reasons),
         _ => Ok(Vec::new(alloc)),
     }
 }
@@ -153,21 +158,6 @@ fn joined(file: String, meaning: Vec<u8>, answer: Vec<u8>) -> Result<Vec<u8>, Al
     let mut lines = file.into_bytes();
     lines.extend_from_slice(meaning.as_slice())?;
     lines.extend_from_slice(answer.as_slice())?;
-    Ok(lines)
-}
-
-/// The lines that `lsm` prints of a refusal behind its first one.
-fn lines_of(
-    alloc: Global,
-    fault: &OpeningFault,
-    reasons: Option<&Reasons>,
-) -> Result<Vec<u8>, AllocError>
-    ensures { IfOk result (λ v. AreLines fault.now v.items) }
-{
-    let file = line_of_file(alloc, fault.table_file())?;
-    let meaning = meaning_of(alloc, fault)?;
-    let answer = answer_to(alloc, fault, reasons)?;
-    let lines = joined(file, meaning, answer)?;
     Ok(lines)
 }
 
@@ -185,33 +175,84 @@ fn named(alloc: Global, name: &str, lines: &[u8]) -> Result<Vec<u8>, AllocError>
     Ok(text)
 }
 
-/// The name of a refusal, and what is told behind it.
-fn text_of(
+/// The name of a refusal, and behind it the line of this file, what it means, and what the system
+/// answered.
+fn told(
     alloc: Global,
     name: &str,
-    fault: &OpeningFault,
-    reasons: Option<&Reasons>,
+    file: Option<u64>,
+    meaning: Vec<u8>,
+    answer: Vec<u8>,
 ) -> Result<Vec<u8>, AllocError>
-    ensures { IfOk result (λ v. IsTold fault.now name.now v.items) }
+    ensures { IfOk result (λ v. v.items
+        ≡ name.now ++ behind ((file_behind false file ++ meaning.items) ++ answer.items)) }
 {
-    let lines = lines_of(alloc, fault, reasons)?;
+    let file = line_of_file(alloc, file)?;
+    let lines = joined(file, meaning, answer)?;
     let text = named(alloc, name, lines.as_slice())?;
     Ok(text)
 }
 
-/// The answer of an opening that is refused. A text that is no UTF-8, as none is, is answered as
-/// want of memory is.
+/// The answer of a refusal of this number whose name and lines are this text. One that is no UTF-8,
+/// as none is, is answered as want of memory is.
+fn refuse_as(alloc: Global, number: u8, text: Vec<u8>) -> Result<Vec<u8>, AllocError>
+    ensures { IfOk result (λ v. v.items ≡ answer_frame (IsRefused number text.items)) }
+{
+    match str::from_utf8(text.as_slice()) {
+        Ok(shown) => refuse_by(alloc, number, shown),
+        Err(_) => Err(AllocError),
+    }
+}
+
+/// The answer of an opening that is refused.
 pub(crate) fn refuse_opening(
     alloc: Global,
     fault: &OpeningFault,
     reasons: Option<&Reasons>,
 ) -> Result<Vec<u8>, AllocError>
-    ensures { IfOk result (λ v. IsRefusalFrame fault.now v.items) }
+    ensures { IfOk result (λ v. IsOpeningRefused fault.now v.items) }
 {
     let (number, name) = fault.refusal();
-    let text = text_of(alloc, name, fault, reasons)?;
-    match str::from_utf8(text.as_slice()) {
-        Ok(shown) => refuse_by(alloc, number, shown),
-        Err(_) => Err(AllocError),
-    }
+    let meaning = meaning_of(alloc, fault)?;
+    let answer = answer_to(alloc, number, fault.cause(), reasons)?;
+    let text = told(alloc, name, fault.table_file(), meaning, answer)?;
+    let frame = refuse_as(alloc, number, text)?;
+    Ok(frame)
+}
+
+/// The answer of a refusal of the database.
+pub(crate) fn refuse(
+    alloc: Global,
+    fault: StateFault,
+    reasons: Option<&Reasons>,
+) -> Result<Vec<u8>, AllocError>
+    ensures { IfOk result (λ v. IsStateRefused fault v.items) }
+{
+    let number = fault.number();
+    let answer = answer_to(alloc, number, Some(u64::from(number)), reasons)?;
+    let text = told(alloc, fault.name(), None, Vec::new(alloc), answer)?;
+    let frame = refuse_as(alloc, number, text)?;
+    Ok(frame)
+}
+
+/// The answer of a refusal of a worker.
+pub(crate) fn refuse_worker(
+    alloc: Global,
+    fault: WorkerFault,
+    reasons: Option<&Reasons>,
+) -> Result<Vec<u8>, AllocError>
+    ensures { IfOk result (λ v. IsWorkerRefused fault v.items) }
+{
+    let number = fault.number();
+    let whole = CompactFault::Worker(fault);
+    let answer = answer_to(alloc, number, whole.refusal(), reasons)?;
+    let text = told(
+        alloc,
+        fault.name(),
+        whole.table_file(),
+        Vec::new(alloc),
+        answer,
+    )?;
+    let frame = refuse_as(alloc, number, text)?;
+    Ok(frame)
 }

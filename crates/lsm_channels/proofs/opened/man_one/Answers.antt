@@ -14,14 +14,14 @@ new-requires-clause-fork g c κs within =
 
 pub returns-clause-fresh : goal.returns-clause-fresh
 returns-clause-fresh g c =
-    subst (λ (s : Served). IsFresh g.K.Invariant.keeps s) (sym c.new.ensures) (record {
+    subst (λ (s : Served). IsFresh g.K.Invariant.keeps s) (sym (c.with_reasons.ensures ∙ c.new.ensures)) (record {
       known = c.remember.ensures.kept;
       none = refl;
       untold = untold_of c.in_ok-own.own g.N.Naming.place _ c.in_ok-own.ensures.fork;
     })
 
 pub returns-clause-own : goal.returns-clause-own
-returns-clause-own g c = ap (λ (s : Served). s.shelf) c.new.ensures ∙ c.in_ok-own.ensures.fork
+returns-clause-own g c = ap (λ (s : Served). s.shelf) (c.with_reasons.ensures ∙ c.new.ensures) ∙ c.in_ok-own.ensures.fork
 
 pub returns-clause-told : goal.returns-clause-told
 returns-clause-told g c = forking_more 1 _ _ _ c.in_ok-own.ensures.ok c.in_ok-reading.ensures.ok

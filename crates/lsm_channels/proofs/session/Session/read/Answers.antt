@@ -1,5 +1,6 @@
-use Rattle.std.proofs.Common.{refl}
-use Rattle.lsm_channels.specs.Answered.{refusal_frame}
+use Rattle.std.proofs.Common.{None}
+use Rattle.lsm_state.specs.StateFault.{name_of, number_of}
+use Rattle.lsm_channels.proofs.TellingLaws.{refused_somehow}
 use Rattle.lsm_channels.specs.Reading.{IsRead, IsReadFault}
 use Rattle.lsm_channels.proofs.SessionLaws.{says_read, says_refused}
 use Rattle.lsm_channels.proofs.session.Session.read.Goals as goal
@@ -17,9 +18,10 @@ returns-in-Ok-refuse-clause-answered g c =
     c.self.view_is c.deref.ensures.value c.read-reader.ensures.later c.in-Err.is c.read-reader.ensures.refused c.in-Ok-refuse.ensures
 
 pub returns-in-Err-refuse-clause-unanswered : goal.returns-in-Err-refuse-clause-unanswered
-returns-in-Err-refuse-clause-unanswered g c = (
-  refusal_frame c.in-Err.fault,
-  says_refused (IsRead g.S.Shelf.honest g.K.Invariant.keeps c.args.when c.args.keys) (IsReadFault g.S.Shelf.honest g.K.Invariant.keeps c.args.when c.args.keys) (refusal_frame c.in-Err.fault) c.args.self c.self.inside.reader
-      c.read-reader.result.0 c.self.inside.shelf c.self.inside.memory c.read-reader.new.memory c.self.inside.taken.items c.deref.result.now c.read-reader.result.1 c.in-Err.fault
-      c.self.view_is c.deref.ensures.value c.read-reader.ensures.later c.in-Err.is c.read-reader.ensures.refused refl,
-)
+returns-in-Err-refuse-clause-unanswered g c =
+    let some = refused_somehow (number_of c.in-Err.fault) (name_of c.in-Err.fault) None in (
+      some.0,
+      says_refused (IsRead g.S.Shelf.honest g.K.Invariant.keeps c.args.when c.args.keys) (IsReadFault g.S.Shelf.honest g.K.Invariant.keeps c.args.when c.args.keys) some.0 c.args.self c.self.inside.reader
+          c.read-reader.result.0 c.self.inside.shelf c.self.inside.memory c.read-reader.new.memory c.self.inside.taken.items c.deref.result.now c.read-reader.result.1 c.in-Err.fault
+          c.self.view_is c.deref.ensures.value c.read-reader.ensures.later c.in-Err.is c.read-reader.ensures.refused some.1,
+    )
