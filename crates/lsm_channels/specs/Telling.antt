@@ -1,6 +1,7 @@
 -- What an opening that is refused is told behind the refusal's name: the lines that `lsm` prints of
 -- it behind its first one (docs/PROTOCOL.md, this project's rule).
-use Rattle.std.specs.Prelude.{◌≡◌, ◌≢◌, ◌<◌, ℕ, false, List, [], ◌∷◌, ◌++◌, Option, None, Some, IfSome}
+use Rattle.std.specs.Prelude.{◌≡◌, ◌≢◌, ◌<◌, ℕ, false, List, [], ◌∷◌, ◌++◌}
+use Rattle.std.specs.Prelude.{Option, None, Some, IfSome}
 use Rattle.lsm_frames.specs.Answers.{IsRefused}
 use Rattle.lsm_verify.specs.declared.check_fault.CheckFault.{CheckFault}
 use Rattle.lsm_directory.specs.DirectoryFault as directory

@@ -10,7 +10,8 @@ abbrev pub tabulate : (ℕ → ℕ) → ℕ → ℕ → List ℕ
 tabulate f start zero = []
 tabulate f start (suc count) = f start ∷ tabulate f (suc start) count
 
-pub get_or-tabulate : (f : ℕ → ℕ) (start count i : ℕ) → i < count → get_or (tabulate f start count) i 0 ≡ f (start + i)
+pub get_or-tabulate : (f : ℕ → ℕ) (start count i : ℕ) → i < count
+    → get_or (tabulate f start count) i 0 ≡ f (start + i)
 get_or-tabulate f start zero i h = absurd (omega arith)
 get_or-tabulate f start (suc count) zero h =
     let e : start ≡ start + 0 = omega arith in

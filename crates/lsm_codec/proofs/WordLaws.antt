@@ -77,11 +77,14 @@ after_parts-start width (x ∷ xs) r =
 -- One stride: the words so far are moved on by a stride, each by itself, and the new words are
 -- added.
 pub stride : (state block : List ℕ) → length state ≡ length block
-    → after_parts 64 (after_parts 64 0 state) block ≡ after_parts 64 0 (xor_parts (map (turns (length block * 64)) state) block)
+    → after_parts 64 (after_parts 64 0 state) block
+    ≡ after_parts 64 0 (xor_parts (map (turns (length block * 64)) state) block)
 stride state block e =
     let n = length block * 64 in
     after_parts-start 64 block (after_parts 64 0 state)
-    ∙ ap (λ (x : ℕ). bit_xor x (after_parts 64 0 block)) (sym (after_parts-turns 64 n state 0) ∙ ap (λ (x : ℕ). after_parts 64 x (map (turns n) state)) (turns-zero n))
+    ∙ ap (λ (x : ℕ). bit_xor x (after_parts 64 0 block))
+    (sym (after_parts-turns 64 n state 0)
+    ∙ ap (λ (x : ℕ). after_parts 64 x (map (turns n) state)) (turns-zero n))
     ∙ sym (after_parts-xor 64 (map (turns n) state) block 0 0 (length-map state (turns n) ∙ e))
 
 -- the bytes of a word, as the code takes them
@@ -162,14 +165,22 @@ four_words block a b c d register ha hb hc hd =
 
 -- one stride of four words
 pub stride_four : (a b c d e f g h : ℕ)
-    → after_parts 64 (after_parts 64 0 (a ∷ b ∷ c ∷ d ∷ [])) (e ∷ f ∷ g ∷ h ∷ []) ≡ after_parts 64 0 (bit_xor (turns 256 a) e ∷ bit_xor (turns 256 b) f ∷ bit_xor (turns 256 c) g ∷ bit_xor (turns 256 d) h ∷ [])
+    → after_parts 64 (after_parts 64 0 (a ∷ b ∷ c ∷ d ∷ [])) (e ∷ f ∷ g ∷ h ∷ [])
+    ≡ after_parts 64 0 (bit_xor (turns 256 a) e ∷ bit_xor (turns 256 b) f
+    ∷ bit_xor (turns 256 c) g ∷ bit_xor (turns 256 d) h ∷ [])
 unfolding xor_parts
 stride_four a b c d e f g h = stride (a ∷ b ∷ c ∷ d ∷ []) (e ∷ f ∷ g ∷ h ∷ []) refl
 
-pub start_four : (register a b c d : ℕ) → after_parts 64 register (a ∷ b ∷ c ∷ d ∷ []) ≡ after_parts 64 0 (bit_xor register a ∷ b ∷ c ∷ d ∷ [])
+pub start_four : (register a b c d : ℕ)
+    → after_parts 64 register (a ∷ b ∷ c ∷ d ∷ [])
+    ≡ after_parts 64 0 (bit_xor register a ∷ b ∷ c ∷ d ∷ [])
 unfolding after_parts
-start_four register a b c d = ap (λ (n : ℕ). after_parts 64 (turns 64 n) (b ∷ c ∷ d ∷ [])) (sym (xor_zero_l (bit_xor register a)))
+start_four register a b c d =
+    ap (λ (n : ℕ). after_parts 64 (turns 64 n) (b ∷ c ∷ d ∷ []))
+    (sym (xor_zero_l (bit_xor register a)))
 
-pub joined_four : (a b c d : ℕ) → turns 64 (bit_xor (turns 64 (bit_xor (turns 64 (bit_xor (turns 64 a) b)) c)) d) ≡ after_parts 64 0 (a ∷ b ∷ c ∷ d ∷ [])
+pub joined_four : (a b c d : ℕ)
+    → turns 64 (bit_xor (turns 64 (bit_xor (turns 64 (bit_xor (turns 64 a) b)) c)) d)
+    ≡ after_parts 64 0 (a ∷ b ∷ c ∷ d ∷ [])
 unfolding after_parts
 joined_four a b c d = ap (λ (n : ℕ). turns 64 (bit_xor (turns 64 (bit_xor (turns 64 (bit_xor (turns 64 n) b)) c)) d)) (sym (xor_zero_l a))
