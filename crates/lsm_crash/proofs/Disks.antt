@@ -238,8 +238,8 @@ step_holds miss P q d e (made name bytes (Ok v)) s a h H =
 step_holds miss P q d e (made name bytes (Err f)) s a h H = elim h [
   | inl same ↦ along (λ x. Holds miss x q P) d e same H
   | inr m ↦ (let s1 = sound_made d m.1 name (take m.0 bytes) s m.2 in
-      let H1 = holds_made miss P q d m.1 name (take m.0 bytes) s a m.2 H in
-      holds_undone miss P q m.1 e name s1 a m.3 H1)
+      let stays = holds_made miss P q d m.1 name (take m.0 bytes) s a m.2 H in
+      holds_undone miss P q m.1 e name s1 a m.3 stays)
 ]
 step_holds miss P q d e (wrote name bytes (Ok v)) s a h H = holds_written miss P q d e name bytes s a h H
 step_holds miss P q d e (wrote name bytes (Err f)) s a h H = elim h [
@@ -247,8 +247,8 @@ step_holds miss P q d e (wrote name bytes (Err f)) s a h H = elim h [
   | inr m ↦ elim m [
     | inl gone ↦ along (λ x. Holds miss x q P) _ e gone (holds_gone miss P q d name s a H)
     | inr w ↦ (let s1 = sound_written d w.1 name (take w.0 bytes) s w.2 in
-        let H1 = holds_written miss P q d w.1 name (take w.0 bytes) s a w.2 H in
-        holds_undone miss P q w.1 e name s1 a w.3 H1)
+        let stays = holds_written miss P q d w.1 name (take w.0 bytes) s a w.2 H in
+        holds_undone miss P q w.1 e name s1 a w.3 stays)
   ]
 ]
 step_holds miss P q d e (appended name bytes (Ok v)) s a h H = along (λ x. Holds miss x q P) _ e h.2 (holds_filled miss P q d name h.0 (d.bytes h.0 ++ bytes) (d.kept h.0) a h.1 H)
