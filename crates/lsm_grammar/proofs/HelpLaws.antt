@@ -5,7 +5,10 @@ use Rattle.clap.specs.Words.{IsAmong, Kinds, Text}
 use Rattle.clap.specs.declared.error.ErrorKind.{ErrorKind}
 use Rattle.clap.specs.declared.error.ErrorKind.TheVariants as kind
 use Rattle.clap.proofs.OnLiterals.{clap_on_literals}
-use Rattle.lsm_grammar.specs.Grammar.{bare, bench, check, clean, compact, delete, dump, get, help, import_folder, ingest, levels, list, load, lsm, make_table, manifest, put, recover, repair, scan, script, shell, with_inputs, with_looks, with_writes}
+use Rattle.lsm_grammar.specs.Grammar.{bare, bench, check, clean, compact, delete, dump, get, help}
+use Rattle.lsm_grammar.specs.Grammar.{import_folder, ingest, levels, list, load, lsm, make_table}
+use Rattle.lsm_grammar.specs.Grammar.{manifest, put, recover, repair, scan, script, shell}
+use Rattle.lsm_grammar.specs.Grammar.{with_inputs, with_looks, with_writes}
 use Rattle.lsm_grammar.specs.Requests.{AskHelp, HaveUsageFault, faults_in, found_in, named, named_converting, named_otherwise, named_reading, named_writing, topic_in, word_in, word_of}
 use Rattle.lsm_grammar.specs.declared.command_name.CommandName.{CommandName}
 use Rattle.lsm_grammar.specs.declared.command_name.CommandName.TheVariants as name

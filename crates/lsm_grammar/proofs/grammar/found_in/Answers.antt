@@ -5,7 +5,10 @@ use Rattle.clap.specs.Words.{App, FailsBy, IsAmong, Kinds, app_of, fault_of, is_
 use Rattle.clap.specs.declared.error.Error.{Error}
 use Rattle.clap.specs.declared.error.ErrorKind.TheVariants.{OutOfMemory}
 use Rattle.clap.proofs.OnLiterals.{clap_on_literals}
-use Rattle.lsm_grammar.specs.Grammar.{bare, bench, check, clean, compact, delete, dump, get, help, import_folder, ingest, levels, list, load, lsm, make_table, manifest, put, recover, repair, scan, script, shell, with_inputs, with_looks, with_writes}
+use Rattle.lsm_grammar.specs.Grammar.{bare, bench, check, clean, compact, delete, dump, get, help}
+use Rattle.lsm_grammar.specs.Grammar.{import_folder, ingest, levels, list, load, lsm, make_table}
+use Rattle.lsm_grammar.specs.Grammar.{manifest, put, recover, repair, scan, script, shell}
+use Rattle.lsm_grammar.specs.Grammar.{with_inputs, with_looks, with_writes}
 use Rattle.lsm_grammar.specs.Requests.{faults_in, found_in}
 use Rattle.lsm_grammar.proofs.grammar.found_in.Goals as goal
 
