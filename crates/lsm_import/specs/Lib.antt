@@ -2,5 +2,6 @@
 pub mod ImportFault
 pub mod Copies
 pub mod Copied
+pub mod LogTable
 pub mod Standing
 pub mod Answers

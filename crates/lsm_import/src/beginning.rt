@@ -18,7 +18,10 @@ use std::slice;
 use std::sync::Wait;
 
 /// The bytes of a manifest of one edit.
-fn manifest_bytes(alloc: Global, edit: &Edit) -> Result<Vec<u8>, AllocError>
+///
+/// # Errors
+/// `AllocError` where the memory was refused.
+pub fn manifest_bytes(alloc: Global, edit: &Edit) -> Result<Vec<u8>, AllocError>
     requires fit { IsFit edit.now }
     requires ordered { AreInOrder edit.now.deleted }
     ensures bytes { IfOk result (λ bytes. bytes.items ≡ record_text 0 (edit_text edit.now)) }

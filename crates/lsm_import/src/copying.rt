@@ -1,11 +1,12 @@
 //! Tables of the source, put into the target as plain ones.
 
-ghost use Rattle.std.specs.Prelude.{◌≡◌, List, ℕ, length, IfErr, IfOk, MatchBool};
+ghost use Rattle.std.specs.Prelude.{◌≡◌, List, ℕ, length, Ok, Some, IfErr, IfOk, MatchBool};
 ghost use Rattle.lsm_codec.specs.Entries.{Entry};
 ghost use Rattle.lsm_shelf.specs.Stored.{Stored};
 ghost use Rattle.lsm_shelf.specs.Told.{Becomes};
 ghost use Rattle.lsm_table.specs.Options.{AreInRange};
 ghost use Rattle.lsm_table.specs.Table.{IsImage};
+ghost use Rattle.lsm_inflate.specs.PackedReading.{inflated_at};
 ghost use Rattle.lsm_inflate.specs.PackedTable.{IsPackedTable};
 ghost use Rattle.lsm_import.specs.Copies.{AreCopies, AreNotCopied, IsCopy, IsCopyRefusal};
 ghost use Rattle.lsm_import.specs.Copies.{IsPackedRefusal, IsPutRefusal, OnlyPuts};
@@ -27,8 +28,13 @@ fn has_keys(plain: &PlainTable, file: &FileMeta) -> bool
         && plain.largest.as_slice() == file.largest.as_slice()
 }
 
-/// The plain table of a file's image.
-fn plain_of(
+/// The plain table of a file's image: that of `lsm_inflate::inflate`, where it begins and ends at
+/// the keys of the file.
+///
+/// # Errors
+/// `Packed` of the image's first fault; `WrongRange` where it has no entry or other keys; both name
+/// the file.
+pub fn plain_of(
     alloc: Global,
     options: TableOptions,
     file: &FileMeta,
@@ -37,6 +43,8 @@ fn plain_of(
     requires { AreInRange options }
     ensures plain { IfOk result (λ plain. (es : List Entry) × IsPackedTable packed.now es
         × IsImage es file.now.smallest file.now.largest plain.items) }
+    ensures exact { IfOk result (λ plain.
+        inflated_at options packed.now ≡ Ok (Some plain.items)) }
     ensures refused { IfErr result (IsPackedRefusal options file.now packed.now) }
 {
     match inflate(alloc, options, packed) {

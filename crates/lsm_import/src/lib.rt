@@ -17,6 +17,7 @@ mod fresh_numbers;
 // The copy: its tables, the table of the logs, its manifest.
 mod beginning;
 mod copied;
+mod log_table;
 mod logs;
 
 // A database that is not copied: it stands as it is.
@@ -25,6 +26,9 @@ mod standing;
 // What it answers.
 mod laws;
 
+pub use beginning::manifest_bytes;
 pub use copied::Copied;
+pub use copying::plain_of;
 pub use import_fault::ImportFault;
 pub use laws::copies_answer;
+pub use log_table::LogTable;

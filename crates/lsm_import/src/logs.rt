@@ -1,7 +1,7 @@
 //! The last writes of logs, as one table more.
 
 ghost use Rattle.std.specs.Prelude.{◌≡◌, ◌⊎◌, ◌+◌, ◌^◌, ◌<◌, ◌≤◌, ◌-◌, length, IfErr, IfOk};
-ghost use Rattle.std.specs.Prelude.{MatchBool, OnOk};
+ghost use Rattle.std.specs.Prelude.{MatchBool, None, OnOk, Some};
 ghost use Rattle.lsm_shelf.specs.Stored.{Stored};
 ghost use Rattle.lsm_table.specs.Options.{AreInRange};
 ghost use Rattle.lsm_manifest.specs.EditFit.{FitsAdded};
@@ -10,14 +10,16 @@ ghost use Rattle.lsm_batch.specs.Images.{IsImage, PassesTable};
 ghost use Rattle.lsm_import.specs.Copied.{AreSpent, HasLogs, IsFitting, IsLogFile, IsLogsRefusal};
 ghost use Rattle.lsm_import.specs.Copied.{IsTableRefusal, with_file};
 ghost use Rattle.lsm_import.specs.Copies.{OnlyPuts};
+ghost use Rattle.lsm_import.specs.LogTable.{IsMade, NoneRefuses};
 ghost use Rattle.lsm_import.specs.declared.import_fault.ImportFault.TheVariants.{OutOfMemory};
 ghost use Rattle.lsm_import.specs.declared.import_fault.ImportFault.TheVariants.{SequencesSpent};
 ghost use Rattle.lsm_import.specs.declared.import_fault.ImportFault.TheVariants.{TooLarge};
 
 use crate::copied::Copied;
 use crate::import_fault::ImportFault;
+use crate::log_table::LogTable;
 use lsm_batch::Batch;
-use lsm_codec::List;
+use lsm_codec::{Bytes, List};
 use lsm_manifest::{AddedFile, Edit, FileMeta};
 use lsm_table::{NamedShelf, Naming, Shelf, TableImage, TableOptions, TableReceipt, TableRecord};
 use lsm_wal::{WriteLogs, last_writes};
@@ -73,6 +75,40 @@ fn image_of(
     }
 }
 
+/// The file of a table of this number, of these keys and of so many bytes, at level 0, where its
+/// keys are short.
+fn short_file(
+    number: u64,
+    smallest: Bytes,
+    largest: Bytes,
+    size: u64,
+) -> Result<AddedFile, ImportFault>
+    ensures level { IfOk result (λ file. file.level ≡ 0) }
+    ensures number { IfOk result (λ file. file.file.number ≡ number) }
+    ensures size { IfOk result (λ file. file.file.size ≡ size) }
+    ensures smallest { IfOk result (λ file. file.file.smallest ≡ smallest) }
+    ensures largest { IfOk result (λ file. file.file.largest ≡ largest) }
+    ensures short { OnOk result ((length smallest < 2 ^ 32) × (length largest < 2 ^ 32)) }
+    ensures long { IfErr result (λ e. (e ≡ TooLarge)
+        × ((2 ^ 32 ≤ length smallest) ⊎ (2 ^ 32 ≤ length largest))) }
+{
+    if !is_short(smallest.as_slice()) {
+        return Err(ImportFault::TooLarge);
+    }
+    if !is_short(largest.as_slice()) {
+        return Err(ImportFault::TooLarge);
+    }
+    Ok(AddedFile {
+        level: 0,
+        file: FileMeta {
+            number,
+            size,
+            smallest,
+            largest,
+        },
+    })
+}
+
 /// The file of a table that was put under this number, at level 0, where its keys are short.
 fn file_of<C: TableReceipt>(
     alloc: Global,
@@ -89,21 +125,10 @@ fn file_of<C: TableReceipt>(
     ensures long { IfErr result (λ e. (e ≡ OutOfMemory) ⊎ ((e ≡ TooLarge)
         × ((2 ^ 32 ≤ length table.now.smallest) ⊎ (2 ^ 32 ≤ length table.now.largest)))) }
 {
-    if !is_short(table.smallest.as_slice()) {
-        return Err(ImportFault::TooLarge);
-    }
-    if !is_short(table.largest.as_slice()) {
-        return Err(ImportFault::TooLarge);
-    }
-    Ok(AddedFile {
-        level: 0,
-        file: FileMeta {
-            number,
-            size: table.size(),
-            smallest: table.smallest.try_copy(alloc)?,
-            largest: table.largest.try_copy(alloc)?,
-        },
-    })
+    let smallest = table.smallest.try_copy(alloc)?;
+    let largest = table.largest.try_copy(alloc)?;
+    let file = short_file(number, smallest, largest, table.size())?;
+    Ok(file)
 }
 
 /// Puts the table of a batch into the target, and names it as the manifest does.
@@ -134,6 +159,30 @@ fn put_logs<M: Naming, T: Shelf, R: Wait>(
         Err(fault) => return Err(ImportFault::Unwritten(fault)),
     };
     file_of(alloc, number, &table)
+}
+
+/// The table of a batch, on no shelf, and its file as the manifest names it.
+fn table_of(
+    alloc: Global,
+    options: TableOptions,
+    batch: &Batch,
+    first: u64,
+    number: u64,
+) -> Result<(AddedFile, LogTable), ImportFault>
+    requires some { 0 < length batch.now }
+    requires rises { KeysRise (length batch.now) batch.now }
+    requires sequences { first + length batch.now ≤ 2 ^ 56 }
+    requires options { AreInRange options }
+    ensures file { IfOk result (λ r.
+        IsLogFile (IsMade (Some r.1)) (entries_from first batch.now) number r.0) }
+    ensures fits { IfOk result (λ r. FitsAdded r.0) }
+    ensures refused { IfErr result
+        (IsTableRefusal NoneRefuses options (entries_from first batch.now) number) }
+{
+    let image = image_of(alloc, options, batch, first)?;
+    let (smallest, largest, image) = image.into_parts();
+    let file = short_file(number, smallest, largest, image.len() as u64)?;
+    Ok((file, LogTable { number, image }))
 }
 
 impl Copied {
@@ -205,5 +254,40 @@ impl Copied {
         let file = put_logs(rt, alloc, target, options, &batch, first, self.next)?;
         let copied = self.with_file(file, first, count)?;
         Ok(copied)
+    }
+
+    /// The same as `add_logs`, but that the table is put on no shelf: it is given beside the copy.
+    /// None is where the logs write nothing.
+    ///
+    /// # Errors
+    /// Those of `add_logs`, but `Unwritten`.
+    pub fn with_logs(
+        self,
+        alloc: Global,
+        options: TableOptions,
+        logs: WriteLogs,
+    ) -> Result<(Copied, Option<LogTable>), ImportFault>
+        requires options { AreInRange options }
+        requires fits { IsFitting self }
+
+        // Of each key just the last write of the logs comes in.
+        ensures logs { IfOk result (λ r. HasLogs (IsMade r.1) logs self r.0) }
+        ensures none { IfOk result (λ r. r.0 ≡ self → r.1 ≡ None) }
+        ensures fits { IfOk result (λ r. IsFitting r.0) }
+        ensures refused { IfErr result (IsLogsRefusal NoneRefuses options logs self) }
+    {
+        let end = logs.end();
+        let batch = last_writes(alloc, logs.into_log())?;
+        let count = batch.len();
+        if count == 0 {
+            return Ok((self, None));
+        }
+        let first = first_sequence(self.last, end, count)?;
+        if self.next == u64::MAX {
+            return Err(ImportFault::NumbersSpent);
+        }
+        let (file, table) = table_of(alloc, options, &batch, first, self.next)?;
+        let copied = self.with_file(file, first, count)?;
+        Ok((copied, Some(table)))
     }
 }

@@ -179,6 +179,20 @@ impl TableImage {
         })
     }
 
+    /// Its first and its last internal key, and its bytes: for who puts it on no shelf.
+    pub fn into_parts(self) -> (Bytes, Bytes, Vec<u8>)
+        ensures smallest { result.0 ≡ self.smallest }
+        ensures largest { result.1 ≡ self.largest }
+        ensures bytes { result.2.items ≡ self.bytes }
+    {
+        let TableImage {
+            smallest,
+            largest,
+            bytes,
+        } = self;
+        (smallest, largest, bytes)
+    }
+
     /// Puts the table under a number, and then its record into the registry.
     ///
     /// The shelf's refusals: `Taken` where a table of this number is there; `Device`, after which

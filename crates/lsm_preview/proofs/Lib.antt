@@ -1,0 +1,3 @@
+pub mod LooksLaws
+pub mod TableLaws
+pub mod ViewLaws

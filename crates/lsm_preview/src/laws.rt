@@ -1,0 +1,29 @@
+//! What a view answers.
+
+ghost use Rattle.std.specs.Prelude.{◌≡◌, ℕ, List};
+ghost use Rattle.lsm_codec.specs.Entries.{Entry, answer};
+ghost use Rattle.lsm_codec.specs.Keys.{UserKey};
+ghost use Rattle.lsm_folder.specs.Calls.{Call};
+ghost use Rattle.lsm_shelf.specs.Told.{Told};
+ghost use Rattle.lsm_directory.specs.declared.folder.folder_file.FolderFile.{FolderFile};
+ghost use Rattle.lsm_import.specs.Answers.{NoneAbove, source_answer};
+ghost use Rattle.lsm_preview.specs.Preview.{IsPreview, entries_with};
+ghost use Rattle.lsm_preview.specs.declared.preview.Preview.{Preview};
+ghost use Rattle.lsm_preview.specs.declared.sight.Sight.{Sight};
+
+use lsm_import::copies_answer;
+
+/// A law: what a view answers at its last sequence. Where tables have these entries, none of them
+/// above the last sequence of the manifest that was read, the view has the logs' last writes beside
+/// them; and so it answers of each key the last write of the logs, or where they write none what
+/// the tables answer at that sequence: what LevelDB reads of the tables with the logs.
+pub fn preview_answers()
+    ensures { (From : ℕ → List ℕ → Type 0) (sight : Sight) (files : List FolderFile)
+        (preview : Preview) (old new : List Call) (was is : Told)
+        (p : IsPreview From sight files preview old new was is) (es : List Entry)
+        → NoneAbove p.shape.last es → (key : UserKey)
+        → answer (entries_with p.view es) key p.view.whole.last
+        ≡ source_answer es p.shape.last p.batches key }
+{
+    copies_answer();
+}
