@@ -1,0 +1,36 @@
+//! How often a mirror refused.
+
+ghost use Rattle.std.specs.Prelude.{◌≡◌, ◌≤◌, IfErr};
+ghost use Rattle.lsm_shelf.specs.Told.{Told, Counted, CountedBy};
+ghost use Rattle.lsm_mirror.specs.Counts.{with_counts};
+
+use lsm_shelf::ShelfFault;
+
+/// How often a mirror answered `Device`, and how often `Missing` or `Taken`.
+#[derive(Clone, Copy)]
+pub(crate) struct Counts {
+    pub(crate) faults: u64,
+    pub(crate) misses: u64,
+}
+
+impl Counts {
+    /// Counts a refusal, once. A count stays at its last value.
+    pub(crate) fn count<T: Drop>(&mut self, outcome: Result<T, ShelfFault>) -> Result<T, ShelfFault>
+        ensures same { result ≡ outcome }
+        ensures faults { self.old.faults ≤ self.new.faults }
+        ensures misses { self.old.misses ≤ self.new.misses }
+        ensures counts { (was is : Told)
+            → CountedBy result (with_counts self.old was) (with_counts self.new is) }
+        ensures cause { IfErr result (λ e. (was is : Told)
+            → Counted e (with_counts self.old was) (with_counts self.new is)) }
+    {
+        match &outcome {
+            Err(ShelfFault::Device) => self.faults = self.faults.saturating_add(1),
+            Err(ShelfFault::Missing | ShelfFault::Taken(_)) => {
+                self.misses = self.misses.saturating_add(1);
+            }
+            _ => {}
+        }
+        outcome
+    }
+}
