@@ -38,6 +38,7 @@ CRATES = {
     "lsm_cmd_import": ("program", "import"),
     "lsm_cmd_recover": ("program", "recover"),
     "lsm_recovery": ("program", "logs come in"),
+    "lsm_preview": ("program", "seen with logs, or plain"),
     "lsm_cmd_repair": ("program", "repair"),
     "lsm_repair": ("program", "a manifest of whole tables"),
     "lsm_log_files": ("program", "a manifest and its logs"),

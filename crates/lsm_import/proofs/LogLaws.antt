@@ -1,7 +1,7 @@
 -- The table of the logs.
 use Rattle.std.proofs.Common.{◌≡◌, ℕ, suc, ◌+◌, ◌^◌, ◌<◌, ◌≤◌, List, [], ◌∷◌, length, refl, sym, ap}
 use Rattle.std.proofs.Common.{◌∙◌, subst, inl, inr, arith}
-use Rattle.std.specs.Prelude.{◌⊎◌, Result, Ok, Err, IfErr, IfOk, OnOk}
+use Rattle.std.specs.Prelude.{◌⊎◌, Option, None, Some, Result, Ok, Err, IfErr, IfOk, OnOk}
 use Rattle.lsm_codec.specs.Lists.{Has}
 use Rattle.lsm_codec.specs.Entries.{Entry, internal_key}
 use Rattle.lsm_codec.specs.Keys.{IsKey}
@@ -18,10 +18,14 @@ use Rattle.lsm_batch.specs.declared.write.Write.{Write}
 use Rattle.lsm_wal.specs.WriteLog.{after, writes_of}
 use Rattle.lsm_wal.specs.declared.write_batch.WriteBatch.{WriteBatch}
 use Rattle.lsm_import.specs.Copies.{IsPutRefusal}
-use Rattle.lsm_import.specs.Copied.{HasLogs, IsFitting, IsLogFile, IsTableRefusal, with_file}
+use Rattle.lsm_import.specs.Copied.{HasLogs, HasWrites, IsFitting, IsLogFile, IsLogsRefusal}
+use Rattle.lsm_import.specs.Copied.{IsTableRefusal, with_file}
+use Rattle.lsm_import.specs.LogTable.{IsMade, NoneRefuses}
 use Rattle.lsm_import.specs.declared.copied.Copied.{Copied}
 use Rattle.lsm_import.specs.declared.import_fault.ImportFault.{ImportFault}
 use Rattle.lsm_import.specs.declared.import_fault.ImportFault.TheVariants.{OutOfMemory, TooLarge}
+use Rattle.lsm_import.specs.declared.import_fault.ImportFault.TheVariants as fault
+use Rattle.lsm_import.specs.declared.log_table.LogTable.{LogTable}
 use Rattle.lsm_import.proofs.CopyLaws.{fits_push}
 
 fits_key : (s : List ℕ) (e : Entry) → IsKey s (internal_key e) → length s < 2 ^ 32 → FitsKey s
@@ -75,6 +79,94 @@ table_refused Denied options es number s l b s' l' (Err e) i p q (inr x) =
           (has_right i.front (i.last ∷ []) i.last (inl refl)),
       long_key l i.last i.largest_is
           (subst (λ (k : List ℕ). 2 ^ 32 ≤ length k) q n),
+    )
+
+-- ---- a table that is put once it is made
+
+pub logs_into : (Into Shows : ℕ → List ℕ → Type 0)
+    → ((number : ℕ) (image : List ℕ) → Into number image → Shows number image)
+    → (batches : List WriteBatch) (old new : Copied) → HasLogs Into batches old new
+    → HasLogs Shows batches old new
+logs_into Into Shows shows batches old new h = record {
+  batch = h.batch;
+  first = h.first;
+  last = h.last;
+  above = h.above;
+  behind = h.behind;
+  has = at h.batch h.has;
+}
+  where
+    at : (batch : List Write) → HasWrites Into h.first batch old new
+        → HasWrites Shows h.first batch old new
+    at [] has = has
+    at (w ∷ ws) has =
+        let file = has.1 in (
+          has.0,
+          record {
+            image = file.image;
+            put = shows old.next file.image file.put;
+            table = file.table;
+            level = file.level;
+            number_is = file.number_is;
+            size = file.size;
+          },
+          has.2,
+        )
+
+-- what no shelf refuses, no shelf refuses
+put_refused : (Denied : Asked → ShelfFault → Type 0) (number : ℕ) (image : List ℕ)
+    (e : ImportFault) → IsPutRefusal NoneRefuses number image e → IsPutRefusal Denied number image e
+put_refused Denied number image fault.OutOfMemory h = tt
+put_refused Denied number image (fault.Unread n e) h = absurd h
+put_refused Denied number image (fault.Packed n e) h = absurd h
+put_refused Denied number image (fault.WrongRange n) h = absurd h
+put_refused Denied number image (fault.Unwritten e) h = absurd h
+put_refused Denied number image fault.TooLarge h = absurd h
+put_refused Denied number image fault.SequencesSpent h = absurd h
+put_refused Denied number image fault.NumbersSpent h = absurd h
+put_refused Denied number image (fault.Replay e) h = absurd h
+
+pub logs_refused : (Denied : Asked → ShelfFault → Type 0) (options : TableOptions)
+    (batches : List WriteBatch) (old : Copied) (e : ImportFault)
+    → IsLogsRefusal NoneRefuses options batches old e
+    → IsLogsRefusal Denied options batches old e
+logs_refused Denied options batches old e (inl memory) = inl memory
+logs_refused Denied options batches old e (inr (batch, kept, inl spent)) =
+    inr (batch, kept, inl spent)
+logs_refused Denied options batches old e (inr (batch, kept, inr (inl spent))) =
+    inr (batch, kept, inr (inl spent))
+logs_refused Denied options batches old e (inr (batch, kept, inr (inr (first, inl large)))) =
+    inr (batch, kept, inr (inr (first, inl large)))
+logs_refused Denied options batches old e
+    (inr (batch, kept, inr (inr (first, inr (image, want))))) =
+    inr (batch, kept, inr (inr (first, inr (image, put_refused Denied old.next image e want))))
+
+-- the table was made, and its shelf refuses it
+pub table_unput : (Denied : Asked → ShelfFault → Type 0) (options : TableOptions)
+    (batches : List WriteBatch) (old new : Copied) (table : Option LogTable) (e : ImportFault)
+    → HasLogs (IsMade table) batches old new → (new ≡ old → table ≡ None)
+    → ((t : LogTable) × (table ≡ Some t) × IsPutRefusal Denied t.number t.image.items e)
+    → IsLogsRefusal Denied options batches old e
+table_unput Denied options batches old new table e h none (t, is, want) = at h.batch h.last h.has
+  where
+    number_is : (image : List ℕ) → IsMade table old.next image → t.number ≡ old.next
+    number_is image made = (subst (λ (o : Option LogTable). IsMade o old.next image) is made).0
+
+    at : (batch : List Write) → KeepsLast (writes_of batches) batch
+        → HasWrites (IsMade table) h.first batch old new
+        → IsLogsRefusal Denied options batches old e
+    at [] kept has = (let no = none has in absurd (cc))
+    at (w ∷ ws) kept has = inr (
+      w ∷ ws,
+      kept,
+      inr (inr (
+        h.first,
+        inr (
+          t.image.items,
+          subst (λ (n : ℕ). IsPutRefusal Denied n t.image.items e)
+              (number_is has.1.image has.1.put) want,
+        ),
+      )),
     )
 
 -- ---- what comes in

@@ -1,7 +1,7 @@
 //! The last writes of logs, as one table more.
 
 ghost use Rattle.std.specs.Prelude.{◌≡◌, ◌⊎◌, ◌+◌, ◌^◌, ◌<◌, ◌≤◌, ◌-◌, length, IfErr, IfOk};
-ghost use Rattle.std.specs.Prelude.{MatchBool, None, OnOk, Some};
+ghost use Rattle.std.specs.Prelude.{ℕ, List, MatchBool, None, OnOk, Some};
 ghost use Rattle.lsm_shelf.specs.Stored.{Stored};
 ghost use Rattle.lsm_table.specs.Options.{AreInRange};
 ghost use Rattle.lsm_manifest.specs.EditFit.{FitsAdded};
@@ -9,11 +9,12 @@ ghost use Rattle.lsm_batch.specs.Batches.{KeysRise, entries_from};
 ghost use Rattle.lsm_batch.specs.Images.{IsImage, PassesTable};
 ghost use Rattle.lsm_import.specs.Copied.{AreSpent, HasLogs, IsFitting, IsLogFile, IsLogsRefusal};
 ghost use Rattle.lsm_import.specs.Copied.{IsTableRefusal, with_file};
-ghost use Rattle.lsm_import.specs.Copies.{OnlyPuts};
+ghost use Rattle.lsm_import.specs.Copies.{IsPutRefusal, OnlyPuts};
 ghost use Rattle.lsm_import.specs.LogTable.{IsMade, NoneRefuses};
 ghost use Rattle.lsm_import.specs.declared.import_fault.ImportFault.TheVariants.{OutOfMemory};
 ghost use Rattle.lsm_import.specs.declared.import_fault.ImportFault.TheVariants.{SequencesSpent};
 ghost use Rattle.lsm_import.specs.declared.import_fault.ImportFault.TheVariants.{TooLarge};
+ghost use Rattle.lsm_import.specs.declared.log_table.LogTable.{LogTable};
 
 use crate::copied::Copied;
 use crate::import_fault::ImportFault;
@@ -21,7 +22,7 @@ use crate::log_table::LogTable;
 use lsm_batch::Batch;
 use lsm_codec::{Bytes, List};
 use lsm_manifest::{AddedFile, Edit, FileMeta};
-use lsm_table::{NamedShelf, Naming, Shelf, TableImage, TableOptions, TableReceipt, TableRecord};
+use lsm_table::{NamedShelf, Naming, Shelf, TableImage, TableOptions};
 use lsm_wal::{WriteLogs, last_writes};
 use std::alloc::{AllocError, Global};
 use std::sync::Wait;
@@ -109,58 +110,6 @@ fn short_file(
     })
 }
 
-/// The file of a table that was put under this number, at level 0, where its keys are short.
-fn file_of<C: TableReceipt>(
-    alloc: Global,
-    number: u64,
-    table: &TableRecord<C>,
-) -> Result<AddedFile, ImportFault>
-    ensures level { IfOk result (λ file. file.level ≡ 0) }
-    ensures number { IfOk result (λ file. file.file.number ≡ number) }
-    ensures size { IfOk result (λ file. file.file.size ≡ length (C.image table.now.receipt)) }
-    ensures smallest { IfOk result (λ file. file.file.smallest ≡ table.now.smallest) }
-    ensures largest { IfOk result (λ file. file.file.largest ≡ table.now.largest) }
-    ensures short { OnOk result
-        ((length table.now.smallest < 2 ^ 32) × (length table.now.largest < 2 ^ 32)) }
-    ensures long { IfErr result (λ e. (e ≡ OutOfMemory) ⊎ ((e ≡ TooLarge)
-        × ((2 ^ 32 ≤ length table.now.smallest) ⊎ (2 ^ 32 ≤ length table.now.largest)))) }
-{
-    let smallest = table.smallest.try_copy(alloc)?;
-    let largest = table.largest.try_copy(alloc)?;
-    let file = short_file(number, smallest, largest, table.size())?;
-    Ok(file)
-}
-
-/// Puts the table of a batch into the target, and names it as the manifest does.
-fn put_logs<M: Naming, T: Shelf, R: Wait>(
-    rt: &R,
-    alloc: Global,
-    target: &mut NamedShelf<M, T>,
-    options: TableOptions,
-    batch: &Batch,
-    first: u64,
-    number: u64,
-) -> Result<AddedFile, ImportFault>
-    requires some { 0 < length batch.now }
-    requires rises { KeysRise (length batch.now) batch.now }
-    requires sequences { first + length batch.now ≤ 2 ^ 56 }
-    requires options { AreInRange options }
-    ensures file { IfOk result (IsLogFile
-        (Stored T.Receipt (T.is_of M.place) T.Receipt.number T.Receipt.image)
-        (entries_from first batch.now) number) }
-    ensures fits { IfOk result FitsAdded }
-    ensures puts { OnlyPuts target.old target.new }
-    ensures refused { IfErr result (IsTableRefusal (T.refuses M.place) options
-        (entries_from first batch.now) number) }
-{
-    let image = image_of(alloc, options, batch, first)?;
-    let table = match image.put_alone(rt, alloc, target, number) {
-        Ok(table) => table,
-        Err(fault) => return Err(ImportFault::Unwritten(fault)),
-    };
-    file_of(alloc, number, &table)
-}
-
 /// The table of a batch, on no shelf, and its file as the manifest names it.
 fn table_of(
     alloc: Global,
@@ -183,6 +132,28 @@ fn table_of(
     let (smallest, largest, image) = image.into_parts();
     let file = short_file(number, smallest, largest, image.len() as u64)?;
     Ok((file, LogTable { number, image }))
+}
+
+/// Puts the table of logs, if there is one, into the target.
+fn put_table<M: Naming, T: Shelf, R: Wait>(
+    rt: &R,
+    alloc: Global,
+    target: &mut NamedShelf<M, T>,
+    table: &Option<LogTable>,
+) -> Result<(), ImportFault>
+    ensures put { OnOk result ((number : ℕ) (image : List ℕ) → IsMade table.now number image
+        → Stored T.Receipt (T.is_of M.place) T.Receipt.number T.Receipt.image number image) }
+    ensures puts { OnlyPuts target.old target.new }
+    ensures refused { IfErr result (λ e. (t : LogTable) × (table.now ≡ Some t)
+        × IsPutRefusal (T.refuses M.place) t.number t.image.items e) }
+{
+    let Some(table) = table else {
+        return Ok(());
+    };
+    match target.put(rt, alloc, table.number, &table.image) {
+        Ok(_receipt) => Ok(()),
+        Err(fault) => Err(ImportFault::Unwritten(fault)),
+    }
 }
 
 impl Copied {
@@ -241,18 +212,8 @@ impl Copied {
         ensures refused { IfErr result
             (IsLogsRefusal (T.refuses M.place) options logs self) }
     {
-        let end = logs.end();
-        let batch = last_writes(alloc, logs.into_log())?;
-        let count = batch.len();
-        if count == 0 {
-            return Ok(self);
-        }
-        let first = first_sequence(self.last, end, count)?;
-        if self.next == u64::MAX {
-            return Err(ImportFault::NumbersSpent);
-        }
-        let file = put_logs(rt, alloc, target, options, &batch, first, self.next)?;
-        let copied = self.with_file(file, first, count)?;
+        let (copied, table) = self.with_logs(alloc, options, logs)?;
+        put_table(rt, alloc, target, &table)?;
         Ok(copied)
     }
 

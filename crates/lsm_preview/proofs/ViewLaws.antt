@@ -11,15 +11,14 @@ use Rattle.lsm_manifest.specs.LogWriting.{record_text}
 use Rattle.lsm_manifest.specs.Manifest.{IsManifest}
 use Rattle.lsm_manifest.specs.Replay.{FileAt}
 use Rattle.lsm_manifest.specs.Shape.{Form}
-use Rattle.lsm_batch.specs.declared.write.Write.{Write}
 use Rattle.lsm_wal.specs.declared.write_batch.WriteBatch.{WriteBatch}
 use Rattle.lsm_import.specs.Answers.{NoneAbove, source_answer}
-use Rattle.lsm_import.specs.Copied.{HasLogs, HasWrites}
+use Rattle.lsm_import.specs.Copied.{HasLogs}
 use Rattle.lsm_import.specs.LogTable.{IsMade}
 use Rattle.lsm_import.specs.Standing.{IsStanding}
 use Rattle.lsm_import.specs.declared.copied.Copied.{Copied}
 use Rattle.lsm_import.specs.declared.log_table.LogTable.{LogTable}
-use Rattle.lsm_import.proofs.CallerLemmas.{Law, answers_from, writes_came}
+use Rattle.lsm_import.proofs.CallerLemmas.{Law, answers_from, logs_into, writes_came}
 use Rattle.lsm_mirror.specs.Shown.{Shown}
 use Rattle.lsm_preview.specs.Preview.{AreTaken, HasMade, IsBase, IsView, entries_with, pair_of}
 use Rattle.lsm_preview.specs.Preview.{unmoved, with_tables}
@@ -58,38 +57,6 @@ made_is (Some table) number image h = cc
 
 none_is : (table : Option LogTable) → table ≡ None → pair_of table ≡ None
 none_is table is = ap pair_of is
-
-writes_into : (Into Shows : ℕ → List ℕ → Type 0)
-    → ((number : ℕ) (image : List ℕ) → Into number image → Shows number image) → (first : ℕ)
-    (batch : List Write) (old new : Copied) → HasWrites Into first batch old new
-    → HasWrites Shows first batch old new
-writes_into Into Shows shows first [] old new has = has
-writes_into Into Shows shows first (w ∷ ws) old new has =
-    let file = has.1 in (
-      has.0,
-      record {
-        image = file.image;
-        put = shows old.next file.image file.put;
-        table = file.table;
-        level = file.level;
-        number_is = file.number_is;
-        size = file.size;
-      },
-      has.2,
-    )
-
-logs_into : (Into Shows : ℕ → List ℕ → Type 0)
-    → ((number : ℕ) (image : List ℕ) → Into number image → Shows number image)
-    → (batches : List WriteBatch) (old new : Copied) → HasLogs Into batches old new
-    → HasLogs Shows batches old new
-logs_into Into Shows shows batches old new h = record {
-  batch = h.batch;
-  first = h.first;
-  last = h.last;
-  above = h.above;
-  behind = h.behind;
-  has = writes_into Into Shows shows h.first h.batch old new h.has;
-}
 
 -- ---- the view
 

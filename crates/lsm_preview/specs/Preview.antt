@@ -28,7 +28,7 @@ use Rattle.lsm_log_files.specs.Source.{IsNoSource, IsSource}
 use Rattle.lsm_log_files.specs.declared.source_fault.SourceFault.{SourceFault}
 use Rattle.lsm_mirror.specs.Shown.{Shown, shown_of}
 use Rattle.lsm_preview.specs.Tables.{AreNotPlain, AreShownFiles}
-use Rattle.lsm_preview.specs.declared.preview.Preview.{Preview}
+use Rattle.lsm_preview.specs.declared.seen.Preview.{Preview}
 use Rattle.lsm_preview.specs.declared.preview_fault.PreviewFault.{PreviewFault}
 use Rattle.lsm_preview.specs.declared.preview_fault.PreviewFault.TheVariants.{OutOfMemory, Unread}
 use Rattle.lsm_preview.specs.declared.preview_fault.PreviewFault.TheVariants.{Unlisted, Unmade}

@@ -8,7 +8,7 @@ ghost use Rattle.lsm_shelf.specs.Told.{Told};
 ghost use Rattle.lsm_directory.specs.declared.folder.folder_file.FolderFile.{FolderFile};
 ghost use Rattle.lsm_import.specs.Answers.{NoneAbove, source_answer};
 ghost use Rattle.lsm_preview.specs.Preview.{IsPreview, entries_with};
-ghost use Rattle.lsm_preview.specs.declared.preview.Preview.{Preview};
+ghost use Rattle.lsm_preview.specs.declared.seen.Preview.{Preview};
 ghost use Rattle.lsm_preview.specs.declared.sight.Sight.{Sight};
 
 use lsm_import::copies_answer;

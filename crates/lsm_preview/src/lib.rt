@@ -7,8 +7,8 @@
 #![tactic(auto)]
 
 // How it is seen, what is given, and why not.
-mod preview;
 mod preview_fault;
+mod seen;
 mod sight;
 
 // The database as it stands, its tables, its view.
@@ -20,7 +20,7 @@ mod tables;
 mod laws;
 
 pub use laws::preview_answers;
-pub use preview::Preview;
 pub use preview_fault::PreviewFault;
 pub use previewing::preview;
+pub use seen::Preview;
 pub use sight::Sight;

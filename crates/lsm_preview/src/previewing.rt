@@ -11,8 +11,8 @@ ghost use Rattle.lsm_preview.specs.Preview.{pair_of};
 ghost use Rattle.lsm_preview.specs.Tables.{OnlyLooks};
 
 use crate::base::base_of;
-use crate::preview::Preview;
 use crate::preview_fault::PreviewFault;
+use crate::seen::Preview;
 use crate::sight::Sight;
 use crate::tables::shown;
 use lsm_directory::FolderFile;
