@@ -1,3 +1,4 @@
 pub mod LooksLaws
 pub mod TableLaws
 pub mod ViewLaws
+pub mod VersionLaws

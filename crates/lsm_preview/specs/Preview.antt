@@ -1,19 +1,24 @@
 -- A database seen as `lsm recover` and `lsm import` would leave it, with nothing written (LevelDB's
 -- `doc/impl.md`, "Recovery", and `DBImpl::RecoverLogFile`; that it is seen so is this project's
 -- rule).
-use Rattle.std.specs.Prelude.{◌≡◌, ◌⊎◌, ℕ, ◌<◌, Bool, true, false, IsTrue, List, [], ◌∷◌, ◌++◌}
-use Rattle.std.specs.Prelude.{length, Option, Some, None}
+use Rattle.std.specs.Prelude.{◌≡◌, ◌⊎◌, ◌↔◌, ℕ, ◌<◌, Bool, true, false, IsTrue, List, [], ◌∷◌}
+use Rattle.std.specs.Prelude.{◌++◌, length, All, Option, Some, None}
+use Rattle.lsm_codec.specs.Lists.{Has}
 use Rattle.lsm_codec.specs.Entries.{Entry}
 use Rattle.lsm_folder.specs.Calls.{Call}
 use Rattle.lsm_shelf.specs.Asked.{Asked, ListTables}
 use Rattle.lsm_shelf.specs.Told.{Becomes, Told, listing}
 use Rattle.lsm_shelf.specs.declared.shelf_fault.ShelfFault.{ShelfFault}
+use Rattle.lsm_manifest.specs.EditFit.{Change}
 use Rattle.lsm_manifest.specs.EditWriting.{edit_text}
 use Rattle.lsm_manifest.specs.LogWriting.{record_text}
 use Rattle.lsm_manifest.specs.Manifest.{IsManifest}
 use Rattle.lsm_manifest.specs.Replay.{FileAt}
-use Rattle.lsm_manifest.specs.Shape.{Form}
+use Rattle.lsm_manifest.specs.Shape.{Form, IsReplayed}
 use Rattle.lsm_manifest.specs.WholeEdit.{whole_edit}
+use Rattle.lsm_model.specs.Files.{File, all_entries}
+use Rattle.lsm_verify.specs.CheckRefusal.{IsOfShape}
+use Rattle.lsm_version.specs.Versions.{IsSound, Levels, files}
 use Rattle.lsm_batch.specs.Batches.{entries_from}
 use Rattle.lsm_wal.specs.declared.write_batch.WriteBatch.{WriteBatch}
 use Rattle.lsm_directory.specs.declared.folder.folder_file.FolderFile.{FolderFile}
@@ -26,7 +31,7 @@ use Rattle.lsm_import.specs.declared.log_table.LogTable.{LogTable}
 use Rattle.lsm_log_files.specs.Logs.{AreLogs}
 use Rattle.lsm_log_files.specs.Source.{IsNoSource, IsSource}
 use Rattle.lsm_log_files.specs.declared.source_fault.SourceFault.{SourceFault}
-use Rattle.lsm_mirror.specs.Shown.{Shown, shown_of}
+use Rattle.lsm_mirror.specs.Shown.{IsBeside, IsShown, Shown, shown_of}
 use Rattle.lsm_preview.specs.Tables.{AreNotPlain, AreShownFiles}
 use Rattle.lsm_preview.specs.declared.seen.Preview.{Preview}
 use Rattle.lsm_preview.specs.declared.preview_fault.PreviewFault.{PreviewFault}
@@ -111,6 +116,33 @@ abbrev pub entries_with : {From : ℕ → List ℕ → Type 0} {inflates : Bool}
     {logs : List ℕ} {batches : List WriteBatch} {shown : Shown} {entries : ℕ} {was is : Told}
     → IsView From inflates shape logs batches shown entries was is → List Entry → List Entry
 entries_with view es = entries_from view.brought.first view.brought.batch ++ es
+
+-- ---- a version that is read of a view
+
+-- Each table of the version is one that is shown. `From` says which images the shelf below holds.
+abbrev pub AreShownIn : (ℕ → List ℕ → Type 0) → Shown → Levels → Type 0
+AreShownIn From shown v = All (All (λ t. IsShown From shown t.number t.image)) v.tables
+
+-- the entries of all its tables
+abbrev pub entries_of : Levels → List Entry
+entries_of v = all_entries (files v)
+
+-- these are the entries of those of the version's tables that lie on the shelf below
+abbrev pub AreBelow : Shown → Levels → List Entry → Type 0
+AreBelow shown v es = (e : Entry) → Has es e
+    ↔ ((F : File) × Has (files v) F × Has F.entries e × IsBeside shown.made F.number)
+
+-- The version was read of what the view shows: of its manifest, whose edits come to this shape, for
+-- each file of which it has a table that is shown. It is sound.
+pub record IsReadOf (From : ℕ → List ℕ → Type 0) (shown : Shown) (v : Levels) : Type 0 where
+  pub edits : List Change
+  pub rest : ℕ
+  pub manifest : IsManifest shown.manifest edits rest
+  pub shape : Form
+  pub replayed : IsReplayed edits shape
+  pub of_shape : IsOfShape shape v
+  pub given : AreShownIn From shown v
+  pub sound : IsSound v
 
 -- ---- refusals
 

@@ -7,11 +7,16 @@ ghost use Rattle.lsm_folder.specs.Calls.{Call};
 ghost use Rattle.lsm_shelf.specs.Told.{Told};
 ghost use Rattle.lsm_directory.specs.declared.folder.folder_file.FolderFile.{FolderFile};
 ghost use Rattle.lsm_import.specs.Answers.{NoneAbove, source_answer};
-ghost use Rattle.lsm_preview.specs.Preview.{IsPreview, entries_with};
+ghost use Rattle.lsm_mirror.specs.Shown.{shown_of};
+ghost use Rattle.lsm_version.specs.Versions.{Levels};
+ghost use Rattle.lsm_preview.specs.Preview.{AreBelow, IsPreview, IsReadOf, entries_of};
+ghost use Rattle.lsm_preview.specs.Preview.{entries_with};
 ghost use Rattle.lsm_preview.specs.declared.seen.Preview.{Preview};
 ghost use Rattle.lsm_preview.specs.declared.sight.Sight.{Sight};
 
 use lsm_import::copies_answer;
+use lsm_manifest::one_manifest;
+use lsm_table::entries_are;
 
 /// A law: what a view answers at its last sequence. Where tables have these entries, none of them
 /// above the last sequence of the manifest that was read, the view has the logs' last writes beside
@@ -26,4 +31,19 @@ pub fn preview_answers()
         ≡ source_answer es p.shape.last p.batches key }
 {
     copies_answer();
+}
+
+/// A law: so answers a version that was read of what a view shows. Of its tables those that lie on
+/// the shelf have these entries, none of them above the last sequence of the manifest that was read.
+pub fn versions_answer()
+    ensures { (From : ℕ → List ℕ → Type 0) (sight : Sight) (files : List FolderFile)
+        (preview : Preview) (old new : List Call) (was is : Told)
+        (p : IsPreview From sight files preview old new was is) (v : Levels)
+        → IsReadOf From (shown_of preview.view) v → (es : List Entry)
+        → AreBelow (shown_of preview.view) v es → NoneAbove p.shape.last es → (key : UserKey)
+        → answer (entries_of v) key v.last ≡ source_answer es p.shape.last p.batches key }
+{
+    copies_answer();
+    one_manifest();
+    entries_are();
 }

@@ -19,7 +19,7 @@ mod tables;
 // What a view answers.
 mod laws;
 
-pub use laws::preview_answers;
+pub use laws::{preview_answers, versions_answer};
 pub use preview_fault::PreviewFault;
 pub use previewing::preview;
 pub use seen::Preview;
