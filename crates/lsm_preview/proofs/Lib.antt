@@ -1,4 +1,5 @@
 pub mod LooksLaws
 pub mod TableLaws
 pub mod ViewLaws
+pub mod PlacedLaws
 pub mod VersionLaws

@@ -8,13 +8,20 @@ use Rattle.std.proofs.lemmas.List.Elements.{All-cons, All-nil}
 use Rattle.lsm_codec.specs.Lists.{Has}
 use Rattle.lsm_codec.specs.Entries.{Entry}
 use Rattle.lsm_codec.proofs.CallerLemmas.{all_at, has_cases}
+use Rattle.lsm_shelf.specs.Asked.{Asked}
+use Rattle.lsm_shelf.specs.declared.shelf_fault.ShelfFault.{ShelfFault}
 use Rattle.lsm_table.specs.Table.{IsImage}
 use Rattle.lsm_table.specs.declared.table_options.TableOptions.{TableOptions}
 use Rattle.lsm_manifest.specs.EditFit.{FitsAdded, FitsKey}
+use Rattle.lsm_manifest.specs.FileOrder.{TableFile}
 use Rattle.lsm_manifest.specs.Replay.{FileAt}
 use Rattle.lsm_inflate.specs.PackedReading.{inflated_at}
 use Rattle.lsm_inflate.specs.PackedTable.{IsPackedTable}
 use Rattle.lsm_import.specs.Copied.{IsFitting, usual}
+use Rattle.lsm_import.specs.Copies.{IsCopyRefusal, IsPackedRefusal}
+use Rattle.lsm_import.specs.LogTable.{NoneRefuses}
+use Rattle.lsm_import.specs.declared.import_fault.ImportFault.{ImportFault}
+use Rattle.lsm_import.specs.declared.import_fault.ImportFault.TheVariants as fault
 use Rattle.lsm_import.specs.declared.copied.Copied.{Copied}
 use Rattle.lsm_mirror.specs.Shown.{plain_or, shown_image}
 use Rattle.lsm_preview.specs.Preview.{with_tables}
@@ -188,3 +195,25 @@ plain_tables From inflates base c lent files is q step so = (
   subst (λ (b : Bool). AreShownFiles From b base.edit.added files) (sym is)
       (subst (λ (fs : List FileAt). Shown From fs files) q so),
 )
+
+-- ---- refusals
+
+pub packed_refused : (From : ℕ → List ℕ → Type 0) (Denied : Asked → ShelfFault → Type 0)
+    (file : TableFile) (packed lent : List ℕ) (options : TableOptions) (e : ImportFault)
+    → lent ≡ packed → options ≡ usual → From file.number packed
+    → IsPackedRefusal options file lent e → IsCopyRefusal From Denied NoneRefuses usual file e
+packed_refused From Denied file packed lent options e p q held h =
+    at e (subst (λ (o : TableOptions). IsPackedRefusal o file packed e) q
+    (subst (λ (b : List ℕ). IsPackedRefusal options file b e) p h))
+  where
+    at : (e : ImportFault) → IsPackedRefusal usual file packed e
+        → IsCopyRefusal From Denied NoneRefuses usual file e
+    at fault.OutOfMemory h = tt
+    at (fault.Unread n e) h = absurd h
+    at (fault.Packed n e) h = (packed, held, h)
+    at (fault.WrongRange n) h = (packed, held, h)
+    at (fault.Unwritten e) h = absurd h
+    at fault.TooLarge h = absurd h
+    at fault.SequencesSpent h = absurd h
+    at fault.NumbersSpent h = absurd h
+    at (fault.Replay e) h = absurd h

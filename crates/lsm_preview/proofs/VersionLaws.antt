@@ -18,7 +18,7 @@ use Rattle.lsm_manifest.specs.Replay.{FileAt, last_sequence}
 use Rattle.lsm_manifest.specs.Shape.{Form, IsReplayed}
 use Rattle.lsm_model.proofs.CallerLemmas.{one_each, same_answer}
 use Rattle.lsm_model.specs.Files.{File, all_entries}
-use Rattle.lsm_version.proofs.CallerLemmas.{file_in, has_all, in_files}
+use Rattle.lsm_version.proofs.CallerLemmas.{file_in, in_files}
 use Rattle.lsm_version.specs.Versions.{Levels, file_of, files, files_from, level_in}
 use Rattle.lsm_verify.specs.CheckRefusal.{IsOfShape}
 use Rattle.lsm_verify.specs.CheckedFiles.{IsFileOf}
@@ -33,6 +33,7 @@ use Rattle.lsm_import.proofs.CallerLemmas.{Law}
 use Rattle.lsm_mirror.specs.Shown.{IsBeside, IsShown, Shown}
 use Rattle.lsm_preview.specs.Preview.{AreBelow, AreShownIn, HasMade, IsBase, IsReadOf, IsView}
 use Rattle.lsm_preview.specs.Preview.{entries_of, entries_with, with_tables}
+use Rattle.lsm_preview.proofs.PlacedLaws.{all_placed}
 use Rattle.lsm_preview.proofs.ViewLaws.{view_answers}
 
 -- ---- laws below
@@ -125,17 +126,17 @@ table_at_zero last (fs ∷ shape) (ts ∷ read) tables are placed f h =
     let found = table_for last fs ts are.0 f h in (
       found.0,
       subst (λ (levels : List (List Table)). Has (level_in levels 0) found.0) (sym placed)
-          (has_all ts [] found.0 (inl found.1)),
+          (all_placed ts [] found.0 (inl found.1)),
       found.2,
     )
 
 -- ---- the table of the logs
 
-number_or : Option (ℕ × List ℕ) → ℕ
+abbrev number_or : Option (ℕ × List ℕ) → ℕ
 number_or None = 0
 number_or (Some made) = made.0
 
-image_or : Option (ℕ × List ℕ) → List ℕ
+abbrev image_or : Option (ℕ × List ℕ) → List ℕ
 image_or None = []
 image_or (Some made) = made.1
 

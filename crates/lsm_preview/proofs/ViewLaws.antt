@@ -5,7 +5,10 @@ use Rattle.std.specs.Prelude.{Bool, Option, Some, None}
 use Rattle.lsm_codec.specs.Entries.{Entry, answer}
 use Rattle.lsm_codec.specs.Keys.{UserKey}
 use Rattle.lsm_shelf.proofs.CallerLemmas.{becomes_same, becomes_then}
+use Rattle.lsm_shelf.specs.Asked.{Asked}
 use Rattle.lsm_shelf.specs.Told.{Becomes, Told}
+use Rattle.lsm_shelf.specs.declared.shelf_fault.ShelfFault.{ShelfFault}
+use Rattle.lsm_table.specs.declared.table_options.TableOptions.{TableOptions}
 use Rattle.lsm_manifest.specs.EditWriting.{edit_text}
 use Rattle.lsm_manifest.specs.LogWriting.{record_text}
 use Rattle.lsm_manifest.specs.Manifest.{IsManifest}
@@ -13,16 +16,18 @@ use Rattle.lsm_manifest.specs.Replay.{FileAt}
 use Rattle.lsm_manifest.specs.Shape.{Form}
 use Rattle.lsm_wal.specs.declared.write_batch.WriteBatch.{WriteBatch}
 use Rattle.lsm_import.specs.Answers.{NoneAbove, source_answer}
-use Rattle.lsm_import.specs.Copied.{HasLogs}
-use Rattle.lsm_import.specs.LogTable.{IsMade}
+use Rattle.lsm_import.specs.Copied.{HasLogs, IsLogsRefusal, usual}
+use Rattle.lsm_import.specs.LogTable.{IsMade, NoneRefuses}
 use Rattle.lsm_import.specs.Standing.{IsStanding}
 use Rattle.lsm_import.specs.declared.copied.Copied.{Copied}
+use Rattle.lsm_import.specs.declared.import_fault.ImportFault.{ImportFault}
 use Rattle.lsm_import.specs.declared.log_table.LogTable.{LogTable}
 use Rattle.lsm_import.proofs.CallerLemmas.{Law, answers_from, logs_into, writes_came}
 use Rattle.lsm_mirror.specs.Shown.{Shown}
-use Rattle.lsm_preview.specs.Preview.{AreTaken, HasMade, IsBase, IsView, entries_with, pair_of}
-use Rattle.lsm_preview.specs.Preview.{unmoved, with_tables}
+use Rattle.lsm_preview.specs.Preview.{AreTaken, HasMade, IsBase, IsNoView, IsView, entries_with}
+use Rattle.lsm_preview.specs.Preview.{pair_of, unmoved, with_tables}
 use Rattle.lsm_preview.specs.Tables.{AreShownFiles}
+use Rattle.lsm_preview.specs.declared.preview_fault.PreviewFault.TheVariants.{Unmade}
 
 -- ---- the database as it stands
 
@@ -76,26 +81,52 @@ pub view_from : (From : ℕ → List ℕ → Type 0) (inflates : Bool) (shape : 
     → shown.inflates ≡ inflates → IsView From inflates shape logs batches shown entries was is
 view_from From inflates shape logs batches was mid is base tables whole table shown entries stands
     more writes (files, same, so) has none made counted bytes manifest plain =
-    let shows : (number : ℕ) (image : List ℕ) → IsMade table number image
-    → HasMade shown number image = λ number image h. made ∙ made_is table number image h in
-    let logs_are : HasLogs (IsMade table) batches (with_tables base files) whole =
-    subst (λ (c : Copied). HasLogs (IsMade table) batches c whole) same has in
-    record {
+    view_of (logs_into (IsMade table) (HasMade shown)
+    (λ number image h. made ∙ made_is table number image h) batches (with_tables base files) whole
+    (subst (λ (c : Copied). HasLogs (IsMade table) batches c whole) same has))
+  where
+    view_of : HasLogs (HasMade shown) batches (with_tables base files) whole
+        → IsView From inflates shape logs batches shown entries was is
+    view_of brought = record {
       base = base;
       stands = base_then shape logs base was mid is stands more;
       tables = files;
       files = so;
       whole = whole;
-      brought =
-          logs_into (IsMade table) (HasMade shown) shows batches (with_tables base files) whole
-          logs_are;
+      brought = brought;
       none = λ unchanged. made ∙ none_is table (none (unchanged ∙ sym same));
-      counted = counted ∙ writes_came (IsMade table) batches (with_tables base files) whole writes
-          logs_are;
+      counted = counted ∙ writes_came (HasMade shown) batches (with_tables base files) whole writes
+          brought;
       bytes = bytes;
       manifest = subst (λ (b : List ℕ). IsManifest b (whole.edit ∷ []) 0) (sym bytes) manifest;
       plain = plain;
     }
+
+-- tables that are shown, and the logs' writes do not come in
+pub logs_unshown : (From : ℕ → List ℕ → Type 0) (Denied : Asked → ShelfFault → Type 0)
+    (inflates : Bool) (shape : Form) (logs : List ℕ) (batches : List WriteBatch)
+    (was mid is : Told) (base tables : Copied) (options : TableOptions) (e : ImportFault)
+    → IsBase shape logs base was mid → Becomes mid is → IsShownSo From inflates base tables
+    → options ≡ usual → IsLogsRefusal NoneRefuses options batches tables e
+    → IsNoView From Denied inflates shape logs batches was (Unmade e)
+logs_unshown From Denied inflates shape logs batches was mid is base tables options e stands more
+    (files, same, so) usually want =
+    inr (
+      base,
+      is,
+      base_then shape logs base was mid is stands more,
+      (
+        e,
+        refl,
+        inr (
+          files,
+          so,
+          subst (λ (o : TableOptions).
+              IsLogsRefusal NoneRefuses o batches (with_tables base files) e) usually
+              (subst (λ (c : Copied). IsLogsRefusal NoneRefuses options batches c e) same want),
+        ),
+      ),
+    )
 
 pub view_answers : Law → (From : ℕ → List ℕ → Type 0) (inflates : Bool) (shape : Form)
     (logs : List ℕ) (batches : List WriteBatch) (shown : Shown) (entries : ℕ) (was is : Told)

@@ -26,8 +26,8 @@ pub record OnlyLooks (old new : Told) : Type 0 where
   pub forks : new.forks ≡ old.forks
   pub made : new.made ≡ old.made
 
--- What is shown of the images of a shelf: these, or their plain tables. `From` says which images the
--- shelf holds under which numbers.
+-- What is shown of the images of a shelf: these, or their plain tables. `From` says which images
+-- the shelf holds under which numbers.
 abbrev pub Shows : (ℕ → List ℕ → Type 0) → Bool → ℕ → List ℕ → Type 0
 Shows From inflates number image =
     (packed : List ℕ) × From number packed × (image ≡ shown_image inflates packed)

@@ -1,10 +1,9 @@
 //! The database of a view, as its manifest and its logs leave it.
 
-ghost use Rattle.std.specs.Prelude.{◌≡◌, ◌<◌, length, IfErr, IfOk};
+ghost use Rattle.std.specs.Prelude.{◌≡◌, IfErr, IfOk};
 ghost use Rattle.lsm_manifest.specs.Shape.{IsShape};
 ghost use Rattle.lsm_manifest.specs.WholeEdit.{FitsShape};
 ghost use Rattle.lsm_import.specs.Copied.{IsFitting};
-ghost use Rattle.lsm_import.specs.declared.import_fault.ImportFault.TheVariants as import;
 ghost use Rattle.lsm_preview.specs.Preview.{AreTaken, IsBase, IsNoBase, IsUnlisted, unmoved};
 ghost use Rattle.lsm_preview.specs.Tables.{OnlyLooks};
 
@@ -68,7 +67,8 @@ pub(crate) fn base_of<N: Naming, S: Shelf, R: Wait>(
     ensures looks { OnlyLooks shelf.old shelf.new }
     ensures refused { IfErr result (IsNoBase (S.refuses N.place) shape.now logs.items shelf.old) }
 {
-    if logs.is_empty() {
+    let count = logs.len();
+    if count == 0 {
         let base = unmoved(alloc, shape)?;
         return Ok(base);
     }

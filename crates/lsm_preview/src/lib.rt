@@ -1,5 +1,5 @@
-//! A database seen as it would be with the writes of its logs, and with its tables plain. Nothing is
-//! written.
+//! A database seen as it would be with the writes of its logs, and with its tables plain. Nothing
+//! is written.
 //!
 //! Stands on `lsm_log_files` for the manifest and the logs, on `lsm_import` for the table of the
 //! logs and the plain ones, and on `lsm_mirror` for what is shown. Its contract: `preview` gives a

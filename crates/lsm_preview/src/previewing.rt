@@ -64,9 +64,15 @@ fn view_of<N: Naming, S: Shelf, R: Wait>(
         (Stored S.Receipt (S.is_of N.place) S.Receipt.number S.Receipt.image) (S.refuses N.place)
         inflates read.shape read.numbers.items read.logs shelf.old) }
 {
-    let base = base_of(rt, alloc, shelf, &read.shape, read.numbers)?;
+    let SourceRead {
+        shape,
+        numbers,
+        logs,
+        rest,
+    } = read;
+    let base = base_of(rt, alloc, shelf, &shape, numbers)?;
     let tables = shown(rt, alloc, shelf, base, inflates)?;
-    let (whole, table) = tables.with_logs(alloc, TableOptions::usual(), read.logs)?;
+    let (whole, table) = tables.with_logs(alloc, TableOptions::usual(), logs)?;
     let manifest = manifest_bytes(alloc, &whole.edit)?;
     Ok(Preview {
         view: View {
@@ -74,7 +80,7 @@ fn view_of<N: Naming, S: Shelf, R: Wait>(
             made: made_of(table),
             inflates,
         },
-        rest: read.rest,
+        rest,
         entries: whole.writes,
     })
 }

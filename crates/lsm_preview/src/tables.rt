@@ -1,6 +1,6 @@
 //! The tables of a view, with their sizes.
 
-ghost use Rattle.std.specs.Prelude.{◌≡◌, ℕ, List, false, true, IfErr, IfOk, IsTrue};
+ghost use Rattle.std.specs.Prelude.{◌≡◌, List, length, IfErr, IfOk, IsTrue};
 ghost use Rattle.lsm_codec.specs.Entries.{Entry};
 ghost use Rattle.lsm_shelf.specs.Stored.{Stored};
 ghost use Rattle.lsm_shelf.specs.Told.{Becomes};
@@ -17,11 +17,11 @@ use lsm_table::{NamedShelf, Naming, Shelf, TableOptions};
 use std::alloc::{AllocError, Global};
 use std::sync::Wait;
 
-/// The same file with this size.
-fn sized(alloc: Global, file: &AddedFile, size: u64) -> Result<AddedFile, AllocError>
+/// The same file with the size of this table.
+fn sized(alloc: Global, file: &AddedFile, table: &[u8]) -> Result<AddedFile, AllocError>
     ensures level { IfOk result (λ f. f.level ≡ file.now.level) }
     ensures number { IfOk result (λ f. f.file.number ≡ file.now.file.number) }
-    ensures size { IfOk result (λ f. f.file.size ≡ size) }
+    ensures size { IfOk result (λ f. f.file.size ≡ length table.now) }
     ensures smallest { IfOk result (λ f. f.file.smallest ≡ file.now.file.smallest) }
     ensures largest { IfOk result (λ f. f.file.largest ≡ file.now.file.largest) }
 {
@@ -29,7 +29,7 @@ fn sized(alloc: Global, file: &AddedFile, size: u64) -> Result<AddedFile, AllocE
         level: file.level,
         file: FileMeta {
             number: file.file.number,
-            size,
+            size: table.len() as u64,
             smallest: file.file.smallest.try_copy(alloc)?,
             largest: file.file.largest.try_copy(alloc)?,
         },
@@ -58,7 +58,7 @@ fn plain_file<N: Naming, S: Shelf, R: Wait>(
         return Err(ImportFault::WrongRange(file.file.number));
     }
     let plain = plain_of(alloc, TableOptions::usual(), &file.file, &packed)?;
-    let shown = sized(alloc, file, plain.len() as u64)?;
+    let shown = sized(alloc, file, &plain)?;
     Ok(shown)
 }
 
