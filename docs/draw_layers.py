@@ -74,6 +74,7 @@ CRATES = {
     "lsm_codec": ("file", "numbers, keys, checksums"),
     "lsm_snappy": ("file", "raw Snappy, read"),
     "lsm_inflate": ("file", "Snappy's tables made plain"),
+    "lsm_mirror": ("file", "a shelf, as it is shown"),
     "lsm_shelf": ("file", "what a shelf promises"),
     "lsm_finding": ("file", "tables found, unread"),
     "lsm_block": ("file", "blocks"),

@@ -64,8 +64,8 @@ IsBeside made number = IfSome made (λ m. m.0 ≢ number)
 -- that lies below.
 abbrev pub IsShown : (Below : ℕ → List ℕ → Type 0) → Shown → ℕ → List ℕ → Type 0
 IsShown Below shown number image = (shown.made ≡ Some (number, image))
-    ⊎ (IsBeside shown.made number × ((packed : List ℕ) × Below number packed
-    × CanBeShown shown.inflates packed × (image ≡ shown_image shown.inflates packed)))
+    ⊎ (IsBeside shown.made number × (packed : List ℕ) × Below number packed
+    × CanBeShown shown.inflates packed × (image ≡ shown_image shown.inflates packed))
 
 -- ---- what was told
 

@@ -1,7 +1,7 @@
 //! How often a mirror refused.
 
-ghost use Rattle.std.specs.Prelude.{◌≡◌, ◌≤◌, IfErr};
-ghost use Rattle.lsm_shelf.specs.Told.{Told, Counted, CountedBy};
+ghost use Rattle.std.specs.Prelude.{◌≡◌, ◌≤◌, OnOk};
+ghost use Rattle.lsm_shelf.specs.Told.{Told, CountedBy};
 ghost use Rattle.lsm_mirror.specs.Counts.{with_counts};
 
 use lsm_shelf::ShelfFault;
@@ -17,12 +17,11 @@ impl Counts {
     /// Counts a refusal, once. A count stays at its last value.
     pub(crate) fn count<T: Drop>(&mut self, outcome: Result<T, ShelfFault>) -> Result<T, ShelfFault>
         ensures same { result ≡ outcome }
+        ensures ok { OnOk result (self.new ≡ self.old) }
         ensures faults { self.old.faults ≤ self.new.faults }
         ensures misses { self.old.misses ≤ self.new.misses }
         ensures counts { (was is : Told)
             → CountedBy result (with_counts self.old was) (with_counts self.new is) }
-        ensures cause { IfErr result (λ e. (was is : Told)
-            → Counted e (with_counts self.old was) (with_counts self.new is)) }
     {
         match &outcome {
             Err(ShelfFault::Device) => self.faults = self.faults.saturating_add(1),

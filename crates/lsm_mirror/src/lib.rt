@@ -17,7 +17,6 @@ mod plain_receipt;
 
 // Plain tables, and those that are held.
 mod held_table;
-mod held_tables;
 mod part;
 mod plain;
 
@@ -26,9 +25,8 @@ mod as_shelf;
 mod counts;
 mod laws;
 mod mirror;
-mod uncounted;
 
-pub use held_tables::MAX_HELD;
+pub use held_table::MAX_HELD;
 pub use laws::stored_is_shown;
 pub use mirror::Mirror;
 pub use mirror_receipt::MirrorReceipt;

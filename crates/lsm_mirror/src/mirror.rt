@@ -5,9 +5,8 @@ ghost use Rattle.std.specs.Arc.{arc_value};
 ghost use Rattle.lsm_mirror.specs.Shown.{shown_of, shown_told};
 
 use crate::counts::Counts;
-use crate::held_tables::HeldTables;
+use crate::held_table::HeldTable;
 use crate::mirroring::Mirroring;
-use crate::uncounted::Uncounted;
 use crate::view::View;
 use lsm_shelf::Shelf;
 use std::alloc::Global;
@@ -18,16 +17,23 @@ use std::sync::Arc;
 /// manifest, one table more, and the tables as plain ones. It writes nothing: a call that would
 /// write is refused, and nothing is asked below.
 ///
-/// It counts refusals by itself. Contracts see it as what its calls told it.
+/// It counts refusals by itself, and holds the plain tables that it made last, `MAX_HELD` at most.
+/// Contracts see it as what its calls told it.
 pub struct Mirror<V: Mirroring, S: Shelf> {
-    pub(crate) inner: Uncounted<V, S>,
+    pub(crate) shelf: S,
+    pub(crate) view: Arc<View>,
+    pub(crate) held: Vec<HeldTable<V, S>>,
+    pub(crate) next: usize,
     pub(crate) counts: Counts,
 }
 
 impl<V: Mirroring, S: Shelf> Drop for Mirror<V, S> {
     fn drop(self) {
         let Self {
-            inner: _,
+            shelf: _,
+            view: _,
+            held: _,
+            next: _,
             counts: _,
         } = self;
     }
@@ -35,12 +41,17 @@ impl<V: Mirroring, S: Shelf> Drop for Mirror<V, S> {
 
 impl<V: Mirroring, S: Shelf> Model for Mirror<V, S> {
     ghost use Rattle.std.specs.Prelude.{◌≡◌};
+    ghost use Rattle.std.specs.Arc.{arc_value};
     ghost use Rattle.lsm_shelf.specs.Told.{Told};
     ghost use Rattle.lsm_mirror.specs.Counts.{with_counts};
+    ghost use Rattle.lsm_mirror.specs.Shown.{shown_of, shown_told};
 
     ghost Value = { Told };
 
-    ghost view = { λ m. with_counts m.counts m.inner };
+    ghost view = { λ m. with_counts m.counts (shown_told V.shown (S.told m.shelf)) };
+
+    ghost invariant = { λ m. ((S.told m.shelf).place ≡ V.place)
+        × (shown_of (arc_value m.view) ≡ V.shown) };
 }
 
 impl<V: Mirroring, S: Shelf> Mirror<V, S> {
@@ -52,11 +63,10 @@ impl<V: Mirroring, S: Shelf> Mirror<V, S> {
     {
         let (faults, misses) = shelf.failures();
         Mirror {
-            inner: Uncounted {
-                shelf,
-                view,
-                held: HeldTables::new(alloc),
-            },
+            shelf,
+            view,
+            held: Vec::new(alloc),
+            next: 0,
             counts: Counts { faults, misses },
         }
     }
@@ -67,7 +77,13 @@ impl<V: Mirroring, S: Shelf> Mirror<V, S> {
             { faults = self.faults; misses = self.misses } }
         ensures place { (S.told result).place ≡ V.place }
     {
-        let Self { inner, counts: _ } = self;
-        inner.into_shelf()
+        let Self {
+            shelf,
+            view: _,
+            held: _,
+            next: _,
+            counts: _,
+        } = self;
+        shelf
     }
 }

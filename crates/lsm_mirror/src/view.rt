@@ -1,5 +1,8 @@
 //! What a mirror shows, as data.
 
+ghost use Rattle.std.specs.Prelude.{◌≡◌, Some, MatchOption};
+ghost use Rattle.lsm_mirror.specs.Shown.{IsBeside, made_of};
+
 /// A table that lies nowhere.
 #[derive(Drop)]
 pub struct MadeTable {
@@ -18,4 +21,18 @@ pub struct View {
     pub made: Option<MadeTable>,
     /// Whether the tables below are shown as the plain tables that `lsm_inflate` makes of them.
     pub inflates: bool,
+}
+
+impl View {
+    /// The table that lies nowhere, where it has this number.
+    pub(crate) fn made_at(&self, number: u64) -> Option<&MadeTable>
+        ensures { MatchOption result (IsBeside (made_of self.now.made) number)
+            (λ m. (m.now.number ≡ number)
+            × (made_of self.now.made ≡ Some (m.now.number, m.now.image.items))) }
+    {
+        match &self.made {
+            Some(made) if made.number == number => Some(made),
+            _ => None,
+        }
+    }
 }

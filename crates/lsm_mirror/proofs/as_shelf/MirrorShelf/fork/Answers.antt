@@ -1,0 +1,28 @@
+use Rattle.std.proofs.Common.{refl, sym}
+use Rattle.std.proofs.lemmas.Result.{err_from_is_err_and}
+use Rattle.std.specs.Prelude.{Err}
+use Rattle.lsm_shelf.specs.Told.{NotNamed}
+use Rattle.lsm_mirror.proofs.ToldLaws.{caused, counted}
+use Rattle.lsm_mirror.proofs.as_shelf.MirrorShelf.fork.Goals as goal
+
+pub returns-in_err-count-clause-cause : goal.returns-in_err-count-clause-cause
+returns-in_err-count-clause-cause g c =
+    let p = err_from_is_err_and c.from_residual-in_err-count.result
+    c.from_residual-in_err-count.ensures.1 in
+    rw (p.1, p.2) (caused g.V.Mirroring.shown c.self.inside.counts c.self.inside.counts
+    c.count.new.self
+    (g.S.Shelf.told c.self.inside.shelf) (g.S.Shelf.told c.fork-forked.new.self) c.args.self.now
+    c.self.view_is
+    refl {T = Unit {0}} NotNamed (Err c.in_err-count.field-0.0)
+    (rw (sym c.in_err-count.ensures.same) at c.fork-forked.ensures.cause).0
+    c.in_err-count.ensures.counts)
+
+pub returns-in_err-count-clause-counts : goal.returns-in_err-count-clause-counts
+returns-in_err-count-clause-counts g c =
+    let p = err_from_is_err_and c.from_residual-in_err-count.result
+    c.from_residual-in_err-count.ensures.1 in
+    rw (p.1, p.2) (counted g.V.Mirroring.shown c.self.inside.counts c.self.inside.counts
+    c.count.new.self
+    (g.S.Shelf.told c.self.inside.shelf) (g.S.Shelf.told c.fork-forked.new.self) c.args.self.now
+    c.self.view_is
+    refl {T = Unit {0}} (Err c.in_err-count.field-0.0) c.in_err-count.ensures.counts)
