@@ -49,10 +49,12 @@ fn explain_table<E: Write>(err: &mut E, fault: &ImportFault) -> io::Result<()> {
         ImportFault::WrongRange(number) => {
             DirectoryFault::Tables(CheckFault::WrongRange(*number)).explain(err, &[])
         }
-        ImportFault::Packed(_, InflateFault::Table(TableFault::Compressed(_))) => writeln!(
-            err,
-            "compressed by something else than Snappy, which LevelDB can be told to use"
-        ),
+        ImportFault::Packed(_, InflateFault::Table(TableFault::Compressed(_))) => {
+            writeln!(
+                err,
+                "compressed by Zstandard: tables are made plain of Snappy's alone"
+            )
+        }
         ImportFault::Packed(_, InflateFault::Table(fault)) => {
             DirectoryFault::Read(ReadFault::Table(*fault)).explain(err, &[])
         }
