@@ -91,7 +91,10 @@ logs() {
   cp -r db db.old
   for command in "list db" "get db 7a7a" "scan db"; do
     lsm $command
-    [[ $status == 0 && $(cat err) == "note: $log.log is not flushed: its $(stat -c %s "db/$log.log") bytes are not read" ]] || stop "no such note"
+    [[ $status == 0 && $(head -1 err) == "note: $log.log is not flushed: its $(stat -c %s "db/$log.log") bytes are not read" ]] || stop "no such note"
+    [[ $(sed 1d err) == "note: --logs reads what stands there" ]] || stop "no note of --logs"
+    lsm $command --logs
+    [[ $status == 0 && ! -s err ]] || stop "--logs does not read the log"
   done
   echo '7a7a=6e6577' > batch
   refuses "refused 51 UnflushedLog $number" "$log\.log .*--beside-log" ingest db batch

@@ -8,3 +8,5 @@ mod PerformLaws
 mod NoteLaws
 mod LookedLaws
 mod QuickLaws
+mod SeenLaws
+mod SeenAnswers

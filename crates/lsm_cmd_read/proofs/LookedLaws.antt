@@ -1,5 +1,6 @@
 -- What a run that only reads says, by what its command says of the shelf that was opened.
-use Rattle.std.proofs.Common.{◌≡◌, ℕ, List, Option, IfErr, OnErr, OnOk, arith, inr}
+use Rattle.std.proofs.Common.{◌≡◌, ◌∙◌, ℕ, List, Option, IfErr, OnErr, OnOk, arith, inr}
+use Rattle.std.proofs.Common.{ap, subst, sym}
 use Rattle.std.specs.Prelude.{Result, Ok, Err}
 use Rattle.std.specs.Io.KnownBytes.{Keeps}
 use Rattle.std.proofs.KnownBytes.{Keeps-trans}
@@ -7,12 +8,14 @@ use Rattle.lsm_folder.specs.Calls.{AreHonest}
 use Rattle.lsm_folder.specs.declared.folder_calls.FolderCalls.{Ghosts}
 use Rattle.lsm_folder.specs.declared.mark.Mark as mark
 use Rattle.lsm_shelf.specs.Refusals.{MayRefuse}
+use Rattle.lsm_shelf.specs.Told.{fresh}
+use Rattle.lsm_storage.specs.FileShelf.{folder_of}
 use Rattle.lsm_storage.specs.declared.file.file_shelf.FileShelf.{FileShelf}
 use Rattle.lsm_requests.specs.declared.directory_line.DirectoryLine.{DirectoryLine}
 use Rattle.lsm_cmd_read.specs.Answers.{Asking, IsLookedInto, IsLookedIntoAsGiven, IsNotLookedInto}
 use Rattle.lsm_cmd_read.specs.Answers.{Moment, asked_by, moment}
 use Rattle.lsm_cmd_read.specs.Directory.{OnlyReads}
-use Rattle.lsm_directory.specs.Folders.{IsShelfAt, stored_at, told_by}
+use Rattle.lsm_directory.specs.Folders.{IsFolderAt, IsShelfAt, stored_at, told_by}
 use Rattle.lsm_directory.specs.Beside.{LooksBeside}
 use Rattle.lsm_cmd_read.specs.Looked.{FailsToLook, LooksAt, LooksAtGiven}
 use Rattle.lsm_directory.specs.declared.faults.directory_fault.DirectoryFault.{DirectoryFault}
@@ -45,6 +48,17 @@ module _ (Honest : Type 0) where
       }
   done_on (Err e) status asked Stored before after said told last err done kept zero =
       absurd (omega (arith, err, zero))
+
+module _ {C M : Type 0} (folders : Ghosts C M) where
+  -- a shelf on a folder that was opened
+  pub shelf_on : (path : List ℕ) (beside : Beside) (folder : C) (shelf : FileShelf C M)
+      → IsFolderAt folders path (LooksBeside beside) folder → folder_of shelf ≡ folder
+      → told_by folders shelf ≡ fresh (folders.place folder)
+      → IsShelfAt folders path (LooksBeside beside) shelf
+  shelf_on path beside folder shelf on is new = record {
+    on = subst (λ (f : C). IsFolderAt folders path (LooksBeside beside) f) (sym is) on;
+    new = new ∙ ap (λ (f : C). fresh (folders.place f)) (sym is);
+  }
 
 module _ {C M : Type 0} (folders : Ghosts C M) (marks : mark.Ghosts M) where
   pub looks_at : {T F : Type 0} (r : Result T F) (line : DirectoryLine) (beside : Beside)

@@ -1,14 +1,15 @@
 -- What is told of what is not read, where there is nothing and where there is something.
 use Rattle.std.proofs.Common.{◌≡◌, ℕ, List, [], ◌∷◌, ◌++◌, refl, ap, ◌∙◌, subst, append-nil, inl}
-use Rattle.std.proofs.Common.{inr, arith, Option, OnOk, Bool, true, false}
+use Rattle.std.proofs.Common.{inr, arith, Option, OnOk, Bool, true, false, sym}
 use Rattle.std.specs.Prelude.{Result, Ok, Err, IsFalse, None}
 use Rattle.std.specs.Io.KnownBytes.{Appends}
+use Rattle.lsm_codec.specs.Lists.{Has}
 use Rattle.lsm_version.specs.Versions.{Levels}
 use Rattle.lsm_cmd_read.specs.Answers.{AppendsRest, WritesNotes}
 use Rattle.lsm_cmd_read.specs.Listing.{IsChecked, check_text}
 use Rattle.lsm_directory.specs.Beside.{IsPlain, beside_text, later_text, later_than, rocksdb_text}
-use Rattle.lsm_directory.specs.Logs.{AppendsLogs, AreThose, IsUnread, NoneUnread, log_line}
-use Rattle.lsm_directory.specs.Logs.{log_lines, note_line}
+use Rattle.lsm_directory.specs.Logs.{AppendsLogs, AreThose, IsFirstUnread, IsUnread, NoneUnread}
+use Rattle.lsm_directory.specs.Logs.{log_line, log_lines, note_line}
 use Rattle.lsm_directory.specs.declared.folder.beside.Beside.{Beside}
 use Rattle.lsm_directory.specs.declared.folder.folder_file.FolderFile.{FolderFile}
 use Rattle.lsm_directory.specs.declared.folder.named_manifest.NamedManifest.{NamedManifest}
@@ -31,6 +32,19 @@ none_text line log prev files old new none (logs, those, text) =
 
 pub no_files : (log prev : ℕ) → NoneUnread log prev []
 no_files log prev file has = absurd has
+
+has_middle : (before : List FolderFile) (file : FolderFile) (after : List FolderFile)
+    → Has (before ++ file ∷ after) file
+has_middle [] file after = inl refl
+has_middle (x ∷ xs) file after = inr (has_middle xs file after)
+
+-- where none is unread, none is the first that is
+pub none_is_first : (log prev : ℕ) (files : List FolderFile) (n : ℕ) → NoneUnread log prev files
+    → IsFirstUnread log prev files n → ⊥
+none_is_first log prev files n none first =
+    none first.file
+    (subst (λ (fs : List FolderFile). Has fs first.file) (sym first.parts)
+    (has_middle first.before first.file first.after)) first.unread
 
 -- a folder of LevelDB alone, whose latest manifest is named, has no note of others
 no_rocksdb : (b : Bool) → IsFalse b → rocksdb_text b ≡ []

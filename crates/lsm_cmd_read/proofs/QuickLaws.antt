@@ -58,7 +58,7 @@ use Rattle.lsm_directory.specs.declared.faults.directory_fault.DirectoryFault.Th
 use Rattle.lsm_cmd_read.specs.Answers.{Asking, HasNoNote, IsLookedIntoAsGiven, IsPerformFault}
 use Rattle.lsm_cmd_read.specs.Answers.{Moment, Prints, PrintsBefore, ReliesOn, asked_by, moment}
 use Rattle.lsm_cmd_read.specs.Directory.{AreGiven, Holds, OnlyReads}
-use Rattle.lsm_cmd_read.specs.Looked.{FailsAsAsked, FailsToLook, LooksAsAsked, LooksAt}
+use Rattle.lsm_cmd_read.specs.Looked.{FailsAsItLies, FailsToLook, LooksAsItLies, LooksAt}
 use Rattle.lsm_cmd_read.specs.Looked.{LooksAtGiven, LooksQuicklyAt, kept_at}
 use Rattle.lsm_cmd_read.specs.Quick.{Admits, FailsQuickly, IsLeftOut, IsQuicklyLookedInto}
 use Rattle.lsm_cmd_read.specs.Quick.{IsStopped, IsUnadmitted, IsUnanswered, IsUndone, LooksQuickly}
@@ -382,7 +382,7 @@ module _ {C M : Type 0} (folders : Ghosts C M) (marks : mark.Ghosts M)
       (stored_at folders marks (told_by folders begun).place) (AreHonest folders.calls)
       (moment (told_by folders begun) old) (moment (told_by folders ended) new) said told)
       → OnlyReads (told_by folders begun) (told_by folders ended)
-      → OnOk r (LooksAsAsked folders marks holds line old new said told)
+      → OnOk r (LooksAsItLies folders marks holds line old new said told)
   quickly_at (Ok x) line beside begun ended old new said told quick on done reads =
       inr (
         quick,
@@ -409,7 +409,7 @@ module _ {C M : Type 0} (folders : Ghosts C M) (marks : mark.Ghosts M)
       (AreHonest folders.calls) e (moment (told_by folders begun) old)
       (moment (told_by folders ended) new))
       → OnlyReads (told_by folders begun) (told_by folders ended)
-      → IfErr r (λ e. FailsAsAsked folders marks holds line e old new)
+      → IfErr r (λ e. FailsAsItLies folders marks holds line e old new)
   quickly_fails_at (Ok x) line beside begun ended old new quick on refused reads = search
   quickly_fails_at (Err e) line beside begun ended old new quick on refused reads =
       inr (
@@ -425,29 +425,29 @@ module _ {C M : Type 0} (folders : Ghosts C M) (marks : mark.Ghosts M)
         },
       )
 
-  pub asked_from_whole : {T F : Type 0} (r : Result T F) (line : DirectoryLine)
+  pub lies_from_whole : {T F : Type 0} (r : Result T F) (line : DirectoryLine)
       (old new said told : Option (List ℕ))
       → OnOk r (LooksAtGiven folders marks line old new said told)
-      → OnOk r (LooksAsAsked folders marks holds line old new said told)
-  asked_from_whole (Ok x) line old new said told h = inl h
-  asked_from_whole (Err e) line old new said told h = search
+      → OnOk r (LooksAsItLies folders marks holds line old new said told)
+  lies_from_whole (Ok x) line old new said told h = inl h
+  lies_from_whole (Err e) line old new said told h = search
 
   pub fails_from_whole : {T : Type 0} (r : Result T DirectoryFault) (line : DirectoryLine)
       (old new : Option (List ℕ)) → IfErr r (λ e. FailsToLook folders marks line e old new)
-      → IfErr r (λ e. FailsAsAsked folders marks holds line e old new)
+      → IfErr r (λ e. FailsAsItLies folders marks holds line e old new)
   fails_from_whole (Ok x) line old new h = search
   fails_from_whole (Err e) line old new h = inl h
 
-  asked_quiet : (line : DirectoryLine) (old new said told last : Option (List ℕ))
-      → LooksAsAsked folders marks holds line old new said told → Keeps told last
-      → LooksAsAsked folders marks holds line old new said last
-  asked_quiet line old new said told last (inl h) kept =
+  pub lies_quiet : (line : DirectoryLine) (old new said told last : Option (List ℕ))
+      → LooksAsItLies folders marks holds line old new said told → Keeps told last
+      → LooksAsItLies folders marks holds line old new said last
+  lies_quiet line old new said told last (inl h) kept =
       inl record {
         looks = looks_quiet folders marks line old new said told last h.looks kept;
         given =
             h.given;
       }
-  asked_quiet line old new said told last (inr (quick, h)) kept = inr (
+  lies_quiet line old new said told last (inr (quick, h)) kept = inr (
     quick,
     record {
       beside = h.beside;
@@ -461,16 +461,6 @@ module _ {C M : Type 0} (folders : Ghosts C M) (marks : mark.Ghosts M)
       reads = h.reads;
     },
   )
-
-  pub asked_on : {T F : Type 0} (r : Result T F) (status : ℕ) (line : DirectoryLine)
-      (old new said told last : Option (List ℕ)) → OnErr r (status ≡ 1)
-      → OnOk r (LooksAsAsked folders marks holds line old new said told)
-      → (status ≡ 0 → Keeps told last) → status ≡ 0
-      → LooksAsAsked folders marks holds line old new said last
-  asked_on (Ok x) status line old new said told last err looked kept zero =
-      asked_quiet line old new said told last looked (kept zero)
-  asked_on (Err e) status line old new said told last err looked kept zero =
-      absurd (omega (arith, err, zero))
 
   abbrev pub given_of_quick : (line : DirectoryLine) (old new said told : Option (List ℕ))
       (q : LooksQuicklyAt folders marks holds line old new said told) → AreHonest folders.calls

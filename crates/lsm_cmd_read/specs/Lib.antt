@@ -6,6 +6,8 @@ pub mod Scanned
 pub mod Opening
 pub mod Answers
 pub mod Quick
+pub mod LookFault
+pub mod Seen
 pub mod Looked
 -- What private functions and proofs cite alone
 pub mod ReadFault

@@ -1,7 +1,7 @@
 -- What a command that only reads comes to, for the words of its command line: this project's rule.
 -- It is about a folder that was opened at the path of these words, and about shelves on its place;
 -- that such a shelf is the run's own is to be read.
-use Rattle.std.specs.Prelude.{◌≡◌, ◌⊎◌, ℕ, IsTrue, List, Option}
+use Rattle.std.specs.Prelude.{◌≡◌, ◌⊎◌, ℕ, IsTrue, List, MatchBool, Option}
 use Rattle.std.specs.Io.KnownBytes.{Keeps}
 use Rattle.lsm_folder.specs.Calls.{AreHonest}
 use Rattle.lsm_folder.specs.declared.folder_calls.FolderCalls.{Ghosts}
@@ -14,6 +14,9 @@ use Rattle.lsm_requests.specs.declared.directory_line.DirectoryLine.{DirectoryLi
 use Rattle.lsm_cmd_read.specs.Answers.{IsLookedInto, IsNotLookedInto, asked_by, moment}
 use Rattle.lsm_cmd_read.specs.Directory.{AreGiven, OnlyReads}
 use Rattle.lsm_cmd_read.specs.Quick.{FailsQuickly, LooksQuickly, is_quick}
+use Rattle.lsm_cmd_read.specs.Seen.{FailsToSee, SeesAt, sees_more}
+use Rattle.lsm_cmd_read.specs.declared.look_fault.LookFault.{LookFault}
+use Rattle.lsm_cmd_read.specs.declared.look_fault.LookFault.TheVariants.{Directory}
 use Rattle.lsm_directory.specs.Beside.{LooksBeside}
 use Rattle.lsm_directory.specs.Folders.{IsShelfAt, stored_at, told_by}
 use Rattle.lsm_directory.specs.Holding.{IsFolderFault}
@@ -110,15 +113,29 @@ module _ {C M : Type 0} (folders : Ghosts C M) (marks : mark.Ghosts M)
 
   -- ---- any line
 
-  -- the command was done; where the line is quick, maybe without a judgment of the tables
-  abbrev pub LooksAsAsked : DirectoryLine → (old new said_old said_new : Option (List ℕ)) → Type 0
-  LooksAsAsked line old new said_old said_new =
+  -- the command was done of the folder as it lies; where the line is quick, maybe without a
+  -- judgment of the tables
+  abbrev pub LooksAsItLies : DirectoryLine → (old new said_old said_new : Option (List ℕ)) → Type 0
+  LooksAsItLies line old new said_old said_new =
       LooksAtGiven folders marks line old new said_old said_new
       ⊎ (IsTrue (is_quick line.command line.quick)
       × LooksQuicklyAt line old new said_old said_new)
 
   -- it was not
-  abbrev pub FailsAsAsked : DirectoryLine → DirectoryFault → (old new : Option (List ℕ)) → Type 0
-  FailsAsAsked line fault old new =
+  abbrev pub FailsAsItLies : DirectoryLine → DirectoryFault → (old new : Option (List ℕ)) → Type 0
+  FailsAsItLies line fault old new =
       FailsToLook folders marks line fault old new
       ⊎ (IsTrue (is_quick line.command line.quick) × FailsQuicklyAt line fault old new)
+
+  -- the command was done of what the line sees: of logs and compressed tables too, or of the folder
+  -- as it lies
+  abbrev pub LooksAsAsked : DirectoryLine → (old new said_old said_new : Option (List ℕ)) → Type 0
+  LooksAsAsked line old new said_old said_new =
+      MatchBool (sees_more line) (SeesAt folders marks line old new said_old said_new)
+      (LooksAsItLies line old new said_old said_new)
+
+  -- it was not
+  abbrev pub FailsAsAsked : DirectoryLine → LookFault → (old new : Option (List ℕ)) → Type 0
+  FailsAsAsked line fault old new =
+      MatchBool (sees_more line) (FailsToSee folders marks line fault old new)
+      ((e : DirectoryFault) × (fault ≡ Directory e) × FailsAsItLies line e old new)

@@ -2,6 +2,13 @@
 
 ghost use Rattle.std.specs.Prelude.{◌≡◌, ◌++◌, ◌∷◌, [], List, Option, Some, ℕ};
 ghost use Rattle.base64.specs.GeneralPurpose.{IsBytes};
+ghost use Rattle.lsm_codec.specs.Entries.{Entry, answer};
+ghost use Rattle.lsm_codec.specs.Keys.{UserKey};
+ghost use Rattle.lsm_import.specs.Answers.{NoneAbove, source_answer};
+ghost use Rattle.lsm_mirror.specs.Shown.{shown_of};
+ghost use Rattle.lsm_model.specs.Files.{all_entries};
+ghost use Rattle.lsm_preview.specs.Preview.{AreBelow};
+ghost use Rattle.lsm_version.specs.Versions.{files};
 ghost use Rattle.json.specs.Json.{document};
 ghost use Rattle.lsm_model.specs.Scanning.{Pair};
 ghost use Rattle.lsm_folder.specs.Calls.{AreHonest};
@@ -15,9 +22,12 @@ ghost use Rattle.lsm_cmd_read.specs.Answers.{Asking, IsLookedIntoAsGiven, Moment
 ghost use Rattle.lsm_cmd_read.specs.JsonLines.{json_line, pair_object};
 ghost use Rattle.lsm_cmd_read.specs.Looked.{LooksAtGiven, LooksQuicklyAt, kept_at};
 ghost use Rattle.lsm_cmd_read.specs.Quick.{IsQuicklyLookedInto};
+ghost use Rattle.lsm_cmd_read.specs.Seen.{SeesAt, version_seen};
 
 use lsm_finding::Finding;
-use lsm_folder::FindingCalls;
+use lsm_folder::{FindingCalls, FolderCalls};
+use lsm_preview::versions_answer;
+use lsm_storage::FileShelf;
 
 /// A law: the line of a pair is one JSON value and a newline (10); the value is the object of the
 /// key and the value, and no other pair has this line.
@@ -49,3 +59,22 @@ pub fn quick_lines_are_whole<C: FindingCalls>()
         (told_by C.FolderCalls quick.begun).place) quick.done.0
         → LooksAtGiven C.FolderCalls C.Mark.Mark line old new said told }
 {}
+
+/// A law: of a line that sees logs or compressed tables, where the folder is honest, the version
+/// that was looked into answers of each key what LevelDB reads there. Of its tables those that lie
+/// in the folder have these entries, none of them above the last sequence of the manifest that was
+/// read; it answers the last write of the logs, if they are seen, or what these tables have.
+pub fn seen_lines_answer<C: FolderCalls + Send + Sync>()
+where
+    C::Mark: Send + Sync,
+    ensures { (line : DirectoryLine) (old new said told : Option (List ℕ))
+        (s : SeesAt C.FolderCalls C.Mark.Mark line old new said told)
+        → AreHonest C.FolderCalls.calls → (es : List Entry)
+        → AreBelow (shown_of s.seen.preview.view) (version_seen C.FolderCalls C.Mark.Mark s) es
+        → NoneAbove s.seen.is.shape.last es → (key : UserKey)
+        → answer (all_entries (files (version_seen C.FolderCalls C.Mark.Mark s))) key
+        (version_seen C.FolderCalls C.Mark.Mark s).last
+        ≡ source_answer es s.seen.is.shape.last s.seen.is.batches key }
+{
+    versions_answer::<FileShelf<C>>();
+}

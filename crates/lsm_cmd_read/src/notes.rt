@@ -8,7 +8,7 @@ ghost use Rattle.lsm_directory.specs.Beside.{IsPlain};
 ghost use Rattle.lsm_directory.specs.Logs.{NoneUnread};
 
 use lsm_directory::{
-    Beside, FolderFile, NamedManifest, Wording, push_beside, push_logs, push_rest,
+    Beside, FolderFile, NamedManifest, Wording, first_unread, push_beside, push_logs, push_rest,
 };
 use lsm_requests::DirectoryCommand;
 use std::alloc::{AllocError, Global};
@@ -65,6 +65,53 @@ fn write_notes<E: Write>(
     write_lines(text.as_slice(), err)
 }
 
+/// Writes by what the logs among these are read that are not, where there are any.
+#[tactic(auto, using(crate::proofs::NoteLaws::none_is_first))]
+fn write_cure<E: Write>(manifest: NamedManifest, logs: &[FolderFile], err: &mut E) -> io::Result<()>
+    ensures quiet { NoneUnread manifest.log manifest.prev_log logs.now
+        → Keeps (E.contents err.old) (E.contents err.new) }
+{
+    match first_unread(logs, manifest.log, manifest.prev_log) {
+        Some(_) => write_lines(b"note: --logs reads what stands there\n", err),
+        None => Ok(()),
+    }
+}
+
+/// Writes the same notes, with each log among these files, and by what it is read.
+fn write_logs<E: Write>(
+    alloc: Global,
+    manifest: NamedManifest,
+    beside: &Beside,
+    err: &mut E,
+) -> io::Result<()>
+    ensures quiet { IsPlain manifest.number beside.now → manifest.rest ≡ 0
+        → NoneUnread manifest.log manifest.prev_log beside.now.logs.items
+        → Keeps (E.contents err.old) (E.contents err.new) }
+{
+    write_notes(alloc, manifest, beside, &beside.logs, err)?;
+    write_cure(manifest, &beside.logs, err)
+}
+
+/// Writes the note of so many bytes that are left out at the ends of the manifest and of logs.
+fn write_ends<E: Write>(rest: u64, err: &mut E) -> io::Result<()> {
+    writeln!(
+        err,
+        "note: {rest} bytes at the ends of the manifest and the logs hold no whole record, and are not read"
+    )?;
+    err.flush()
+}
+
+/// Notes so many bytes that are left out at the ends of the manifest and of logs, where there are
+/// any. What can't be written is left out.
+#[tactic(auto, using(lsm_directory::proofs::CallerLemmas::keeps_same))]
+pub(crate) fn tell_ends<E: Write>(rest: u64, err: &mut E)
+    ensures quiet { rest ≡ 0 → Keeps (E.contents err.old) (E.contents err.new) }
+{
+    if rest > 0 {
+        let _ = write_ends(rest, err);
+    }
+}
+
 /// Notes what is not read, and each log where a command does not print it: only a check does. What
 /// can't be written is left out.
 #[tactic(auto, using(crate::proofs::NoteLaws::no_files))]
@@ -83,7 +130,7 @@ pub(crate) fn tell_notes<E: Write>(
             let _ = write_notes(alloc, manifest, beside, &[], err);
         }
         DirectoryCommand::List | DirectoryCommand::Get(_, _) | DirectoryCommand::Scan(_) => {
-            let _ = write_notes(alloc, manifest, beside, &beside.logs, err);
+            let _ = write_logs(alloc, manifest, beside, err);
         }
     }
 }

@@ -6,7 +6,8 @@ ghost use Rattle.lsm_codec.specs.Entries.{answer};
 ghost use Rattle.lsm_table.specs.Told.{Becomes};
 ghost use Rattle.lsm_model.specs.Files.{all_entries};
 ghost use Rattle.lsm_version.specs.Versions.{files};
-ghost use Rattle.lsm_cmd_read.specs.Answers.{IsLookFault, IsLookedIntoAsGiven, IsPerformFault};
+ghost use Rattle.lsm_cmd_read.specs.Answers.{IsLookFault, IsLookedIntoAsGiven, IsNotLookedInto};
+ghost use Rattle.lsm_cmd_read.specs.Answers.{IsPerformFault};
 ghost use Rattle.lsm_cmd_read.specs.Answers.{Leaves, Prints, PrintsBefore, ReliesOn, asking, moment};
 ghost use Rattle.lsm_cmd_read.specs.Quick.{is_check};
 ghost use Rattle.lsm_cmd_read.specs.Directory.{AreGiven, Holds, OnlyReads};
@@ -33,6 +34,7 @@ use lsm_verify::NoWatch;
 use lsm_version::Version;
 use std::alloc::{AllocError, Global};
 use std::io::Write;
+use std::marker::Brand;
 use std::sync::{Arc, Wait};
 use std::thread::Threads;
 
@@ -251,7 +253,7 @@ fn perform<N: Naming, S: Shelf, R: Threads + Wait + Sync, O: Write, E: Write + S
 
 /// The same under the name that was picked for the records and the shelves. The first shelf is
 /// given back.
-pub(crate) fn perform_as<N: Naming, S: Shelf, R: Threads + Wait + Sync, O: Write, E: Write + Send>(
+fn perform_as<N: Naming, S: Shelf, R: Threads + Wait + Sync, O: Write, E: Write + Send>(
     rt: &R,
     alloc: Global,
     shelf: S,
@@ -280,4 +282,34 @@ pub(crate) fn perform_as<N: Naming, S: Shelf, R: Threads + Wait + Sync, O: Write
     let mut shelf: NamedShelf<N, S> = NamedShelf::of(shelf);
     let done = perform(rt, alloc, &mut shelf, shelves, records, inquiry, out, err);
     (done, shelf.into_shelf())
+}
+
+/// Does what a command asks, with records of its own.
+#[tactic(auto, using(crate::proofs::ReadingOutcomes::memory_refused, crate::proofs::ReadingOutcomes::reads_none))]
+pub(crate) fn begin<S: Shelf, R: Threads + Wait + Sync, O: Write, E: Write + Send>(
+    rt: &R,
+    alloc: Global,
+    shelf: S,
+    shelves: Vec<S>,
+    inquiry: &Inquiry<'_>,
+    out: &mut O,
+    err: &mut E,
+) -> (Result<(), DirectoryFault>, S)
+    requires shelves { All (λ s. (S.told s).place ≡ (S.told shelf).place) shelves.items }
+    ensures done { OnOk result.0 (IsLookedIntoAsGiven (asking inquiry.now)
+        (Stored S.Receipt (S.is_of (S.told shelf).place) S.Receipt.number S.Receipt.image) S.honest
+        (moment (S.told shelf) (O.contents out.old)) (moment (S.told result.1) (O.contents out.new))
+        (E.contents err.old) (E.contents err.new)) }
+    ensures refused { IfErr result.0 (λ e. IsNotLookedInto (asking inquiry.now)
+        (Stored S.Receipt (S.is_of (S.told shelf).place) S.Receipt.number S.Receipt.image)
+        (S.refuses (S.told shelf).place) S.honest e (moment (S.told shelf) (O.contents out.old))
+        (moment (S.told result.1) (O.contents out.new))) }
+    ensures reads { OnlyReads (S.told shelf) (S.told result.1) }
+{
+    match Records::new(alloc) {
+        Ok(records) => {
+            perform_as::<Brand, S, R, O, E>(rt, alloc, shelf, shelves, records, inquiry, out, err)
+        }
+        Err(fault) => (Err(DirectoryFault::from(fault)), shelf),
+    }
 }

@@ -7,27 +7,32 @@ ghost use Rattle.lsm_cmd_read.specs.Answers.{IsLookedIntoAsGiven, IsNotLookedInt
 ghost use Rattle.lsm_cmd_read.specs.Answers.{moment, names_files};
 ghost use Rattle.lsm_cmd_read.specs.Directory.{OnlyReads};
 ghost use Rattle.lsm_directory.specs.Beside.{LooksBeside};
-ghost use Rattle.lsm_directory.specs.Folders.{IsShelfAt};
+ghost use Rattle.lsm_directory.specs.Folders.{IsFolderAt, IsShelfAt};
 ghost use Rattle.lsm_directory.specs.Holding.{IsFolderFault};
-ghost use Rattle.lsm_cmd_read.specs.Looked.{FailsAsAsked, FailsToLook, LooksAsAsked, LooksAtGiven};
+ghost use Rattle.lsm_cmd_read.specs.Looked.{FailsAsAsked, FailsAsItLies, FailsToLook};
+ghost use Rattle.lsm_cmd_read.specs.Looked.{LooksAsAsked, LooksAsItLies, LooksAtGiven};
+ghost use Rattle.lsm_cmd_read.specs.Seen.{FailsToSee, IsOpenToSee, SeesAt, sees_more, sight_of};
+ghost use Rattle.lsm_cmd_read.specs.declared.look_fault.LookFault.{LookFault};
 ghost use Rattle.lsm_cmd_read.specs.Quick.{FailsQuickly, LooksQuickly, is_check, is_quick};
 ghost use Rattle.lsm_directory.specs.declared.faults.directory_fault.DirectoryFault.{DirectoryFault};
 ghost use Rattle.lsm_directory.specs.declared.faults.directory_fault.DirectoryFault.TheVariants.{OutOfMemory};
 
 use crate::inquiry::Inquiry;
-use crate::performing::perform_as;
+use crate::look_fault::LookFault;
+use crate::performing::begin;
 use crate::quick::begin_quickly;
+use crate::seeing::see;
 use lsm_directory::{
     Beside, DirectoryFault, Known, Paths, look_beside, open_at, refuse, status_of,
 };
 use lsm_finding::Finding;
 use lsm_folder::{FindingCalls, FolderCalls, Reasons};
+use lsm_preview::Sight;
 use lsm_requests::{DirectoryCommand, DirectoryLine};
 use lsm_storage::FileShelf;
-use lsm_table::{Records, Shelf};
+use lsm_table::Shelf;
 use std::alloc::{AllocError, Global};
 use std::io::Write;
-use std::marker::Brand;
 use std::sync::Wait;
 use std::thread;
 use std::thread::Threads;
@@ -39,36 +44,6 @@ fn names_files(command: &DirectoryCommand) -> bool
     match command {
         DirectoryCommand::Check(_) | DirectoryCommand::Scan(_) => true,
         DirectoryCommand::List | DirectoryCommand::Get(_, _) => false,
-    }
-}
-
-/// Does what a command asks, with records of its own.
-#[tactic(auto, using(crate::proofs::ReadingOutcomes::memory_refused, crate::proofs::ReadingOutcomes::reads_none))]
-fn begin<S: Shelf, R: Threads + Wait + Sync, O: Write, E: Write + Send>(
-    rt: &R,
-    alloc: Global,
-    shelf: S,
-    shelves: Vec<S>,
-    inquiry: &Inquiry<'_>,
-    out: &mut O,
-    err: &mut E,
-) -> (Result<(), DirectoryFault>, S)
-    requires shelves { All (λ s. (S.told s).place ≡ (S.told shelf).place) shelves.items }
-    ensures done { OnOk result.0 (IsLookedIntoAsGiven (asking inquiry.now)
-        (Stored S.Receipt (S.is_of (S.told shelf).place) S.Receipt.number S.Receipt.image) S.honest
-        (moment (S.told shelf) (O.contents out.old)) (moment (S.told result.1) (O.contents out.new))
-        (E.contents err.old) (E.contents err.new)) }
-    ensures refused { IfErr result.0 (λ e. IsNotLookedInto (asking inquiry.now)
-        (Stored S.Receipt (S.is_of (S.told shelf).place) S.Receipt.number S.Receipt.image)
-        (S.refuses (S.told shelf).place) S.honest e (moment (S.told shelf) (O.contents out.old))
-        (moment (S.told result.1) (O.contents out.new))) }
-    ensures reads { OnlyReads (S.told shelf) (S.told result.1) }
-{
-    match Records::new(alloc) {
-        Ok(records) => {
-            perform_as::<Brand, S, R, O, E>(rt, alloc, shelf, shelves, records, inquiry, out, err)
-        }
-        Err(fault) => (Err(DirectoryFault::from(fault)), shelf),
     }
 }
 
@@ -188,6 +163,22 @@ fn shelves_on<C: FolderCalls>(
     Ok(shelves)
 }
 
+/// Opens the folder at a path for a command that only reads: its lock is held, and `look_beside`
+/// finds this there.
+fn open_folder<C: FolderCalls, P: Paths<C>, R: Wait>(
+    rt: &R,
+    paths: &P,
+    path: &str,
+    reasons: &Reasons,
+) -> Result<(C, Beside), DirectoryFault>
+    ensures opened { IfOk result (λ o. IsFolderAt C.FolderCalls path.now (LooksBeside o.1) o.0) }
+    ensures fault { IfErr result IsFolderFault }
+{
+    let mut folder = open_at(paths, path, reasons)?;
+    let beside = look_beside(rt, paths.alloc(), &mut folder)?;
+    Ok((folder, beside))
+}
+
 /// Opens the folder at a path for a command that only reads: a shelf on it, whose lock is held as
 /// long as the shelf is, so many more, and what `look_beside` finds there.
 fn open_shelf<C: FolderCalls, P: Paths<C>, R: Wait>(
@@ -203,8 +194,7 @@ fn open_shelf<C: FolderCalls, P: Paths<C>, R: Wait>(
         All (λ s. (file_told C.place s).place ≡ (file_told C.place o.0).place) o.1.items) }
     ensures fault { IfErr result (λ e. IsFolderFault e ⊎ (e ≡ OutOfMemory)) }
 {
-    let mut folder = open_at(paths, path, reasons)?;
-    let beside = look_beside(rt, paths.alloc(), &mut folder)?;
+    let (folder, beside) = open_folder(rt, paths, path, reasons)?;
     let shelves = shelves_on(paths.alloc(), &folder, count)?;
 
     // That a file was not there to be locked, or is gone, is no reason of a later refusal.
@@ -248,6 +238,88 @@ where
     done
 }
 
+/// Opens the folder at a path for a command that only reads and that sees its logs, or compressed
+/// tables: the folder, whose lock is held as long as it is, a shelf on it, so many more, and what
+/// `look_beside` finds there.
+fn open_to_see<C: FolderCalls, P: Paths<C>, R: Wait>(
+    rt: &R,
+    paths: &P,
+    path: &str,
+    count: usize,
+    reasons: &Reasons,
+) -> Result<(C, FileShelf<C>, Vec<FileShelf<C>>, Beside), DirectoryFault>
+    ensures found { IfOk result (λ o. IsOpenToSee C.FolderCalls path.now o.3 o.0 o.1) }
+    ensures place { IfOk result (λ o.
+        All (λ s. (file_told C.place s).place ≡ (file_told C.place o.1).place) o.2.items) }
+    ensures fault { IfErr result (λ e. IsFolderFault e ⊎ (e ≡ OutOfMemory)) }
+{
+    let (folder, beside) = open_folder(rt, paths, path, reasons)?;
+    let shelves = shelves_on(paths.alloc(), &folder, count)?;
+
+    // That a file was not there to be locked, or is gone, is no reason of a later refusal.
+    reasons.forget();
+    match folder.fork() {
+        Ok(fork) => Ok((folder, FileShelf::over(fork), shelves, beside)),
+        Err(_) => Err(DirectoryFault::OutOfMemory),
+    }
+}
+
+/// How a line asks for a folder to be seen.
+fn sight_of(line: &DirectoryLine<'_>) -> Sight
+    ensures { result ≡ sight_of line.now }
+{
+    Sight {
+        logs: line.logs,
+        inflates: line.inflates,
+    }
+}
+
+/// Does what a line asks of what it sees in the folder at its path.
+fn look_seen_at<
+    C: FolderCalls + Send + Sync,
+    P: Paths<C>,
+    R: Threads + Wait + Sync,
+    O: Write,
+    E: Write + Send,
+>(
+    rt: &R,
+    paths: &P,
+    line: &DirectoryLine<'_>,
+    reasons: &Reasons,
+    out: &mut O,
+    err: &mut E,
+) -> Result<(), LookFault>
+where
+    C::Mark: Send + Sync,
+    ensures done { OnOk result (SeesAt C.FolderCalls C.Mark.Mark line.now
+        (O.contents out.old) (O.contents out.new) (E.contents err.old) (E.contents err.new)) }
+    ensures refused { IfErr result (λ e. FailsToSee C.FolderCalls C.Mark.Mark line.now e
+        (O.contents out.old) (O.contents out.new)) }
+{
+    let count = threads_for(rt, &line.command);
+    let (mut folder, shelf, shelves, beside) = open_to_see(rt, paths, line.path, count, reasons)?;
+    let inquiry = Inquiry {
+        command: &line.command,
+        form: line.form,
+        beside: &beside,
+        strict: line.strict,
+        progress: line.progress,
+        reasons: Some(reasons),
+    };
+    let (done, _shelf) = see(
+        rt,
+        paths.alloc(),
+        &mut folder,
+        shelf,
+        shelves,
+        sight_of(line),
+        &inquiry,
+        out,
+        err,
+    );
+    done
+}
+
 /// Whether a command is quick, by whether its line says so.
 fn is_quick(command: &DirectoryCommand, quick: bool) -> bool
     ensures { result ≡ is_quick command.now quick }
@@ -270,9 +342,9 @@ fn look_quickly_at<C: FindingCalls + Send + Sync, P: Paths<C>, R: Wait, O: Write
 where
     C::Mark: Send + Sync,
     requires quick { IsTrue (is_quick line.now.command line.now.quick) }
-    ensures done { OnOk result (LooksAsAsked C.FolderCalls C.Mark.Mark C.holds line.now
+    ensures done { OnOk result (LooksAsItLies C.FolderCalls C.Mark.Mark C.holds line.now
         (O.contents out.old) (O.contents out.new) (E.contents err.old) (E.contents err.new)) }
-    ensures refused { IfErr result (λ e. FailsAsAsked C.FolderCalls C.Mark.Mark C.holds line.now e
+    ensures refused { IfErr result (λ e. FailsAsItLies C.FolderCalls C.Mark.Mark C.holds line.now e
         (O.contents out.old) (O.contents out.new)) }
 {
     let (shelf, _none, beside) = open_shelf(rt, paths, line.path, 0, reasons)?;
@@ -288,9 +360,9 @@ where
     done
 }
 
-/// Does what a line asks of the folder at its path: with a judgment of every table, or, where it is
-/// quick, without.
-fn look_as_asked<
+/// Does what a line asks of the folder at its path, as it lies there: with a judgment of every
+/// table, or, where it is quick, without.
+fn look_as_it_lies<
     C: FindingCalls + Send + Sync,
     P: Paths<C>,
     R: Threads + Wait + Sync,
@@ -306,9 +378,9 @@ fn look_as_asked<
 ) -> Result<(), DirectoryFault>
 where
     C::Mark: Send + Sync,
-    ensures done { OnOk result (LooksAsAsked C.FolderCalls C.Mark.Mark C.holds line.now
+    ensures done { OnOk result (LooksAsItLies C.FolderCalls C.Mark.Mark C.holds line.now
         (O.contents out.old) (O.contents out.new) (E.contents err.old) (E.contents err.new)) }
-    ensures refused { IfErr result (λ e. FailsAsAsked C.FolderCalls C.Mark.Mark C.holds line.now e
+    ensures refused { IfErr result (λ e. FailsAsItLies C.FolderCalls C.Mark.Mark C.holds line.now e
         (O.contents out.old) (O.contents out.new)) }
 {
     if is_quick(&line.command, line.quick) {
@@ -317,9 +389,50 @@ where
     look_at(rt, paths, line, reasons, out, err)
 }
 
+/// Whether a line sees logs or compressed tables too.
+fn sees_more(line: &DirectoryLine<'_>) -> bool
+    ensures { result ≡ sees_more line.now }
+{
+    line.logs || line.inflates
+}
+
+/// Does what a line asks of the folder at its path: as it lies there, or as it is to be seen.
+fn look_as_asked<
+    C: FindingCalls + Send + Sync,
+    P: Paths<C>,
+    R: Threads + Wait + Sync,
+    O: Write,
+    E: Write + Send,
+>(
+    rt: &R,
+    paths: &P,
+    line: &DirectoryLine<'_>,
+    reasons: &Reasons,
+    out: &mut O,
+    err: &mut E,
+) -> Result<(), LookFault>
+where
+    C::Mark: Send + Sync,
+    ensures done { OnOk result (LooksAsAsked C.FolderCalls C.Mark.Mark C.holds line.now
+        (O.contents out.old) (O.contents out.new) (E.contents err.old) (E.contents err.new)) }
+    ensures refused { IfErr result (λ e. FailsAsAsked C.FolderCalls C.Mark.Mark C.holds line.now e
+        (O.contents out.old) (O.contents out.new)) }
+{
+    if sees_more(line) {
+        return look_seen_at(rt, paths, line, reasons, out, err);
+    }
+    match look_as_it_lies(rt, paths, line, reasons, out, err) {
+        Ok(()) => Ok(()),
+        Err(fault) => Err(LookFault::Directory(fault)),
+    }
+}
+
 /// Does what a line asks of the folder at its path, and answers the exit status, as `look` does, or
-/// as `look_quickly` where the line is quick and its command no check. `Shelf` of `Device` where it
-/// is no folder that can be opened; the refusals of `look_beside`.
+/// as `look_quickly` where the line is quick and its command no check. Where the line sees logs or
+/// compressed tables, so it is done of what `preview` shows: the database as `recover` would leave
+/// it, and with its tables plain. `Shelf` of `Device` where it is no folder that can be opened; the
+/// refusals of `look_beside`, and of `preview`; `TornManifest` where it is strict, and bytes at the
+/// ends of the manifest or of logs hold no whole record.
 pub fn run_look<
     C: FindingCalls + Send + Sync,
     P: Paths<C>,
@@ -331,7 +444,7 @@ where
     C::Mark: Send + Sync,
     ensures done { result ≡ 0 → LooksAsAsked C.FolderCalls C.Mark.Mark C.holds line.now
         (O.contents out.old) (O.contents out.new) (E.contents err.old) (E.contents err.new) }
-    ensures refused { result ≢ 0 → (result ≡ 1) × ((fault : DirectoryFault)
+    ensures refused { result ≢ 0 → (result ≡ 1) × ((fault : LookFault)
         × FailsAsAsked C.FolderCalls C.Mark.Mark C.holds line.now fault (O.contents out.old)
         (O.contents out.new)) }
 {

@@ -1,5 +1,6 @@
 -- What a command shows whose reads were compared.
 use Rattle.std.proofs.Common.{◌≡◌, ℕ, List, Option, Bool, false, true, inl, inr}
+use Rattle.std.specs.Prelude.{MatchBool}
 use Rattle.clap.specs.Words.{Text}
 use Rattle.lsm_folder.specs.Calls.{AreHonest}
 use Rattle.lsm_folder.specs.declared.folder_calls.FolderCalls.{Ghosts}
@@ -15,8 +16,9 @@ use Rattle.lsm_requests.specs.declared.directory_command.DirectoryCommand.TheVar
 use Rattle.lsm_requests.specs.declared.directory_line.DirectoryLine.{DirectoryLine}
 use Rattle.lsm_requests.specs.declared.input.Input.{Input}
 use Rattle.lsm_cmd_read.specs.Answers.{ReliesOn}
-use Rattle.lsm_cmd_read.specs.Looked.{LooksAsAsked}
+use Rattle.lsm_cmd_read.specs.Looked.{LooksAsItLies}
 use Rattle.lsm_cmd_read.specs.Quick.{is_quick}
+use Rattle.lsm_cmd_read.specs.Seen.{SeesAt, sees_more}
 use Rattle.lsm_grammar.specs.declared.request.Request.{Request}
 use Rattle.lsm_grammar.specs.declared.request.Request.TheVariants.{Convert, Look, Levels}
 use Rattle.lsm_grammar.specs.declared.request.Request.TheVariants.{Write as WriteFolder, Load}
@@ -24,7 +26,7 @@ use Rattle.lsm_grammar.specs.declared.request.Request.TheVariants.{Import, Recov
 use Rattle.lsm_grammar.specs.declared.request.Request.TheVariants.{Script, Shell, Bench}
 use Rattle.lsm_grammar.specs.Requests.{Asks, IsMannerOf}
 use Rattle.lsm_grammar.specs.declared.manner.Manner.{Manner}
-use Rattle.lsm_commands.specs.Compared.{AreCompared, ShowsTheTruth, Tells}
+use Rattle.lsm_commands.specs.Compared.{AreCompared, ShowsTheTruth, Tells, TellsSeen}
 use Rattle.lsm_commands.specs.Run.{AreFollowed, AreUnfollowed, IsDone, IsFollowed, IsUnfollowed}
 
 never : (b : Bool) → b ≡ false → b ≡ true → ⊥
@@ -40,7 +42,7 @@ module _ {C M : Type 0} (folders : Ghosts C M) (marks : mark.Ghosts M)
     (holds : Place → (name image : List ℕ) → Type 0) (honest : AreHonest folders.calls) where
   tells : (line : DirectoryLine) (old new said_old said_new : Option (List ℕ))
       → is_quick line.command line.quick ≡ false
-      → LooksAsAsked folders marks holds line old new said_old said_new
+      → LooksAsItLies folders marks holds line old new said_old said_new
       → Tells folders marks line old new
   tells line old new said_old said_new plain (inl looked) = record {
     beside = looked.looks.beside;
@@ -55,6 +57,35 @@ module _ {C M : Type 0} (folders : Ghosts C M) (marks : mark.Ghosts M)
   tells line old new said_old said_new plain (inr quick) =
       absurd (never (is_quick line.command line.quick) plain quick.0)
 
+  tells_seen : (line : DirectoryLine) (old new said_old said_new : Option (List ℕ))
+      → SeesAt folders marks line old new said_old said_new → TellsSeen folders marks line old new
+  tells_seen line old new said_old said_new s = record {
+    beside = s.beside;
+    folder = s.folder;
+    begun = s.begun;
+    on = s.on;
+    later = s.later;
+    read = s.seen.read;
+    preview = s.seen.preview;
+    seen = s.seen.is;
+    version = s.seen.done.done.looked.version;
+    manifest = s.seen.done.done.looked.manifest;
+    given = s.seen.done.done.given;
+    sound = s.seen.done.done.looked.holds.found.loaded.sound honest;
+    printed = s.seen.done.done.looked.printed
+        (relies (AreHonest folders.calls) honest line.command);
+  }
+
+  either_tells : (b : Bool) (line : DirectoryLine) (old new said_old said_new : Option (List ℕ))
+      → MatchBool b (SeesAt folders marks line old new said_old said_new)
+      (LooksAsItLies folders marks holds line old new said_old said_new)
+      → MatchBool b (TellsSeen folders marks line old new)
+      (is_quick line.command line.quick ≡ false → Tells folders marks line old new)
+  either_tells true line old new said_old said_new s =
+      tells_seen line old new said_old said_new s
+  either_tells false line old new said_old said_new done =
+      λ plain. tells line old new said_old said_new plain done
+
   -- so it is of each request
   pub shows : (text : Input → Option (List ℕ)) (request : Request)
       (old new said_old said_new : Option (List ℕ))
@@ -62,12 +93,12 @@ module _ {C M : Type 0} (folders : Ghosts C M) (marks : mark.Ghosts M)
       → ShowsTheTruth folders marks request old new
   shows text (Convert conversion input) old new said_old said_new done = tt
   shows text (Look line) old new said_old said_new done =
-      λ plain. tells line old new said_old said_new plain done
+      either_tells (sees_more line) line old new said_old said_new done
   shows text (Levels line) old new said_old said_new done = tt
   shows text (WriteFolder line) old new said_old said_new done = tt
   shows text (Load line) old new said_old said_new done = tt
   shows text (Import line) old new said_old said_new done = tt
-  shows text (Recover path) old new said_old said_new done = tt
+  shows text (Recover line) old new said_old said_new done = tt
   shows text (Repair path) old new said_old said_new done = tt
   shows text (Compact line) old new said_old said_new done = tt
   shows text (Script input) old new said_old said_new done = tt

@@ -1,9 +1,10 @@
 -- What a command shows whose reads were compared, so that its folder needs no premise: this
 -- project's rule.
-use Rattle.std.specs.Prelude.{◌≡◌, ℕ, false, true, List, Option, ⊤}
+use Rattle.std.specs.Prelude.{◌≡◌, ℕ, false, true, List, MatchBool, Option, ⊤}
 use Rattle.lsm_folder.specs.declared.folder_calls.FolderCalls.{Ghosts}
 use Rattle.lsm_folder.specs.declared.mark.Mark as mark
 use Rattle.lsm_shelf.specs.Place.{Place}
+use Rattle.lsm_shelf.specs.Told.{Told}
 use Rattle.lsm_storage.specs.declared.file.file_shelf.FileShelf.{FileShelf}
 use Rattle.lsm_version.specs.Versions.{IsSound, Levels}
 use Rattle.clap.specs.Words.{Text}
@@ -16,6 +17,10 @@ use Rattle.lsm_directory.specs.declared.folder.named_manifest.NamedManifest.{Nam
 use Rattle.lsm_cmd_read.specs.Answers.{Prints}
 use Rattle.lsm_cmd_read.specs.Directory.{AreGiven}
 use Rattle.lsm_cmd_read.specs.Quick.{is_quick}
+use Rattle.lsm_cmd_read.specs.Seen.{IsOpenToSee, sees_more, shown_at, sight_of}
+use Rattle.lsm_mirror.specs.Shown.{shown_of}
+use Rattle.lsm_preview.specs.Preview.{IsPreview}
+use Rattle.lsm_preview.specs.declared.seen.Preview.{Preview}
 use Rattle.lsm_commands.specs.Run.{AreFollowed}
 use Rattle.lsm_grammar.specs.declared.request.Request.{Request}
 use Rattle.lsm_grammar.specs.declared.request.Request.TheVariants.{Convert, Look, Levels as LayOut}
@@ -36,16 +41,37 @@ module _ {C M : Type 0} (folders : Ghosts C M) (marks : mark.Ghosts M) where
     pub sound : IsSound version
     pub printed : Prints line.form line.command version manifest beside old new
 
+  -- The folder at the path was opened, and of what was read there this is a view, whose tables it
+  -- gave: the version has just such tables, is sound, and just what the command prints of it was
+  -- written.
+  pub record TellsSeen (line : DirectoryLine) (old new : Option (List ℕ)) : Type 0 where
+    pub beside : Beside
+    pub folder : C
+    pub begun : FileShelf C M
+    pub on : IsOpenToSee folders line.path.now beside folder begun
+    pub later : C
+    pub read : Told
+    pub preview : Preview
+    pub seen : IsPreview (stored_at folders marks (told_by folders begun).place) (sight_of line)
+        beside.logs.items preview (folders.calls folder) (folders.calls later)
+        (told_by folders begun) read
+    pub version : Levels
+    pub manifest : NamedManifest
+    pub given : AreGiven
+        (shown_at folders marks (told_by folders begun).place (shown_of preview.view)) version
+    pub sound : IsSound version
+    pub printed : Prints line.form line.command version manifest beside old new
+
   -- so it is of a command that judges the tables first
   abbrev pub ShowsTheTruth : Request → (old new : Option (List ℕ)) → Type 0
   ShowsTheTruth (Convert conversion input) old new = ⊤
-  ShowsTheTruth (Look line) old new =
-      is_quick line.command line.quick ≡ false → Tells line old new
+  ShowsTheTruth (Look line) old new = MatchBool (sees_more line) (TellsSeen line old new)
+      (is_quick line.command line.quick ≡ false → Tells line old new)
   ShowsTheTruth (LayOut line) old new = ⊤
   ShowsTheTruth (WriteFolder line) old new = ⊤
   ShowsTheTruth (Load line) old new = ⊤
   ShowsTheTruth (Import line) old new = ⊤
-  ShowsTheTruth (Recover path) old new = ⊤
+  ShowsTheTruth (Recover line) old new = ⊤
   ShowsTheTruth (Repair path) old new = ⊤
   ShowsTheTruth (Compact line) old new = ⊤
   ShowsTheTruth (Script input) old new = ⊤

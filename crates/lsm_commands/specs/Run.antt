@@ -39,6 +39,7 @@ use Rattle.lsm_recovery.specs.declared.bring_fault.BringFault.{BringFault}
 use Rattle.lsm_cmd_levels.specs.Layout.{FailsToLayOut, LaysOutAt}
 use Rattle.lsm_cmd_load.specs.LoadedAt.{FailsToLoad, LoadsAt}
 use Rattle.lsm_cmd_read.specs.Looked.{FailsAsAsked, LooksAsAsked}
+use Rattle.lsm_cmd_read.specs.declared.look_fault.LookFault.{LookFault}
 use Rattle.lsm_cmd_shell.specs.Talked.{FailsToTalk, TalksAt}
 use Rattle.lsm_cmd_write.specs.Cleaned.{FailsToClean, IsCleanedAt}
 use Rattle.lsm_cmd_compact.specs.Compacted.{IsCompactedAt, IsUncompacted}
@@ -60,7 +61,7 @@ opened_by (Levels line) = None
 opened_by (WriteFolder line) = opened_by_writing line.path.now line.command
 opened_by (Load line) = Some (line.path.now, line.options.ingest.begins)
 opened_by (Import line) = None
-opened_by (Recover path) = None
+opened_by (Recover line) = None
 opened_by (Repair path) = None
 opened_by (Compact line) = None
 opened_by (Script input) = None
@@ -111,8 +112,8 @@ module _ {C M : Type 0} (folders : Ghosts C M) (marks : mark.Ghosts M)
       × (IsFalse line.options.progress → Keeps said_old said_new)
   IsDone text (Import line) old new said_old said_new =
       ImportsAt folders marks line old new × Keeps said_old said_new
-  IsDone text (Recover path) old new said_old said_new =
-      RecoversAt folders marks path.now old new × Keeps said_old said_new
+  IsDone text (Recover line) old new said_old said_new =
+      RecoversAt folders marks line.path.now old new × Keeps said_old said_new
   IsDone text (Repair path) old new said_old said_new =
       RepairsAt folders marks path.now old new × Keeps said_old said_new
   IsDone text (Compact line) old new said_old said_new =
@@ -172,7 +173,7 @@ module _ {C M : Type 0} (folders : Ghosts C M) (marks : mark.Ghosts M)
   abbrev pub IsUndone : (Input → Option (List ℕ)) → Request → (old new : Option (List ℕ)) → Type 0
   IsUndone text (Convert conversion input) old new = IsUnconverted conversion (text input) old new
   IsUndone text (Look line) old new =
-      (fault : DirectoryFault) × FailsAsAsked folders marks holds line fault old new
+      (fault : LookFault) × FailsAsAsked folders marks holds line fault old new
   IsUndone text (Levels line) old new =
       (fault : DirectoryFault) × FailsToLayOut folders line fault old new
   IsUndone text (WriteFolder line) old new =
@@ -181,8 +182,8 @@ module _ {C M : Type 0} (folders : Ghosts C M) (marks : mark.Ghosts M)
       FailsToLoad folders marks line.path.now line.options (text line.input) old new
   IsUndone text (Import line) old new =
       (fault : CopyFault) × FailsToImport folders marks line fault old new
-  IsUndone text (Recover path) old new =
-      (fault : RecoverFault) × FailsToRecover folders marks path.now fault old new
+  IsUndone text (Recover line) old new =
+      (fault : RecoverFault) × FailsToRecover folders marks line.path.now fault old new
   IsUndone text (Repair path) old new =
       (fault : RepairFault) × FailsToRepair folders marks path.now fault old new
   IsUndone text (Compact line) old new = IsUncompacted folders marks line old new

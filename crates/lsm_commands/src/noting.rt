@@ -48,7 +48,7 @@ fn noted_by<'a>(request: &Request<'a>, strict: bool) -> Option<(&'a str, bool)>
     match request {
         Request::Write(line) => Some((line.path, false)),
         Request::Load(line) => Some((line.path, false)),
-        Request::Recover(path) => Some((path, false)),
+        Request::Recover(line) => Some((line.path, false)),
         Request::Compact(line) => Some((line.path, false)),
         Request::Shell(line) => noted_by_shell(line, strict),
         _ => None,

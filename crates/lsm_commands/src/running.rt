@@ -142,7 +142,7 @@ where
         Request::Write(line) => run_writing(rt, paths, line, &mut input, out, err),
         Request::Load(line) => run_load(rt, paths, line, input, out, err),
         Request::Import(line) => run_import(rt, paths, line, out, err),
-        Request::Recover(path) => run_recover(rt, paths, path, out, err),
+        Request::Recover(line) => run_recover(rt, paths, line.path, out, err),
         Request::Repair(path) => run_repair(rt, paths, path, out, err),
         Request::Compact(line) => run_compact(rt, paths, line, out, err),
         Request::Script(found) => run_script(rt, paths, *found, input, out, err),

@@ -37,7 +37,7 @@ fn locked_by<'a>(request: &Request<'a>) -> Option<(&'a str, LockKind)>
         Request::Look(line) => Some((line.path, LockKind::Shared)),
         Request::Write(line) => Some((line.path, LockKind::Exclusive)),
         Request::Load(line) => Some((line.path, LockKind::Exclusive)),
-        Request::Recover(path) => Some((path, LockKind::Exclusive)),
+        Request::Recover(line) => Some((line.path, LockKind::Exclusive)),
         Request::Repair(path) => Some((path, LockKind::Exclusive)),
         Request::Compact(line) => Some((line.path, LockKind::Exclusive)),
         Request::Shell(line) => Some((line.path, shell_lock(line.reads_only))),

@@ -124,6 +124,15 @@ strict = flag (codes "strict")
 abbrev pub quick : Rule
 quick = flag (codes "quick")
 
+abbrev pub logs : Rule
+logs = flag (codes "logs")
+
+abbrev pub inflate : Rule
+inflate = flag (codes "inflate")
+
+abbrev pub to_first_fault : Rule
+to_first_fault = flag (codes "to-first-fault")
+
 abbrev pub last_line : Rule
 last_line = flag (codes "last-line")
 
@@ -156,10 +165,12 @@ unfoldable pub script : App
 script = command (codes "script") (file ∷ [])
 
 unfoldable pub check : App
-check = command (codes "check") (folder ∷ verifiers ∷ strict ∷ compare ∷ progress ∷ wait ∷ [])
+check = command (codes "check")
+    (folder ∷ verifiers ∷ logs ∷ inflate ∷ strict ∷ compare ∷ progress ∷ wait ∷ [])
 
 unfoldable pub list : App
-list = command (codes "list") (folder ∷ text ∷ quick ∷ strict ∷ compare ∷ wait ∷ [])
+list = command (codes "list")
+    (folder ∷ text ∷ logs ∷ inflate ∷ quick ∷ strict ∷ compare ∷ wait ∷ [])
 
 unfoldable pub levels : App
 levels = command (codes "levels")
@@ -167,15 +178,15 @@ levels = command (codes "levels")
 
 unfoldable pub get : App
 get = command (codes "get")
-    (folder ∷ key ∷ text ∷ flag (codes "raw") ∷ flag (codes "exists") ∷ quick ∷ strict ∷ compare
-    ∷ wait ∷ [])
+    (folder ∷ key ∷ text ∷ flag (codes "raw") ∷ flag (codes "exists") ∷ logs ∷ inflate ∷ quick
+    ∷ strict ∷ compare ∷ wait ∷ [])
 
 unfoldable pub scan : App
 scan =
     command (codes "scan")
     (folder ∷ valued (codes "from") ∷ valued (codes "to") ∷ valued (codes "prefix") ∷ limit ∷ text
     ∷ flag (codes "keys") ∷ json
-    ∷ flag (codes "count") ∷ quick ∷ strict ∷ compare ∷ progress ∷ wait ∷ [])
+    ∷ flag (codes "count") ∷ logs ∷ inflate ∷ quick ∷ strict ∷ compare ∷ progress ∷ wait ∷ [])
 
 unfoldable pub ingest : App
 ingest = command (codes "ingest")
@@ -196,10 +207,12 @@ load = command (codes "load") (folder ∷ file ∷ text ∷ begin ∷ beside_log
     ∷ from_line ∷ last_line ∷ json ∷ strict ∷ compare ∷ progress ∷ wait ∷ [])
 
 unfoldable pub import_folder : App
-import_folder = command (codes "import") (word (codes "SRC") ∷ word (codes "DST") ∷ compare ∷ [])
+import_folder = command (codes "import")
+    (word (codes "SRC") ∷ word (codes "DST") ∷ to_first_fault ∷ compare ∷ [])
 
 unfoldable pub recover : App
-recover = command (codes "recover") (folder ∷ strict ∷ compare ∷ wait ∷ [])
+recover = command (codes "recover")
+    (folder ∷ to_first_fault ∷ strict ∷ compare ∷ wait ∷ [])
 
 unfoldable pub repair : App
 repair = command (codes "repair") (folder ∷ compare ∷ wait ∷ [])

@@ -173,7 +173,7 @@ name_of (Levels line) = name.Levels
 name_of (WriteFolder line) = name_of_write line.command
 name_of (Load line) = name.Load
 name_of (Import line) = name.Import
-name_of (Recover path) = name.Recover
+name_of (Recover line) = name.Recover
 name_of (Repair path) = name.Repair
 name_of (Compact line) = name.Compact
 name_of (Script input) = name.Script
@@ -246,6 +246,16 @@ abbrev pub json_in : List Row → Option Bool
 json_in rows =
     if is_set (codes "json") rows && is_set (codes "text") rows then None
     else Some (is_set (codes "json") rows)
+
+-- logs or compressed tables are seen too
+abbrev pub sees_more : List Row → Bool
+sees_more rows = is_set (codes "logs") rows || is_set (codes "inflate") rows
+
+-- `--quick` excludes `--logs` and `--inflate`
+abbrev pub quick_in : List Row → Option Bool
+quick_in rows =
+    if is_set (codes "quick") rows && sees_more rows then None
+    else Some (is_set (codes "quick") rows)
 
 -- `--files` and `--svg` exclude one another
 abbrev pub levels_output_in : List Row → Option LevelsOutput
@@ -353,7 +363,8 @@ Says rows (Convert conversion input) = IsInput (word_in (codes "FILE") rows) inp
 Says rows (Look line) =
     (word_in (codes "DIR") rows ≡ Some line.path.now) × IsLook rows line.command
     × (line.form ≡ form_in rows) × (line.strict ≡ is_set (codes "strict") rows)
-    × (line.quick ≡ is_set (codes "quick") rows)
+    × (line.logs ≡ is_set (codes "logs") rows)
+    × (line.inflates ≡ is_set (codes "inflate") rows) × (quick_in rows ≡ Some line.quick)
     × (line.progress ≡ is_set (codes "progress") rows)
 Says rows (Levels line) =
     (word_in (codes "DIR") rows ≡ Some line.path.now) × (line.form ≡ form_in rows)
@@ -365,7 +376,9 @@ Says rows (Load line) =
     × IsInput (word_in (codes "FILE") rows) line.input × AreLoadOptions rows line.options
 Says rows (Import line) = (word_in (codes "SRC") rows ≡ Some line.source.now)
     × (word_in (codes "DST") rows ≡ Some line.target.now)
-Says rows (Recover path) = word_in (codes "DIR") rows ≡ Some path.now
+    × (line.to_first_fault ≡ is_set (codes "to-first-fault") rows)
+Says rows (Recover line) = (word_in (codes "DIR") rows ≡ Some line.path.now)
+    × (line.to_first_fault ≡ is_set (codes "to-first-fault") rows)
 Says rows (Repair path) = word_in (codes "DIR") rows ≡ Some path.now
 Says rows (Compact line) =
     (word_in (codes "DIR") rows ≡ Some line.path.now)

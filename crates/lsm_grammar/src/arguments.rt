@@ -97,6 +97,21 @@ pub(crate) const NO_NOTES: Argument = Argument::Flag(
     "Refuse where there is something to note",
 );
 
+/// Logs that are not flushed are read too.
+pub(crate) const LOGS: Argument = Argument::Flag(
+    "logs",
+    "Read what stands in logs that are not flushed",
+);
+
+/// Compressed tables are read too.
+pub(crate) const INFLATE: Argument = Argument::Flag("inflate", "Read tables that are compressed");
+
+/// A damaged log comes in as far as it is whole.
+pub(crate) const TO_FIRST_FAULT: Argument = Argument::Flag(
+    "to-first-fault",
+    "Bring a damaged log in up to its first fault",
+);
+
 /// Tables are not verified first.
 pub(crate) const QUICK: Argument = Argument::Flag(
     "quick",

@@ -12,7 +12,7 @@ ghost use Rattle.lsm_grammar.specs.Requests.{IsNumberIn, IsRange, IsSpelled, IsW
 ghost use Rattle.lsm_grammar.specs.Requests.{IsWrite, Reads, form_in};
 ghost use Rattle.lsm_grammar.specs.Requests.{get_output_in, is_set, json_in, levels_output_in};
 ghost use Rattle.lsm_grammar.specs.Requests.{name_of_conversion, name_of_look, name_of_value};
-ghost use Rattle.lsm_grammar.specs.Requests.{name_of_write, rows_in};
+ghost use Rattle.lsm_grammar.specs.Requests.{name_of_write, quick_in, rows_in, sees_more};
 ghost use Rattle.lsm_grammar.specs.Requests.{reads_only_in, scan_output_in, topic_in, topic_of};
 ghost use Rattle.lsm_grammar.specs.Requests.{word_in, writes_beside};
 
@@ -30,7 +30,7 @@ use lsm_codec::Bytes;
 use lsm_requests::{
     BenchOptions, Benchmark, CleanOptions, CompactLine, CompactOptions, CompactRange, Conversion,
     DirectoryCommand, DirectoryLine, GetOutput, ImportLine, IngestOptions, Input, KeyBounds,
-    LevelsLine, LevelsOutput, LoadLine, LoadOptions, ScanOptions, ScanOutput,
+    LevelsLine, LevelsOutput, LoadLine, LoadOptions, RecoverLine, ScanOptions, ScanOutput,
 };
 use lsm_text::{Form, number_in};
 use std::alloc::{AllocError, Global};
@@ -318,18 +318,39 @@ fn script_in<'a>(found: &ArgMatches<'a>) -> Option<Request<'a>>
     Some(Request::Script(input))
 }
 
+/// Whether logs or compressed tables are seen too.
+fn sees_more(found: &ArgMatches<'_>) -> bool
+    ensures { result ≡ sees_more (rows_in found.now) }
+{
+    is_set(found, "logs") || is_set(found, "inflate")
+}
+
+/// Whether a command is quick. `None` where it is to see logs or compressed tables as well.
+pub(crate) fn quick_in(found: &ArgMatches<'_>) -> Option<bool>
+    ensures { result ≡ quick_in (rows_in found.now) }
+{
+    let quick = is_set(found, "quick");
+    if quick && sees_more(found) {
+        return None;
+    }
+    Some(quick)
+}
+
 /// A command on a directory that is only read.
 fn look_in<'a>(command: DirectoryCommand, found: &ArgMatches<'a>) -> Option<Request<'a>>
     ensures some { IsLook (rows_in found.now) command
         → Reads (name_of_look command) (rows_in found.now) result }
 {
     let path = word_in(found, "DIR")?;
+    let quick = quick_in(found)?;
     Some(Request::Look(DirectoryLine {
         path,
         command,
         form: form_in(found),
         strict: is_set(found, "strict"),
-        quick: is_set(found, "quick"),
+        logs: is_set(found, "logs"),
+        inflates: is_set(found, "inflate"),
+        quick,
         progress: is_set(found, "progress"),
     }))
 }
@@ -475,7 +496,12 @@ fn import_in<'a>(found: &ArgMatches<'a>) -> Option<Request<'a>>
 {
     let source = word_in(found, "SRC")?;
     let target = word_in(found, "DST")?;
-    Some(Request::Import(ImportLine { source, target }))
+    let to_first_fault = is_set(found, "to-first-fault");
+    Some(Request::Import(ImportLine {
+        source,
+        target,
+        to_first_fault,
+    }))
 }
 
 /// Logs that come into their folder's database.
@@ -483,7 +509,10 @@ fn recover_in<'a>(found: &ArgMatches<'a>) -> Option<Request<'a>>
     ensures { Reads CommandName.Recover (rows_in found.now) result }
 {
     let path = word_in(found, "DIR")?;
-    Some(Request::Recover(path))
+    Some(Request::Recover(RecoverLine {
+        path,
+        to_first_fault: is_set(found, "to-first-fault"),
+    }))
 }
 
 /// A folder that gets a new manifest.

@@ -2,10 +2,10 @@
 
 use crate::arguments::{
     ACCEPT_REST, ALL, Argument, BAIL, BATCH, BEGIN, BENCHMARKS, BESIDE_LOG, COMPACTORS, COMPARE,
-    COUNT, EXISTS, FILES, FIRST, FOLDER, FROM, FROM_LINE, JSON, JSON_LINES, KEY, KEYS, LAST,
-    LAST_LINE, LIMIT, NO_NOTES, NUM, PREFIX, PROGRESS, QUICK, RAW, READ_ONLY, RECOVERS,
-    SOME_WORKERS, SOURCE, STRICT, SVG, TARGET, TEXT, TO, VALUE, VALUE_SIZE, VERIFIERS, WAIT,
-    WORKERS,
+    COUNT, EXISTS, FILES, FIRST, FOLDER, FROM, FROM_LINE, INFLATE, JSON, JSON_LINES, KEY, KEYS,
+    LAST, LAST_LINE, LIMIT, LOGS, NO_NOTES, NUM, PREFIX, PROGRESS, QUICK, RAW, READ_ONLY, RECOVERS,
+    SOME_WORKERS, SOURCE, STRICT, SVG, TARGET, TEXT, TO, TO_FIRST_FAULT, VALUE, VALUE_SIZE,
+    VERIFIERS, WAIT, WORKERS,
 };
 
 /// A command as its help shows it.
@@ -119,7 +119,9 @@ read or a write, 2 bad command line.",
 
 const CHECK: Page = Page {
     name: "check",
-    arguments: &[FOLDER, VERIFIERS, STRICT, COMPARE, PROGRESS, WAIT],
+    arguments: &[
+        FOLDER, VERIFIERS, LOGS, INFLATE, STRICT, COMPARE, PROGRESS, WAIT,
+    ],
     about: "Verifies a folder, and counts what is in it",
     text: "Verifies all that a read of the LevelDB folder DIR can reach: every block of
 every table that its manifest names, and how the tables lie in their levels.
@@ -131,8 +133,11 @@ Prints a line a level, `level L files F bytes B entries E` for the levels 0 to
 6, then `last S`, the last sequence, and `rest B`, how many bytes at the
 manifest's end hold no whole record: above 0 the last record was cut off, which
 is no fault. At the end comes `log NAME BYTES` for each write-ahead log
-(`N.log`) that is not empty and that LevelDB would read: what stands there no
-command reads.
+(`N.log`) that is not empty and that LevelDB would read.
+
+With --logs what stands in those logs is read too: DIR is verified as `lsm
+recover` would leave it. With --inflate it is verified as if the tables that are
+compressed by Snappy were plain ones, which are else `refused 16 Compressed`.
 
 With --strict it is refused where such a line would come, `refused 51
 UnflushedLog N`, or where B is above 0, `refused 61 TornManifest B`.
@@ -146,7 +151,7 @@ Exit status: 0 where all is well, 1 at a fault, 2 bad command line.",
 
 const LIST: Page = Page {
     name: "list",
-    arguments: &[FOLDER, TEXT, QUICK, STRICT, COMPARE, WAIT],
+    arguments: &[FOLDER, TEXT, LOGS, INFLATE, QUICK, STRICT, COMPARE, WAIT],
     about: "Prints the tables of a folder, level by level",
     text: "Prints the tables of the LevelDB folder DIR, levels 0 to 6 and in a level by
 smallest key, `LEVEL NUMBER SIZE SMALLEST LARGEST` for each, and then `end`.
@@ -155,6 +160,9 @@ KEY is hex, or text with --text, `.` for no bytes.
 
 Every table is verified first. Nothing is written in DIR. A line on standard
 error names each write-ahead log (`N.log`) that is not read.
+
+With --logs and --inflate the tables are those of DIR as `check` sees it with
+them: what stands in the logs is one table more at level 0. Both exclude --quick.
 
 With --quick no table is read: what is printed is what the manifest says.
 
@@ -208,7 +216,9 @@ Exit status: 0 done, 1 refused, 2 bad command line.",
 
 const GET: Page = Page {
     name: "get",
-    arguments: &[FOLDER, KEY, TEXT, RAW, EXISTS, QUICK, STRICT, COMPARE, WAIT],
+    arguments: &[
+        FOLDER, KEY, TEXT, RAW, EXISTS, LOGS, INFLATE, QUICK, STRICT, COMPARE, WAIT,
+    ],
     about: "Prints the value of a key in a folder",
     text: "Prints what the LevelDB folder DIR answers for KEY: `value V`, or `absent`. KEY
 and V are hex, or text with --text, `.` for no bytes.
@@ -219,7 +229,9 @@ them. --exists writes nothing. With either of them status 1 and the line
 
 Every table is verified first. Nothing is written in DIR. A line on standard
 error names each write-ahead log (`N.log`) that is not read: what was written
-last may stand there.
+last may stand there. With --logs it is read, and with --inflate so are tables
+that are compressed by Snappy: DIR answers as `check` sees it with them. Both
+exclude --quick.
 
 With --quick no table is verified first: of those where KEY may be three blocks
 are read, and only they are verified. Where a table is not the one that its
@@ -241,8 +253,8 @@ Exit status: 0 done, also where `absent` was printed, 1 refused, or absent with
 const SCAN: Page = Page {
     name: "scan",
     arguments: &[
-        FOLDER, FROM, TO, PREFIX, LIMIT, TEXT, KEYS, JSON, COUNT, QUICK, STRICT, COMPARE, PROGRESS,
-        WAIT,
+        FOLDER, FROM, TO, PREFIX, LIMIT, TEXT, KEYS, JSON, COUNT, LOGS, INFLATE, QUICK, STRICT,
+        COMPARE, PROGRESS, WAIT,
     ],
     about: "Prints the live keys of a folder and their values",
     text: "Prints the live keys of the LevelDB folder DIR with their values, a line
@@ -264,7 +276,9 @@ says only how KEY is spelled on the command line.
 Every table is verified before the first line. Lines are printed as the folder
 is read, in memory that does not grow with it; what is before --from is read
 too. Nothing is written in DIR. A line on standard error names each write-ahead
-log (`N.log`) that is not read: what was written last may stand there.
+log (`N.log`) that is not read: what was written last may stand there. With
+--logs it is read, and with --inflate so are tables that are compressed by
+Snappy: DIR is read as `check` sees it with them. Both exclude --quick.
 
 With --quick no table is verified first: what is printed is read, and only that
 is verified. Where a table is not the one that its manifest tells of, or an older
@@ -447,7 +461,7 @@ more than is said may be in.",
 
 const IMPORT: Page = Page {
     name: "import",
-    arguments: &[SOURCE, TARGET, COMPARE],
+    arguments: &[SOURCE, TARGET, TO_FIRST_FAULT, COMPARE],
     about: "Copies a database, with its compressed tables and its logs",
     text: "Copies the database of the LevelDB folder SRC to the folder DST, which has to be
 there and to have none, and prints `tables T logs L entries E rest B`: how many
@@ -455,15 +469,16 @@ tables the copy has, of how many logs it has the writes, how many entries its
 tables have, and how many bytes at the ends of the manifest and of the logs of
 SRC hold no whole record, as a kill may leave them. SRC is only read.
 
-What no other command reads comes along: tables that Snappy has compressed become
-plain ones, under their numbers and at their levels; and of each key in the
-write-ahead logs that are not flushed, `N.log`, the last write comes in, as one
-table more at level 0. Bytes that hold no whole record are left out.
+Tables that Snappy has compressed become plain ones, under their numbers and at
+their levels; and of each key in the write-ahead logs that are not flushed,
+`N.log`, the last write comes in, as one table more at level 0. Bytes that hold
+no whole record are left out.
 
-A table or a log that is damaged is refused, and named. Where DST has a database
-it is `refused 53 IsThere`, where another program has one of the folders open
-`refused 52 Locked`. Until the last step DST has no database; the tables that a
-refused copy has put there stay.
+A table or a log that is damaged is refused, and named. With --to-first-fault
+what stands in the logs before their first fault comes in, and a line on standard
+error says what is left out. Where DST has a database it is `refused 53 IsThere`,
+where another program has one of the folders open `refused 52 Locked`. Until the
+last step DST has no database; the tables that a refused copy has put there stay.
 
 Exit status: 0 copied, 1 refused, 2 bad command line. After a `write fault` the
 copy is there; after `refused 9 Device` it may be.",
@@ -472,7 +487,7 @@ copy is there; after `refused 9 Device` it may be.",
 
 const RECOVER: Page = Page {
     name: "recover",
-    arguments: &[FOLDER, NO_NOTES, COMPARE, WAIT],
+    arguments: &[FOLDER, TO_FIRST_FAULT, NO_NOTES, COMPARE, WAIT],
     about: "Brings the logs that are not flushed into the tables",
     text: "Brings the write-ahead logs of the LevelDB folder DIR that are not flushed into
 its tables, as LevelDB does when it opens the folder, and prints
@@ -486,10 +501,12 @@ the logs. They stay in the folder until `lsm clean`, or until LevelDB opens it.
 Where no log is to be read, nothing comes in, and L is 0.
 
 The tables are read and checked before. A table or a log that is damaged is
-refused, and named. Compressed tables are `refused 16 Compressed`: `lsm import`
-copies such a folder. Where another program has the folder open it is
-`refused 52 Locked`. After a refusal the database is as it was, and its logs are
-still to be read; a table of them may be left, which `lsm clean` removes.
+refused, and named. With --to-first-fault what stands in the logs before their
+first fault comes in, and a line on standard error says what is left out.
+Compressed tables are `refused 16 Compressed`: `lsm import` copies such a folder.
+Where another program has the folder open it is `refused 52 Locked`. After a
+refusal the database is as it was, and its logs are still to be read; a table of
+them may be left, which `lsm clean` removes.
 
 Exit status: 0 done, 1 refused, 2 bad command line. After a `write fault` the
 logs are in; after `refused 9 Device` they may be.",

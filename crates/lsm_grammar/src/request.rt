@@ -4,7 +4,7 @@ use crate::bench_line::BenchLine;
 use crate::shell_line::ShellLine;
 use crate::writing_line::WritingLine;
 use lsm_requests::{
-    CompactLine, Conversion, DirectoryLine, ImportLine, Input, LevelsLine, LoadLine,
+    CompactLine, Conversion, DirectoryLine, ImportLine, Input, LevelsLine, LoadLine, RecoverLine,
 };
 
 /// What a command line asks for: one command of the program, with all that its words say.
@@ -22,8 +22,8 @@ pub enum Request<'a> {
     Load(LoadLine<'a>),
     /// `import`.
     Import(ImportLine<'a>),
-    /// `recover` of a folder.
-    Recover(&'a str),
+    /// `recover`.
+    Recover(RecoverLine<'a>),
     /// `repair` of a folder.
     Repair(&'a str),
     /// `compact`.

@@ -10,17 +10,19 @@ fn usage(name: CommandName) -> &'static str {
         CommandName::Manifest => "lsm manifest [FILE]",
         CommandName::Script => "lsm script [FILE]",
         CommandName::Check =>
-            "lsm check <DIR> [--workers <N>] [--strict] [--compare] [--progress] [--wait <SECONDS>]",
+            "lsm check <DIR> [--workers <N>] [--logs] [--inflate] [--strict] [--compare] \
+             [--progress] [--wait <SECONDS>]",
         CommandName::List =>
-            "lsm list <DIR> [--text] [--quick] [--strict] [--compare] [--wait <SECONDS>]",
+            "lsm list <DIR> [--text] [--logs] [--inflate] [--quick] [--strict] [--compare] \
+             [--wait <SECONDS>]",
         CommandName::Levels => "lsm levels <DIR> [--text] [--files] [--svg] [--strict]",
         CommandName::Get =>
-            "lsm get <DIR> <KEY> [--text] [--raw] [--exists] [--quick] [--strict] [--compare] \
-             [--wait <SECONDS>]",
+            "lsm get <DIR> <KEY> [--text] [--raw] [--exists] [--logs] [--inflate] [--quick] \
+             [--strict] [--compare] [--wait <SECONDS>]",
         CommandName::Scan =>
             "lsm scan <DIR> [--from <KEY>] [--to <KEY>] [--prefix <KEY>] [--limit <N>] [--text] \
-             [--keys] [--json] [--count] [--quick] [--strict] [--compare] [--progress] \
-             [--wait <SECONDS>]",
+             [--keys] [--json] [--count] [--logs] [--inflate] [--quick] [--strict] [--compare] \
+             [--progress] [--wait <SECONDS>]",
         CommandName::Ingest =>
             "lsm ingest <DIR> <FILE> [--text] [--begin] [--beside-log] [--recover] [--strict] \
              [--compare] [--wait <SECONDS>]",
@@ -34,8 +36,9 @@ fn usage(name: CommandName) -> &'static str {
             "lsm load <DIR> [FILE] [--text] [--begin] [--beside-log] [--recover] [--workers <N>] \
              [--from-line <I>] [--last-line] [--json] [--strict] [--compare] [--progress] \
              [--wait <SECONDS>]",
-        CommandName::Import => "lsm import <SRC> <DST> [--compare]",
-        CommandName::Recover => "lsm recover <DIR> [--strict] [--compare] [--wait <SECONDS>]",
+        CommandName::Import => "lsm import <SRC> <DST> [--to-first-fault] [--compare]",
+        CommandName::Recover =>
+            "lsm recover <DIR> [--to-first-fault] [--strict] [--compare] [--wait <SECONDS>]",
         CommandName::Repair => "lsm repair <DIR> [--compare] [--wait <SECONDS>]",
         CommandName::Compact =>
             "lsm compact <DIR> [--all] [--from <KEY>] [--to <KEY>] [--text] [--workers <N>] \

@@ -1,6 +1,6 @@
 //! What is wrong with words that are of the grammar, but that ask for nothing.
 
-use crate::asking::{between_in, form_in, is_set, reads_only_in, word_in};
+use crate::asking::{between_in, form_in, is_set, quick_in, reads_only_in, word_in};
 use clap::ArgMatches;
 use lsm_text::{Form, SyntaxFault, syntax_fault_in};
 use std::fmt;
@@ -150,6 +150,9 @@ fn excluding<'a>(found: &ArgMatches<'a>) -> Option<UsageFault<'a>> {
     let loads = word_in(found, "from-line").is_some();
     if loads && is_set(found, "json") && is_set(found, "text") {
         return Some(UsageFault::Word("--json", "and `--text` exclude one another"));
+    }
+    if quick_in(found).is_none() {
+        return Some(UsageFault::Word("--quick", "excludes --logs and --inflate"));
     }
     if reads_only_in(found).is_none() {
         return Some(UsageFault::Word("--read-only", READ_ONLY_EXCLUDES));

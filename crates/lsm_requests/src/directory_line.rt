@@ -12,7 +12,12 @@ pub struct DirectoryLine<'a> {
     pub form: Form,
     /// Whether it is refused where it would note what is not read: where there is `--strict`.
     pub strict: bool,
-    /// Whether no table is read that the command does not come to: where there is `--quick`.
+    /// Whether logs that are not flushed are seen as brought in: where there is `--logs`.
+    pub logs: bool,
+    /// Whether compressed tables are seen as plain ones: where there is `--inflate`.
+    pub inflates: bool,
+    /// Whether no table is read that the command does not come to: where there is `--quick`, which
+    /// excludes `--logs` and `--inflate`.
     pub quick: bool,
     /// Whether it is to say on standard error how far it is: where there is `--progress`.
     pub progress: bool,

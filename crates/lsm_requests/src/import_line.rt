@@ -5,4 +5,6 @@
 pub struct ImportLine<'a> {
     pub source: &'a str,
     pub target: &'a str,
+    /// Whether a damaged log comes in as far as it is whole: where there is `--to-first-fault`.
+    pub to_first_fault: bool,
 }

@@ -27,6 +27,7 @@ mod import_line;
 mod ingest_options;
 mod load_line;
 mod load_options;
+mod recover_line;
 
 // Of measurements.
 mod bench_options;
@@ -50,5 +51,6 @@ pub use levels_line::LevelsLine;
 pub use levels_output::LevelsOutput;
 pub use load_line::LoadLine;
 pub use load_options::LoadOptions;
+pub use recover_line::RecoverLine;
 pub use scan_options::ScanOptions;
 pub use scan_output::ScanOutput;

@@ -1,16 +1,13 @@
 use Rattle.std.proofs.Common.{◌≡◌, All, ap, subst, sym}
 use Rattle.lsm_shelf.specs.Told.{Place, Told}
 use Rattle.lsm_storage.specs.FileShelf.{file_told}
-use Rattle.lsm_directory.specs.Beside.{LooksBeside}
-use Rattle.lsm_directory.proofs.CallerLemmas.{shelf_over}
+use Rattle.lsm_cmd_read.proofs.LookedLaws.{shelf_on}
 use Rattle.lsm_cmd_read.proofs.program.open_shelf.Goals as goal
 
 pub returns-clause-found : goal.returns-clause-found
 returns-clause-found g c =
-    shelf_over g.C.FolderCalls c.args.path.now (LooksBeside c.in_ok-beside.beside)
-    c.in_ok-folder.folder c.look_beside.new.folder c.over.result c.in_ok-folder.ensures.place
-    c.in_ok-folder.ensures.calls c.in_ok-beside.ensures.told c.look_beside.ensures.place
-    c.over.ensures.folder c.over.ensures.fresh
+    shelf_on g.C.FolderCalls c.args.path.now c.in_ok-folder.beside c.in_ok-folder.folder
+    c.over.result c.in_ok-folder.ensures.opened c.over.ensures.folder c.over.ensures.fresh
 
 pub returns-clause-place : goal.returns-clause-place
 returns-clause-place g c =

@@ -1,4 +1,4 @@
-use Rattle.lsm_cmd_read.proofs.program.begin.Given as goal
+use Rattle.lsm_cmd_read.proofs.performing.begin.Given as goal
 
 -- the name stands for the records that were just made, and for the contents of the shelf
 abbrev pub ghosts-perform_as : goal.ghosts-perform_as

@@ -1,5 +1,5 @@
 use Rattle.lsm_cmd_read.proofs.ReadingOutcomes.{is_refused}
-use Rattle.lsm_cmd_read.proofs.program.begin.Goals as goal
+use Rattle.lsm_cmd_read.proofs.performing.begin.Goals as goal
 
 pub returns-in-Ok-clause-refused : goal.returns-in-Ok-clause-refused
 returns-in-Ok-clause-refused g c = is_refused c.perform_as.result.0 _ _ _ g.S.Shelf.honest _ _
