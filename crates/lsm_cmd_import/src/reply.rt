@@ -4,17 +4,19 @@ ghost use Rattle.std.specs.Prelude.{OnOk};
 ghost use Rattle.std.specs.Io.KnownBytes.{Appends};
 ghost use Rattle.lsm_cmd_import.specs.Imported.{made_text};
 
+use lsm_log_files::LogStop;
 use std::io::{self, Write};
 
 /// A copy: how many tables it has; of how many logs the writes came in; how many entries the tables
-/// have; and how many bytes at the ends of the manifest and of the logs hold no whole record, and
-/// are not read.
+/// have; how many bytes at the ends of the manifest and of the logs hold no whole record, and are
+/// not read; and where the first fault of a log is, if its writes came in up to that.
 #[derive(Clone, Copy, Debug)]
 pub struct CopyMade {
     pub tables: u64,
     pub logs: u64,
     pub entries: u64,
     pub rest: u64,
+    pub stop: Option<LogStop>,
 }
 
 /// Writes `tables T logs L entries E rest B`, and flushes.
@@ -27,6 +29,7 @@ pub(crate) fn reply<O: Write>(out: &mut O, made: CopyMade) -> io::Result<()>
         logs,
         entries,
         rest,
+        ..
     } = made;
     writeln!(
         out,

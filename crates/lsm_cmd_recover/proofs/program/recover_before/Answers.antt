@@ -14,7 +14,7 @@ returns-in-Ok-clause-done g c = inr (
     start = c.in_ok-folder.prepared.start;
     files = c.in_ok-folder.prepared.logs.items;
     folder = c.in_ok-folder.folder;
-    left = c.recover_on.new.folder;
+    left = c.recover_to.new.folder;
     ready = rw c.seeing_logs-options.ensures at c.in_ok-folder.ensures.ready;
     recovered = rw c.deref.ensures.value at c.in-Ok.ensures.done;
   },
