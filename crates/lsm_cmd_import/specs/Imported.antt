@@ -28,7 +28,6 @@ use Rattle.lsm_opening.specs.declared.faults.writer_fault.WriterFault.TheVariant
 use Rattle.lsm_opening.specs.declared.faults.writer_fault.WriterFault.TheVariants.{UnflushedLog}
 use Rattle.lsm_wal.specs.declared.write_batch.WriteBatch.{WriteBatch}
 use Rattle.lsm_import.specs.Copies.{OnlyPuts}
-use Rattle.lsm_text.specs.Printing.{Begins}
 use Rattle.lsm_log_files.specs.Source.{ReadsManifest}
 use Rattle.lsm_log_files.specs.Stops.{IsNoSourceTo, IsSourceTo, left_text}
 use Rattle.lsm_log_files.specs.declared.log_stop.LogStop.{LogStop}
@@ -77,8 +76,9 @@ pub record IsImported (to_first_fault : Bool) (From Into : ℕ → List ℕ → 
   pub left : LeavesSource before later
 
 -- Memory ran out; or the source was not read; or it was, and its copy was not made.
-abbrev pub IsUncopied : Bool → (From Into : ℕ → List ℕ → Type 0) → (Unheld Denied : Asked → ShelfFault
-    → Type 0) → Type 0 → List FolderFile → CopyFault → Moment → Moment → Type 0
+abbrev pub IsUncopied : Bool → (From Into : ℕ → List ℕ → Type 0)
+    → (Unheld Denied : Asked → ShelfFault → Type 0) → Type 0 → List FolderFile → CopyFault → Moment
+    → Moment → Type 0
 IsUncopied to_first_fault From Into Unheld Denied Honest files fault before later =
     (fault ≡ OutOfMemory)
     ⊎ (((e : SourceFault) × (fault ≡ Read e)
@@ -173,11 +173,10 @@ module _ {C M : Type 0} (folders : Ghosts C M) (marks : mark.Ghosts M) (to_first
         made (moment folders folder source target)
         (moment folders left_folder left_source left_target)
 
-  -- So it was, and the line of it was written. What was left out was told on standard error, as far
-  -- as that could be written.
+  -- So it was; what was left out was told on standard error, and the line of it was written.
   abbrev pub ImportsAt : ImportLine → (old new said_old said_new : Option (List ℕ)) → Type 0
   ImportsAt line old new said_old said_new = (made : CopyMade) × ImportsTo line made
-      × Begins said_old said_new (left_text made.stop) × Appends old new (made_text made)
+      × Appends said_old said_new (left_text made.stop) × Appends old new (made_text made)
 
   -- It was not: what the fault says, and what is left.
   pub record FailsAt (line : ImportLine) (fault : CopyFault) : Type 0 where

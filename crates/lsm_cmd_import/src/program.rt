@@ -140,7 +140,9 @@ where
         Ok(made) => made,
         Err(fault) => return Err(fault),
     };
-    tell_left_out(alloc, made.stop, err);
+    if tell_left_out(alloc, made.stop, err).is_err() {
+        return Err(CopyFault::Write);
+    }
     match reply(out, made) {
         Ok(()) => Ok(()),
         Err(_) => Err(CopyFault::Write),
@@ -154,8 +156,8 @@ where
 /// The tables become plain ones, under their numbers and at their levels; of each key that the logs
 /// write, the last write comes in as one table more, at level 0; the manifest comes last. The
 /// source is only read. A log that is damaged, or begins below the end of the one before, is
-/// refused; or, to its first fault, comes in as far as it has none, and none of the later ones does.
-/// What is left out is then told on `err`: `note: N.log has F NAME: its last B bytes and L later logs
+/// refused; or, to the first fault, it comes in as far as it has none, and no later one does. What
+/// is left out is then told on `err`: `note: N.log has F NAME: its last B bytes and L later logs
 /// are left out`.
 ///
 /// `Locked` where another program has one of the folders open; the refusals of opening and looking

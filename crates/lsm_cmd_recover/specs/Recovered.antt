@@ -63,16 +63,10 @@ module _ {C M : Type 0} (folders : Ghosts C M) (marks : mark.Ghosts M) (to_first
     pub ready : IsReady folders options path start files folder
     pub recovered : RecoversBy folders marks to_first_fault files folder left brought
 
-  -- So it was; what was left out was told on standard error, as far as that could be written.
-  abbrev pub RecoversTelling : IngestOptions → List ℕ → Brought
-      → (said_old said_new : Option (List ℕ)) → Type 0
-  RecoversTelling options path brought said_old said_new =
-      RecoversTo options path brought × Begins said_old said_new (left_text brought.stop)
-
-  -- so it was, and the line of it was written
+  -- So it was; what was left out was told on standard error, and the line of it was written.
   abbrev pub RecoversAt : List ℕ → (old new said_old said_new : Option (List ℕ)) → Type 0
   RecoversAt path old new said_old said_new = (brought : Brought)
-      × RecoversTelling plainly path brought said_old said_new
+      × RecoversTo plainly path brought × Appends said_old said_new (left_text brought.stop)
       × Appends old new (brought_text brought)
 
   -- they did not
@@ -90,8 +84,8 @@ module _ {C M : Type 0} (folders : Ghosts C M) (marks : mark.Ghosts M) (to_first
   IsNotRecovered options path fault =
       IsUnready folders options path fault ⊎ FailsAt options path fault
 
-  -- So it was, and nothing was written on the output; or they came in, and the line of it was not
-  -- written.
+  -- So it was, and nothing was written on the output; or they came in, and what is told of it was
+  -- not written.
   abbrev pub FailsToRecover : List ℕ → RecoverFault → (old new : Option (List ℕ)) → Type 0
   FailsToRecover path (Logs fault) old new = Keeps old new × IsNotRecovered plainly path fault
   FailsToRecover path WriteFault old new = (brought : Brought) × RecoversTo plainly path brought
@@ -105,12 +99,13 @@ module _ {C M : Type 0} (folders : Ghosts C M) (marks : mark.Ghosts M) (to_first
     pub folder : C
     pub ready : IsReady folders options path (Begin number) files folder
 
-  -- It has no database yet; or the logs of the one that is there came in.
+  -- It has no database yet; or the logs of the one that is there came in. What was left out was
+  -- told on standard error, as far as that could be written.
   abbrev pub ComesFirst : Bool → List ℕ → (said_old said_new : Option (List ℕ)) → Type 0
   ComesFirst begins path said_old said_new =
       (IsBare (seeing_logs begins) path × Keeps said_old said_new)
-      ⊎ ((brought : Brought)
-      × RecoversTelling (seeing_logs begins) path brought said_old said_new)
+      ⊎ ((brought : Brought) × RecoversTo (seeing_logs begins) path brought
+      × Begins said_old said_new (left_text brought.stop))
 
   -- They did not come in.
   abbrev pub FailsFirst : Bool → List ℕ → BringFault → Type 0

@@ -69,7 +69,9 @@ where
         Ok(brought) => brought,
         Err(fault) => return Err(RecoverFault::Logs(fault)),
     };
-    tell_left_out(alloc, brought.stop, err);
+    if tell_left_out(alloc, brought.stop, err).is_err() {
+        return Err(RecoverFault::Write);
+    }
     match reply(out, brought) {
         Ok(()) => Ok(()),
         Err(_) => Err(RecoverFault::Write),
@@ -113,7 +115,7 @@ where
         Ok(brought) => brought,
         Err(fault) => return Err(fault),
     };
-    tell_left_out(alloc, brought.stop, err);
+    let _ = tell_left_out(alloc, brought.stop, err);
     Ok(())
 }
 
@@ -125,9 +127,9 @@ where
 /// new manifest names it and the tables that are there, and reads none of the logs. They stay in
 /// the folder. Where none is to be read, nothing is written; where each is empty, what a crash left
 /// of other manifests is removed first, as by each command that writes. A log that is damaged, or
-/// begins below the end of the one before, is refused; or, to its first fault, comes in as far as it
-/// has none, and none of the later ones does. What is left out is then told on `err`: `note: N.log
-/// has F NAME: its last B bytes and L later logs are left out`.
+/// begins below the end of the one before, is refused; or, to the first fault, it comes in as far
+/// as it has none, and no later one does. What is left out is then told on `err`: `note: N.log has
+/// F NAME: its last B bytes and L later logs are left out`.
 ///
 /// `Locked` where another program has the folder open; the refusals of opening and looking at it,
 /// and of its tables. After each refusal but `Write` the database is as it was, but for one of the

@@ -1,7 +1,7 @@
 -- Logs that are read up to the first fault, and what is told of it.
 use Rattle.std.proofs.Common.{◌≡◌, ◌⊎◌, ℕ, suc, ◌+◌, ◌-◌, ◌<◌, Bool, true, List, [], ◌∷◌, ◌++◌}
-use Rattle.std.proofs.Common.{length, take, drop, get_or, Option, None, Some, OnOk, OnErr, refl, sym}
-use Rattle.std.proofs.Common.{◌∙◌, inl, inr, arith, append-nil}
+use Rattle.std.proofs.Common.{length, take, drop, get_or, Option, None, Some, OnOk, OnErr, refl}
+use Rattle.std.proofs.Common.{sym, ◌∙◌, inl, inr, arith, append-nil}
 use Rattle.std.specs.Prelude.{IfNone, IfSome, MatchOption, Result, Ok, Err}
 use Rattle.std.specs.Io.KnownBytes.{Appends, Keeps}
 use Rattle.std.proofs.KnownBytes.{Appends-kept, Appends-nil}
@@ -42,6 +42,9 @@ pub begun_at_least : {T E : Type 0} (r : Result T E) (old new : Option (List ℕ
     → OnOk r (Appends old new text) → OnErr r (Begins old new text) → Begins old new text
 begun_at_least (Ok x) old new text written begun = ([], (text, written, sym (append-nil text)))
 begun_at_least (Err e) old new text written begun = begun
+
+pub none_told : (old : Option (List ℕ)) → Appends old old []
+none_told old = Appends-nil old
 
 -- ---- one log
 

@@ -1,13 +1,13 @@
 //! Where the reading of logs stopped, and what is told of it.
 
-ghost use Rattle.std.specs.Prelude.{◌≡◌, IfOk, None};
+ghost use Rattle.std.specs.Prelude.{◌≡◌, IfOk, None, OnErr, OnOk};
 ghost use Rattle.std.specs.Prelude.{string_bytes};
-ghost use Rattle.std.specs.Io.KnownBytes.{Keeps};
+ghost use Rattle.std.specs.Io.KnownBytes.{Appends, Keeps};
 ghost use Rattle.lsm_text.specs.Printing.{Begins};
 ghost use Rattle.lsm_log_files.specs.Stops.{left_text, stop_text};
 
 use crate::log_files::log_file;
-use lsm_directory::write_output;
+use lsm_directory::{OutputFault, write_output};
 use lsm_wal::WriteLogFault;
 use std::alloc::{AllocError, Global};
 use std::io::Write;
@@ -38,20 +38,28 @@ fn stop_text(alloc: Global, stop: LogStop) -> Result<String, AllocError>
     let file = log_file(alloc, log)?;
     let number = fault.number();
     let name = fault.name();
-    format!(in alloc;
-        "note: {file} has {number} {name}: its last {bytes} bytes and {later} later logs are left out\n"
-    )
+    let fault = format!(in alloc; "{file} has {number} {name}")?;
+    format!(in alloc; "note: {fault}: its last {bytes} bytes and {later} later logs are left out\n")
 }
 
-/// Writes what is told of logs that were left out, if some were. What can't be written is left out.
-#[tactic(auto, using(crate::proofs::StopLaws::begun_none, crate::proofs::StopLaws::begun_at_least))]
-pub fn tell_left_out<E: Write>(alloc: Global, stop: Option<LogStop>, err: &mut E)
-    ensures told { Begins (E.contents err.old) (E.contents err.new) (left_text stop) }
+/// Writes what is told of logs that were left out, if some were.
+#[tactic(auto, using(crate::proofs::StopLaws::begun_none, crate::proofs::StopLaws::none_told))]
+pub fn tell_left_out<E: Write>(
+    alloc: Global,
+    stop: Option<LogStop>,
+    err: &mut E,
+) -> Result<(), OutputFault>
+    ensures told { OnOk result
+        (Appends (E.contents err.old) (E.contents err.new) (left_text stop)) }
+    ensures begun { OnErr result
+        (Begins (E.contents err.old) (E.contents err.new) (left_text stop)) }
     ensures quiet { stop ≡ None → Keeps (E.contents err.old) (E.contents err.new) }
 {
-    if let Some(stop) = stop {
-        if let Ok(text) = stop_text(alloc, stop) {
-            let _ = write_output(err, text.as_bytes());
-        }
+    let Some(stop) = stop else {
+        return Ok(());
+    };
+    match stop_text(alloc, stop) {
+        Ok(text) => write_output(err, text.as_bytes()),
+        Err(_) => Err(OutputFault),
     }
 }

@@ -18,8 +18,9 @@ module _ {C M : Type 0} (folders : Ghosts C M) (marks : mark.Ghosts M) (to_first
     (told : told_by folders begun ≡ fresh (folders.place fork))
     (same : folders.place fork ≡ folders.place old) where
   pub done_on : (r : Result Brought BringFault)
-      → IfOk r (λ b. IsRecovered to_first_fault (stored_at folders marks (told_by folders begun).place)
-      (AreHonest folders.calls) files b (moment folders old begun) (moment folders new ended))
+      → IfOk r (λ b. IsRecovered to_first_fault
+      (stored_at folders marks (told_by folders begun).place) (AreHonest folders.calls) files b
+      (moment folders old begun) (moment folders new ended))
       → IfOk r (λ b. RecoversBy folders marks to_first_fault files old new b)
   done_on (Ok b) done = record {
     begun = begun;
@@ -30,9 +31,9 @@ module _ {C M : Type 0} (folders : Ghosts C M) (marks : mark.Ghosts M) (to_first
   done_on (Err e) done = tt
 
   pub refused_on : (r : Result Brought BringFault)
-      → IfErr r (λ e. IsUnrecovered to_first_fault (stored_at folders marks (told_by folders begun).place)
-      MayRefuse (AreHonest folders.calls) files e (moment folders old begun)
-      (moment folders new ended))
+      → IfErr r (λ e. IsUnrecovered to_first_fault
+      (stored_at folders marks (told_by folders begun).place) MayRefuse
+      (AreHonest folders.calls) files e (moment folders old begun) (moment folders new ended))
       → IfErr r (FailsTo folders marks to_first_fault files old new)
   refused_on (Ok b) refused = tt
   refused_on (Err e) refused = inr record {

@@ -82,8 +82,8 @@ module _ {C M : Type 0} (folders : Ghosts C M) where
   moment folder shelf = moment_of (folders.calls folder) (told_by folders shelf)
 
 module _ {C M : Type 0} (folders : Ghosts C M) (marks : mark.Ghosts M) where
-  -- The logs among these files of the folder came into its database, whole or to the first fault, by
-  -- a new shelf on it.
+  -- The logs among these files of the folder came into its database, whole or to the first fault,
+  -- by a new shelf on it.
   pub record RecoversBy (to_first_fault : Bool) (files : List FolderFile) (old new : C)
       (brought : Brought) : Type 0 where
     pub begun : FileShelf C M
@@ -101,8 +101,8 @@ module _ {C M : Type 0} (folders : Ghosts C M) (marks : mark.Ghosts M) where
     pub fresh_shelf : told_by folders begun ≡ fresh (folders.place old)
     pub ended : FileShelf C M
     pub refused :
-        IsUnrecovered to_first_fault (stored_at folders marks (told_by folders begun).place) MayRefuse
-        (AreHonest folders.calls) files fault (moment folders old begun)
+        IsUnrecovered to_first_fault (stored_at folders marks (told_by folders begun).place)
+        MayRefuse (AreHonest folders.calls) files fault (moment folders old begun)
         (moment folders new ended)
 
   -- so it was; or there was no memory for the shelf, and the folder was asked for nothing

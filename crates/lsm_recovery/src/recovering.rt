@@ -149,10 +149,10 @@ fn recover<C: FolderCalls, S: Shelf, R: Wait>(
 ///
 /// Of each key that the logs write, the last write comes in as one table more, at level 0; then a
 /// new manifest names it and the tables that are there, and reads none of the logs. Where none is to
-/// be read, nothing is written. A log that is damaged, or begins below the end of the one before, is
-/// refused; or, to its first fault, comes in as far as it has none, and none of the later ones does.
-/// After a refusal the database is as it was, but for one of the device while the manifest is begun:
-/// then it is as it was, or has the logs.
+/// be read, nothing is written. A log that is damaged, or begins below the end of the one before,
+/// is refused; or, to the first fault, it comes in as far as it has none, and no later one does.
+/// After a refusal the database is as it was, but for one of the device while the manifest is
+/// begun: then it is as it was, or has the logs.
 pub fn recover_to<C: FolderCalls + Send + Sync, R: Wait>(
     rt: &R,
     alloc: Global,

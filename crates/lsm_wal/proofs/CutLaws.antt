@@ -158,7 +158,8 @@ cut_log prefixes bytes records rest l n = elim (cases_lt n (length l.front)) [
   | inl within ↦
       let same : take n bytes ≡ take n l.front =
       ap (take n) l.text_is ∙ take-append-le n l.front l.tail (omega arith) in
-      subst (λ (b : List ℕ). SpellsPrefix b records) (sym same) (prefixes l.front records l.spelled n)
+      subst (λ (b : List ℕ). SpellsPrefix b records) (sym same)
+      (prefixes l.front records l.spelled n)
   | inr past ↦
       let more = take (n - length l.front) l.tail in
       let all : take (length records) records ≡ records =

@@ -38,6 +38,7 @@ returns-in-Ok-reply-clause-done g c = (
     left_target = c.import-made.result.2;
     done = rw (c.in-Ok.is, c.deref.ensures.value) at c.import-made.ensures.done;
   },
+  c.tell_left_out.ensures.told,
   c.in-Ok-reply.ensures.written,
 )
 
