@@ -33,7 +33,7 @@ pub enum CopyFault {
     Copy(ImportFault),
     /// The tables of the copy are no version.
     Tables(CheckFault),
-    /// The copy was made, and the line of it not written.
+    /// The copy was made, and what is told of it not written.
     Write,
 }
 

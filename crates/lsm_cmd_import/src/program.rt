@@ -140,9 +140,9 @@ where
         Ok(made) => made,
         Err(fault) => return Err(fault),
     };
-    if tell_left_out(alloc, made.stop, err).is_err() {
+    let Ok(()) = tell_left_out(alloc, made.stop, err) else {
         return Err(CopyFault::Write);
-    }
+    };
     match reply(out, made) {
         Ok(()) => Ok(()),
         Err(_) => Err(CopyFault::Write),

@@ -69,9 +69,9 @@ where
         Ok(brought) => brought,
         Err(fault) => return Err(RecoverFault::Logs(fault)),
     };
-    if tell_left_out(alloc, brought.stop, err).is_err() {
+    let Ok(()) = tell_left_out(alloc, brought.stop, err) else {
         return Err(RecoverFault::Write);
-    }
+    };
     match reply(out, brought) {
         Ok(()) => Ok(()),
         Err(_) => Err(RecoverFault::Write),

@@ -82,12 +82,16 @@ IsNoSourceTo to_first_fault Refused files fault old new was is =
 
 -- ---- what is told
 
+-- `N.log has F NAME`
+abbrev pub fault_text : ℕ → WriteLogFault → List ℕ
+fault_text log fault = log_name log
+    ++ (codes " has " ++ (decimal (number_of fault) ++ (codes " " ++ name_of fault)))
+
 -- `note: N.log has F NAME: its last B bytes and L later logs are left out`
 abbrev pub stop_text : LogStop → List ℕ
 stop_text s = codes "note: "
-    ++ (log_name s.log ++ (codes " has " ++ (decimal (number_of s.fault) ++ (codes " "
-    ++ (name_of s.fault ++ (codes ": its last " ++ (decimal s.bytes ++ (codes " bytes and "
-    ++ (decimal s.later ++ (codes " later logs are left out" ++ (10 ∷ [])))))))))))
+    ++ (fault_text s.log s.fault ++ (codes ": its last " ++ (decimal s.bytes ++ (codes " bytes and "
+    ++ (decimal s.later ++ (codes " later logs are left out" ++ (10 ∷ [])))))))
 
 -- that, where something was left out
 abbrev pub left_text : Option LogStop → List ℕ

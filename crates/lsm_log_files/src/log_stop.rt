@@ -4,7 +4,7 @@ ghost use Rattle.std.specs.Prelude.{◌≡◌, IfOk, None, OnErr, OnOk};
 ghost use Rattle.std.specs.Prelude.{string_bytes};
 ghost use Rattle.std.specs.Io.KnownBytes.{Appends, Keeps};
 ghost use Rattle.lsm_text.specs.Printing.{Begins};
-ghost use Rattle.lsm_log_files.specs.Stops.{left_text, stop_text};
+ghost use Rattle.lsm_log_files.specs.Stops.{fault_text, left_text, stop_text};
 
 use crate::log_files::log_file;
 use lsm_directory::{OutputFault, write_output};
@@ -25,7 +25,17 @@ pub struct LogStop {
     pub later: u64,
 }
 
-/// What is told of it.
+/// Which fault a log has.
+fn fault_text(alloc: Global, log: u64, fault: WriteLogFault) -> Result<String, AllocError>
+    ensures { IfOk result (λ s. string_bytes s ≡ fault_text log fault) }
+{
+    let file = log_file(alloc, log)?;
+    let number = fault.number();
+    let name = fault.name();
+    format!(in alloc; "{file} has {number} {name}")
+}
+
+/// What is told of logs that were left out.
 fn stop_text(alloc: Global, stop: LogStop) -> Result<String, AllocError>
     ensures { IfOk result (λ s. string_bytes s ≡ stop_text stop) }
 {
@@ -35,10 +45,7 @@ fn stop_text(alloc: Global, stop: LogStop) -> Result<String, AllocError>
         bytes,
         later,
     } = stop;
-    let file = log_file(alloc, log)?;
-    let number = fault.number();
-    let name = fault.name();
-    let fault = format!(in alloc; "{file} has {number} {name}")?;
+    let fault = fault_text(alloc, log, fault)?;
     format!(in alloc; "note: {fault}: its last {bytes} bytes and {later} later logs are left out\n")
 }
 

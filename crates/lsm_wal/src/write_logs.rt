@@ -7,7 +7,7 @@ ghost use Rattle.lsm_wal.specs.WriteLog.{AreBatches, IsWriteLog, after};
 ghost use Rattle.lsm_wal.specs.WriteLogs.{AreInRow, BeginBelow, IsReadRefusal};
 ghost use Rattle.lsm_wal.specs.declared.write_batch.WriteBatch.{WriteBatch as Given};
 
-use crate::log_front::{LogFront, left_behind, read_to_first_fault};
+use crate::log_front::{left_behind, read_to_first_fault};
 use crate::write_batch::WriteBatch;
 use crate::write_log::{WriteLog, first_batches, read_writes};
 use crate::write_log_fault::WriteLogFault;
@@ -119,9 +119,10 @@ impl WriteLogs {
         ensures err { OnErr result (self.new ≡ self.old) }
     {
         first_batches();
-        let LogFront { log, len, fault } = read_to_first_fault(alloc, self.end, bytes)?;
-        let left = left_behind(bytes.len(), len, log.rest);
-        let mut batches = log.batches.into_vec();
+        let front = read_to_first_fault(alloc, self.end, bytes)?;
+        let fault = front.fault;
+        let left = left_behind(bytes.len(), front.len, front.log.rest);
+        let mut batches = front.log.batches.into_vec();
         let end = end_of(self.end, &batches);
         self.batches.append(&mut batches)?;
         self.end = end;
