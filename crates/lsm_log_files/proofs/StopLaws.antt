@@ -71,6 +71,21 @@ reads_front number before now bytes left (Some e) old new whole (bs, is, more) g
   more = more;
 }
 
+-- with the bytes at the ends of those before
+pub with_sum : (n : ℕ) (before now : List WriteBatch) (rest left sum : ℕ) (old new : List Call)
+    → ReadsNext n before now 0 left old new → sum ≡ rest + left
+    → ReadsNext n before now rest sum old new
+with_sum n before now rest left sum old new r is =
+    let sums = r.sums in
+    record {
+      log = r.log;
+      numbered = r.numbered;
+      is = r.is;
+      more = r.more;
+      sums = omega arith;
+      call = r.call;
+    }
+
 -- what the folder did not give is not damaged
 pub not_bad : (number : ℕ) (fault : SourceFault) (old new : List Call)
     → IsUngiven number fault old new → IsBadLog fault → ⊥

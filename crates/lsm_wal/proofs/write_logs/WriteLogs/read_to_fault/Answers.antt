@@ -10,8 +10,8 @@ end_of-end-requires c =
     let is = c.deref.ensures.value ∙ c.into_vec-batches.ensures in (
       front.log.records,
       subst (λ bs. AreBatches c.self.inside.end front.log.records bs) (sym is)
-          (spelled_above c.self.inside.end front.log.records c.in_ok-front.front.log.batches front.above
-          front.log.spelled),
+          (spelled_above c.self.inside.end front.log.records c.in_ok-front.front.log.batches
+          front.above front.log.spelled),
     )
 
 pub invariant_of-self-2 : goal.invariant_of-self-2
@@ -32,8 +32,8 @@ pub returns-clause-front : goal.returns-clause-front
 returns-clause-front c =
     let log = c.in_ok-front.front.log in
     fronts c.first_batches.ensures c.self.inside.end c.args.bytes.now c.in_ok-front.front.len
-    c.left_behind-left.result log.rest log.batches c.in_ok-front.front.fault c.in_ok-front.ensures.front
-    c.in_ok-front.ensures.inside c.in_ok-front.ensures.fault c.left_behind-left.ensures _ _
-    (c.self.invariant.1 ∙ ap (after 0) c.self.view_is)
+    c.left_behind-left.result log.rest log.batches c.in_ok-front.front.fault
+    c.in_ok-front.ensures.front c.in_ok-front.ensures.inside c.in_ok-front.ensures.fault
+    c.left_behind-left.ensures _ _ (c.self.invariant.1 ∙ ap (after 0) c.self.view_is)
     (c.in_ok-append.ensures.items ∙ ap (λ ws. c.self.inside.batches.items ++ ws)
     c.into_vec-batches.ensures ∙ ap (λ bs. bs ++ log.batches) c.self.view_is)
