@@ -1,6 +1,6 @@
 //! Where the reading of logs stopped, and what is told of it.
 
-ghost use Rattle.std.specs.Prelude.{◌≡◌, IfOk, None, OnErr, OnOk};
+ghost use Rattle.std.specs.Prelude.{◌≡◌, IfOk, None, OnOk};
 ghost use Rattle.std.specs.Prelude.{string_bytes};
 ghost use Rattle.std.specs.Io.KnownBytes.{Appends, Keeps};
 ghost use Rattle.lsm_text.specs.Printing.{Begins};
@@ -58,8 +58,7 @@ pub fn tell_left_out<E: Write>(
 ) -> Result<(), OutputFault>
     ensures told { OnOk result
         (Appends (E.contents err.old) (E.contents err.new) (left_text stop)) }
-    ensures begun { OnErr result
-        (Begins (E.contents err.old) (E.contents err.new) (left_text stop)) }
+    ensures begun { Begins (E.contents err.old) (E.contents err.new) (left_text stop) }
     ensures quiet { stop ≡ None → Keeps (E.contents err.old) (E.contents err.new) }
 {
     let Some(stop) = stop else {
