@@ -13,12 +13,11 @@ ghost use Rattle.lsm_cmd_import.specs.declared.copy_fault.CopyFault.TheVariants.
 
 use crate::copy_fault::CopyFault;
 use crate::importing::import;
-use crate::reply::reply;
+use crate::reply::tell;
 use lsm_directory::{
     FolderFile, Known, Paths, files_beside, first_unread, open_at, refuse, status_of,
 };
 use lsm_folder::{FolderCalls, Reasons};
-use lsm_log_files::tell_left_out;
 use lsm_opening::{Prepared, Start, WriterFault, plainly, prepare};
 use lsm_requests::ImportLine;
 use lsm_storage::FileShelf;
@@ -140,10 +139,7 @@ where
         Ok(made) => made,
         Err(fault) => return Err(fault),
     };
-    let Ok(()) = tell_left_out(alloc, made.stop, err) else {
-        return Err(CopyFault::Write);
-    };
-    match reply(out, made) {
+    match tell(alloc, made, out, err) {
         Ok(()) => Ok(()),
         Err(_) => Err(CopyFault::Write),
     }

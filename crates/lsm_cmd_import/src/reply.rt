@@ -1,10 +1,13 @@
 //! What is said of a copy.
 
-ghost use Rattle.std.specs.Prelude.{OnOk};
-ghost use Rattle.std.specs.Io.KnownBytes.{Appends};
+ghost use Rattle.std.specs.Prelude.{◌≡◌, None, OnOk};
+ghost use Rattle.std.specs.Io.KnownBytes.{Appends, Keeps};
+ghost use Rattle.lsm_log_files.specs.Stops.{left_text};
 ghost use Rattle.lsm_cmd_import.specs.Imported.{made_text};
 
-use lsm_log_files::LogStop;
+use lsm_directory::OutputFault;
+use lsm_log_files::{LogStop, tell_left_out};
+use std::alloc::Global;
 use std::io::{self, Write};
 
 /// A copy: how many tables it has; of how many logs the writes came in; how many entries the tables
@@ -20,7 +23,7 @@ pub struct CopyMade {
 }
 
 /// Writes `tables T logs L entries E rest B`, and flushes.
-pub(crate) fn reply<O: Write>(out: &mut O, made: CopyMade) -> io::Result<()>
+fn reply<O: Write>(out: &mut O, made: CopyMade) -> io::Result<()>
     ensures written { OnOk result
         (Appends (O.contents out.old) (O.contents out.new) (made_text made)) }
 {
@@ -36,4 +39,24 @@ pub(crate) fn reply<O: Write>(out: &mut O, made: CopyMade) -> io::Result<()>
         "tables {tables} logs {logs} entries {entries} rest {rest}"
     )?;
     out.flush()
+}
+
+/// Writes what was left out, where something was, and then the line of a copy.
+pub(crate) fn tell<O: Write, E: Write>(
+    alloc: Global,
+    made: CopyMade,
+    out: &mut O,
+    err: &mut E,
+) -> Result<(), OutputFault>
+    ensures left { OnOk result
+        (Appends (E.contents err.old) (E.contents err.new) (left_text made.stop)) }
+    ensures written { OnOk result
+        (Appends (O.contents out.old) (O.contents out.new) (made_text made)) }
+    ensures quiet { made.stop ≡ None → Keeps (E.contents err.old) (E.contents err.new) }
+{
+    tell_left_out(alloc, made.stop, err)?;
+    match reply(out, made) {
+        Ok(()) => Ok(()),
+        Err(_) => Err(OutputFault),
+    }
 }
