@@ -13,7 +13,7 @@ ghost use Rattle.lsm_cmd_import.specs.declared.copy_fault.CopyFault.TheVariants.
 
 use crate::copy_fault::CopyFault;
 use crate::importing::import;
-use crate::reply::tell;
+use crate::reply::tell_made;
 use lsm_directory::{
     FolderFile, Known, Paths, files_beside, first_unread, open_at, refuse, status_of,
 };
@@ -139,7 +139,7 @@ where
         Ok(made) => made,
         Err(fault) => return Err(fault),
     };
-    match tell(alloc, made, out, err) {
+    match tell_made(alloc, made, out, err) {
         Ok(()) => Ok(()),
         Err(_) => Err(CopyFault::Write),
     }

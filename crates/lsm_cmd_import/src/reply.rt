@@ -42,7 +42,7 @@ fn reply<O: Write>(out: &mut O, made: CopyMade) -> io::Result<()>
 }
 
 /// Writes what was left out, where something was, and then the line of a copy.
-pub(crate) fn tell<O: Write, E: Write>(
+pub(crate) fn tell_made<O: Write, E: Write>(
     alloc: Global,
     made: CopyMade,
     out: &mut O,
