@@ -11,6 +11,7 @@ import subprocess
 import sys
 from pathlib import Path
 
+import fronts
 import places
 
 LSM, MAKERS = sys.argv[1], sys.argv[2].split(":")
@@ -48,12 +49,12 @@ def pairs_by_leveldb(folder):
     return pairs_by(LEVELDB, folder)
 
 
-def imported(source):
+def imported(source, *options):
     """How `lsm import` ended, and that the source is as it was."""
     before = files_of(source)
     target = fresh("copy")
     target.mkdir()
-    done = run(LSM, "import", source, target, status=None)
+    done = run(LSM, "import", source, target, *options, status=None)
     if files_of(source) != before:
         sys.exit(f"{source}: its files are not as they were")
     return done, target
@@ -92,11 +93,29 @@ def whole(maker, kind):
     logs = sum(path.suffix == ".log" and path.stat().st_size > 0 for path in source.iterdir())
     if (int(told[1]), int(told[2]), int(told[4])) != (tables, logs, 0):
         sys.exit(f"{kind}: {done.stdout.decode()}, but {tables} tables and {logs} logs")
+    front, target = imported(source, "--to-first-fault")
+    if front.stdout != done.stdout or fronts.told_of(front, kind) or pairs_of(target) != wanted:
+        sys.exit(f"{kind}: it is not the same up to the first fault")
     again = run(LSM, "import", source, target, status=1)
     if b"refused 53 IsThere" not in again.stderr:
         sys.exit(f"{kind}: a second import: {again.stderr.decode()}")
     print(f"{kind}: {done.stdout.decode().strip()}, {counted(wanted.count(10), 'pair')}, the same", flush=True)
     return source, wanted
+
+
+def to_first_fault(source, folder, name, hurt, what):
+    """A copy up to the first fault of a damaged log has a front of the writes, with each batch
+    before the damage."""
+    logless = fresh("logless")
+    shutil.copytree(folder, logless)
+    for path in logless.glob("*.log"):
+        path.write_bytes(b"")
+    tables = pairs_of(imported(logless)[1])
+    done, target = imported(folder, "--to-first-fault")
+    if done.returncode != 0 or not LINE.fullmatch(done.stdout) or fronts.told_of(done, name) is None:
+        sys.exit(f"{name}: to the first fault: status {done.returncode}: {done.stderr.decode()}")
+    if not fronts.is_front(source, tables, pairs_of(target), hurt, what):
+        sys.exit(f"{name}: to the first fault: other pairs than a front of the writes has")
 
 
 def damaged(sources):
@@ -119,6 +138,8 @@ def damaged(sources):
             if b"refused " not in done.stderr:
                 sys.exit(f"{name}: {done.stderr.decode()}")
             ends[place]["refused"] += 1
+            if place == places.LOG and b".log\n" in done.stderr:
+                to_first_fault(source, folder, name, path.name, what)
             continue
         told = LINE.fullmatch(done.stdout)
         if done.returncode != 0 or not told:

@@ -8,6 +8,8 @@
 # folders with damage, two fifths to a log, two to a block that Snappy compressed, one elsewhere in
 # a table: a bit flipped, or an end cut off. Each is refused, and DST has no CURRENT; or the copy
 # has the same pairs; or those that LevelDB reads of it, behind bytes that are told as the rest.
+# Where a log is refused, --to-first-fault copies a front of the writes, with each batch before the
+# damage.
 # Words name kinds (none: all). SEED draws. Prints a line each, and stops at the first that is
 # otherwise. Needs g++, libleveldb-dev, libsnappy-dev, python3; LSM=/path/to/lsm names a program.
 set -euo pipefail

@@ -13,6 +13,7 @@ import time
 from pathlib import Path
 
 sys.path.insert(0, os.path.join(os.path.dirname(os.path.abspath(__file__)), "..", "import"))
+import fronts  # noqa: E402
 import places  # noqa: E402
 
 LSM, MAKERS = sys.argv[1], sys.argv[2].split(":")
@@ -122,6 +123,26 @@ def by_goleveldb(maker, source, wanted, kind):
             sys.exit(f"{kind}: goleveldb reads other pairs of the folder {name}")
 
 
+def to_first_fault(source, folder, name, hurt=None, what=""):
+    """A recovery up to the first fault. Of a folder that is whole it does what one without does;
+    of a damaged log a front of the writes comes in, with each batch before the damage."""
+    tables = run(LSM, "scan", folder).stdout
+    other = copied(folder, "fronted")
+    done = run(LSM, "recover", other, "--to-first-fault", status=None)
+    if done.returncode != 0 or not LINE.fullmatch(done.stdout):
+        sys.exit(f"{name}: to the first fault: status {done.returncode}: {done.stderr.decode()}")
+    told = fronts.told_of(done, name)
+    if hurt is None:
+        return told, done.stdout, pairs_of(other)
+    if told is None or told[2] > (folder / f"{told[0]:06}.log").stat().st_size:
+        sys.exit(f"{name}: to the first fault: what is left out is not told: {done.stderr.decode()}")
+    if told[3] != sum(path.stem > f"{told[0]:06}" for path in fronts.logs_of(folder)):
+        sys.exit(f"{name}: to the first fault: {done.stderr.decode()}")
+    if not fronts.is_front(source, tables, pairs_of(other), hurt, what):
+        sys.exit(f"{name}: to the first fault: other pairs than a front of the writes has")
+    return told
+
+
 def whole(maker, kind, reuse):
     source = fresh(f"whole_{kind}{'_reused' if reuse else ''}")
     run(maker, "make", source, kind, reuse=reuse)
@@ -139,6 +160,8 @@ def whole(maker, kind, reuse):
         sys.exit(f"{kind}: a table or a log that was there is not as it was")
     if pairs_of(folder) != wanted:
         sys.exit(f"{kind}: it has other pairs")
+    if to_first_fault(source, source, kind) != (None, done.stdout, wanted):
+        sys.exit(f"{kind}: it is not the same up to the first fault")
     again(folder, kind)
     beside_orphans(source, wanted, kind)
     cleaned(source, wanted, kind)
@@ -169,6 +192,9 @@ def damaged(sources):
             if b"refused " not in done.stderr:
                 sys.exit(f"{name}: {done.stderr.decode()}")
             ends[place]["refused"] += 1
+            if place == places.LOG and b".log\n" in done.stderr:
+                to_first_fault(source, folder, name, path.name, what)
+                ends[place]["front"] += 1
             continue
         told = told_by(done, name)
         if told == [0, 0, 0] and path.stat().st_size == 0:
@@ -216,7 +242,7 @@ def main():
     stopped = killed(sources)
     logs, blocks, rest = (ends[place] for place in places.PLACES)
     print(f"{counted(len(kinds), 'kind')} of folders recovered: the same pairs by LevelDB and by lsm; of {logs.total()}"
-          f" damaged logs {logs['refused']} refused, {logs['same']} the same, {logs['rest']} as LevelDB reads a cut log; of"
+          f" damaged logs {logs['refused']} refused, of {logs['front']} of them a front by --to-first-fault, {logs['same']} the same, {logs['rest']} as LevelDB reads a cut log; of"
           f" {blocks.total()} data blocks {blocks['refused']} refused; of {rest.total()} tables elsewhere {rest['refused']}, the others"
           f" the same; of {KILLS} that were killed {stopped} in time, nothing was lost"
           f" (seed {SEED})")

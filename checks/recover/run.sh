@@ -7,7 +7,8 @@
 # writes nothing. Then FLIPS (200) copies of folders with damage, two fifths to a log, two to a
 # data block, one elsewhere in a table: a bit flipped, or an end cut off. Each is refused, and its
 # files are as they were; or it has the same pairs; or those that LevelDB reads of it, behind bytes
-# that are told as the rest. And KILLS (100) times a recovery is killed at any moment: LevelDB
+# that are told as the rest. Where a log is refused, --to-first-fault brings a front of the writes
+# in, with each batch before the damage. And KILLS (100) times a recovery is killed at any moment: LevelDB
 # reads the same pairs, and the next recovery is done. Then LIVES (100) folders change hands
 # between LevelDB and commands with --recover (lives.py). Words name kinds (none: all). SEED draws.
 # Prints a line each, and stops at the first that is otherwise. Needs g++, libleveldb-dev, python3;

@@ -1,5 +1,6 @@
 -- One run, from its steps.
-use Rattle.std.proofs.Common.{◌≡◌, ℕ, List, [], ◌∷◌, subst, sym, inl, inr, refl}
+use Rattle.std.proofs.Common.{◌≡◌, ℕ, Bool, List, [], ◌∷◌, Option, None, Some, subst, sym, inl, inr}
+use Rattle.std.proofs.Common.{refl}
 use Rattle.lsm_folder.specs.Calls.{Call, opened}
 use Rattle.lsm_folder.specs.declared.folder_calls.FolderCalls.{Ghosts}
 use Rattle.lsm_shelf.specs.Place.{IsAtPath, Place}
@@ -12,6 +13,8 @@ use Rattle.lsm_opening.specs.Preparing.{IsUnprepared, plainly}
 use Rattle.lsm_opening.specs.declared.faults.writer_fault.WriterFault.{WriterFault}
 use Rattle.lsm_wal.specs.declared.write_batch.WriteBatch.{WriteBatch}
 use Rattle.lsm_log_files.specs.Source.{HasShape, IsSource, ReadsManifest}
+use Rattle.lsm_log_files.specs.Stops.{IsFrontSource, IsSourceTo}
+use Rattle.lsm_log_files.specs.declared.log_stop.LogStop.{LogStop}
 use Rattle.lsm_cmd_import.specs.Imported.{IsNoTarget}
 use Rattle.lsm_cmd_import.specs.declared.copy_fault.CopyFault.TheVariants.{Target}
 
@@ -31,9 +34,11 @@ has_later shape rest a b c h then = record {
   replayed = h.replayed;
 }
 
-pub source_later : (files : List FolderFile) (shape : Form) (batches : List WriteBatch) (count rest : ℕ) (old new : List Call) (a b c : Told) → IsSource files shape batches count rest old new a b
-    → Becomes b c → IsSource files shape batches count rest old new a c
-source_later files shape batches count rest old new a b c s then = record {
+whole_later : (files : List FolderFile) (shape : Form) (batches : List WriteBatch)
+    (count rest : ℕ) (old new : List Call) (a b c : Told)
+    → IsSource files shape batches count rest old new a b → Becomes b c
+    → IsSource files shape batches count rest old new a c
+whole_later files shape batches count rest old new a b c s then = record {
   torn = s.torn;
   has = has_later shape s.torn a b c s.has then;
   numbers = s.numbers;
@@ -44,6 +49,31 @@ source_later files shape batches count rest old new a b c s then = record {
   row = s.row;
   rests = s.rests;
 }
+
+front_later : (stop : LogStop) (files : List FolderFile) (shape : Form) (batches : List WriteBatch)
+    (count rest : ℕ) (old new : List Call) (a b c : Told)
+    → IsFrontSource stop files shape batches count rest old new a b → Becomes b c
+    → IsFrontSource stop files shape batches count rest old new a c
+front_later stop files shape batches count rest old new a b c s then = record {
+  torn = s.torn;
+  has = has_later shape s.torn a b c s.has then;
+  numbers = s.numbers;
+  logs = s.logs;
+  tail = s.tail;
+  read = s.read;
+  row = s.row;
+  rests = s.rests;
+}
+
+pub source_later : (to_first_fault : Bool) (stop : Option LogStop) (files : List FolderFile)
+    (shape : Form) (batches : List WriteBatch) (count rest : ℕ) (old new : List Call)
+    (a b c : Told)
+    → IsSourceTo to_first_fault stop files shape batches count rest old new a b → Becomes b c
+    → IsSourceTo to_first_fault stop files shape batches count rest old new a c
+source_later to_first_fault None files shape batches count rest old new a b c s then =
+    whole_later files shape batches count rest old new a b c s then
+source_later to_first_fault (Some stop) files shape batches count rest old new a b c s then =
+    (s.0, front_later stop files shape batches count rest old new a b c s.1 then)
 
 -- ---- a folder that was asked for something since it was opened
 

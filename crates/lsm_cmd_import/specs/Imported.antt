@@ -1,7 +1,7 @@
 -- What an `import` comes to, for the words of its command line: this project's rule. It is about
 -- folders that were opened at the paths of these words, and about shelves on their places; that
 -- these are the run's own is to be read.
-use Rattle.std.specs.Prelude.{◌≡◌, ◌⊎◌, ℕ, List, [], ◌∷◌, ◌++◌, Option, codes, decimal}
+use Rattle.std.specs.Prelude.{◌≡◌, ◌⊎◌, ℕ, Bool, List, [], ◌∷◌, ◌++◌, Option, codes, decimal}
 use Rattle.std.specs.Io.KnownBytes.{Appends, Keeps}
 use Rattle.lsm_folder.specs.Calls.{AreHonest, Call}
 use Rattle.lsm_folder.specs.declared.folder_calls.FolderCalls.{Ghosts}
@@ -28,7 +28,9 @@ use Rattle.lsm_opening.specs.declared.faults.writer_fault.WriterFault.TheVariant
 use Rattle.lsm_opening.specs.declared.faults.writer_fault.WriterFault.TheVariants.{UnflushedLog}
 use Rattle.lsm_wal.specs.declared.write_batch.WriteBatch.{WriteBatch}
 use Rattle.lsm_import.specs.Copies.{OnlyPuts}
-use Rattle.lsm_log_files.specs.Source.{IsNoSource, IsSource, ReadsManifest}
+use Rattle.lsm_log_files.specs.Source.{ReadsManifest}
+use Rattle.lsm_log_files.specs.Stops.{IsNoSourceTo, IsSourceTo, left_text}
+use Rattle.lsm_log_files.specs.declared.log_stop.LogStop.{LogStop}
 use Rattle.lsm_log_files.specs.declared.source_fault.SourceFault.{SourceFault}
 use Rattle.lsm_cmd_import.specs.Copying.{IsMade, IsUnmade}
 use Rattle.lsm_cmd_import.specs.declared.copy_fault.CopyFault.{CopyFault}
@@ -61,33 +63,38 @@ pub record LeavesSource (before later : Moment) : Type 0 where
   pub folder : OnlyReads before.calls later.calls
   pub shelf : ReadsManifest before.source later.source
 
--- The source's manifest, logs and tables were read, and just their copy was made.
-pub record IsImported (From Into : ℕ → List ℕ → Type 0) (Honest : Type 0) (files : List FolderFile)
-    (made : CopyMade) (before later : Moment) : Type 0 where
+-- The source's manifest, logs and tables were read, the logs whole or to the first fault, and just
+-- their copy was made.
+pub record IsImported (to_first_fault : Bool) (From Into : ℕ → List ℕ → Type 0) (Honest : Type 0)
+    (files : List FolderFile) (made : CopyMade) (before later : Moment) : Type 0 where
   pub shape : Form
   pub batches : List WriteBatch
-  pub source : IsSource files shape batches made.logs made.rest before.calls later.calls
-      before.source later.source
+  pub source : IsSourceTo to_first_fault made.stop files shape batches made.logs made.rest
+      before.calls later.calls before.source later.source
   pub copy : IsMade From Into Honest shape batches made.tables made.entries before.target
       later.target
   pub left : LeavesSource before later
 
 -- Memory ran out; or the source was not read; or it was, and its copy was not made.
-abbrev pub IsUncopied : (From Into : ℕ → List ℕ → Type 0) → (Unheld Denied : Asked → ShelfFault
-    → Type 0) → Type 0 → List FolderFile → CopyFault → Moment → Moment → Type 0
-IsUncopied From Into Unheld Denied Honest files fault before later =
+abbrev pub IsUncopied : Bool → (From Into : ℕ → List ℕ → Type 0)
+    → (Unheld Denied : Asked → ShelfFault → Type 0) → Type 0 → List FolderFile → CopyFault → Moment
+    → Moment → Type 0
+IsUncopied to_first_fault From Into Unheld Denied Honest files fault before later =
     (fault ≡ OutOfMemory)
     ⊎ (((e : SourceFault) × (fault ≡ Read e)
-    × IsNoSource Unheld files e before.calls later.calls before.source later.source)
+    × IsNoSourceTo to_first_fault Unheld files e before.calls later.calls before.source
+    later.source)
     ⊎ ((shape : Form) × (batches : List WriteBatch) × (count : ℕ) × (rest : ℕ)
-    × IsSource files shape batches count rest before.calls later.calls before.source later.source
+    × (stop : Option LogStop)
+    × IsSourceTo to_first_fault stop files shape batches count rest before.calls later.calls
+    before.source later.source
     × IsUnmade From Into Unheld Denied Honest shape batches fault))
 
 -- Why there is no copy. The target got tables at most, and no manifest of it was begun.
-pub record IsUnimported (From Into : ℕ → List ℕ → Type 0) (Unheld Denied : Asked → ShelfFault
-    → Type 0) (Honest : Type 0) (files : List FolderFile) (fault : CopyFault)
-    (before later : Moment) : Type 0 where
-  pub why : IsUncopied From Into Unheld Denied Honest files fault before later
+pub record IsUnimported (to_first_fault : Bool) (From Into : ℕ → List ℕ → Type 0)
+    (Unheld Denied : Asked → ShelfFault → Type 0) (Honest : Type 0) (files : List FolderFile)
+    (fault : CopyFault) (before later : Moment) : Type 0 where
+  pub why : IsUncopied to_first_fault From Into Unheld Denied Honest files fault before later
   pub puts : OnlyPuts before.target later.target
   pub left : LeavesSource before later
 
@@ -149,7 +156,7 @@ module _ {C M : Type 0} (folders : Ghosts C M) where
       ⊎ (((e : DirectoryFault) × (fault ≡ Source e) × IsFolderFault e)
       ⊎ HasNoTarget line fault)
 
-module _ {C M : Type 0} (folders : Ghosts C M) (marks : mark.Ghosts M) where
+module _ {C M : Type 0} (folders : Ghosts C M) (marks : mark.Ghosts M) (to_first_fault : Bool) where
   -- The database in the folder at the one path was copied to the folder at the other.
   pub record ImportsTo (line : ImportLine) (made : CopyMade) : Type 0 where
     pub files : List FolderFile
@@ -161,15 +168,15 @@ module _ {C M : Type 0} (folders : Ghosts C M) (marks : mark.Ghosts M) where
     pub left_source : FileShelf C M
     pub left_target : FileShelf C M
     pub done :
-        IsImported (stored_at folders marks (told_by folders source).place)
+        IsImported to_first_fault (stored_at folders marks (told_by folders source).place)
         (stored_at folders marks (told_by folders target).place) (AreHonest folders.calls) files
         made (moment folders folder source target)
         (moment folders left_folder left_source left_target)
 
-  -- so it was, and the line of it was written
-  abbrev pub ImportsAt : ImportLine → (old new : Option (List ℕ)) → Type 0
-  ImportsAt line old new =
-      (made : CopyMade) × ImportsTo line made × Appends old new (made_text made)
+  -- So it was; what was left out was told on standard error, and the line of it was written.
+  abbrev pub ImportsAt : ImportLine → (old new said_old said_new : Option (List ℕ)) → Type 0
+  ImportsAt line old new said_old said_new = (made : CopyMade) × ImportsTo line made
+      × Appends said_old said_new (left_text made.stop) × Appends old new (made_text made)
 
   -- It was not: what the fault says, and what is left.
   pub record FailsAt (line : ImportLine) (fault : CopyFault) : Type 0 where
@@ -182,7 +189,7 @@ module _ {C M : Type 0} (folders : Ghosts C M) (marks : mark.Ghosts M) where
     pub left_source : FileShelf C M
     pub left_target : FileShelf C M
     pub refused :
-        IsUnimported (stored_at folders marks (told_by folders source).place)
+        IsUnimported to_first_fault (stored_at folders marks (told_by folders source).place)
         (stored_at folders marks (told_by folders target).place) MayRefuse MayRefuse
         (AreHonest folders.calls) files fault (moment folders folder source target)
         (moment folders left_folder left_source left_target)

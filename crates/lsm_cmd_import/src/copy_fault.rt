@@ -6,7 +6,7 @@ ghost use Rattle.lsm_cmd_import.specs.declared.copy_fault.CopyFault.TheVariants.
 ghost use Rattle.lsm_cmd_import.specs.declared.copy_fault.CopyFault.TheVariants.{Read, Tables};
 
 use lsm_batch::Write as KeyWrite;
-use lsm_directory::{DirectoryFault, Exit};
+use lsm_directory::{DirectoryFault, Exit, check_meaning};
 use lsm_import::ImportFault;
 use lsm_log_files::SourceFault;
 use lsm_opening::WriterFault;
@@ -33,7 +33,7 @@ pub enum CopyFault {
     Copy(ImportFault),
     /// The tables of the copy are no version.
     Tables(CheckFault),
-    /// The copy was made, and the line of it not written.
+    /// The copy was made, and what is told of it not written.
     Write,
 }
 
@@ -116,8 +116,8 @@ impl Exit for CopyFault {
             CopyFault::Read(fault) => explain_read(err, fault),
             CopyFault::Target(fault) => explain_target(err, fault),
             CopyFault::IsThere => writeln!(err, "DST has a database: a copy is made where none is"),
-            CopyFault::OutOfMemory | CopyFault::Copy(_) | CopyFault::Tables(_) | CopyFault::Write =>
-                Ok(()),
+            CopyFault::Tables(fault) => err.write_all(check_meaning(fault).as_bytes()),
+            CopyFault::OutOfMemory | CopyFault::Copy(_) | CopyFault::Write => Ok(()),
         }
     }
 }

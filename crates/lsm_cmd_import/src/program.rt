@@ -1,6 +1,6 @@
 //! One run of `import`.
 
-ghost use Rattle.std.specs.Prelude.{◌≡◌, ◌≢◌, IfErr, IfOk, OnOk};
+ghost use Rattle.std.specs.Prelude.{◌≡◌, ◌≢◌, false, IfErr, IfOk, OnOk};
 ghost use Rattle.std.specs.Io.KnownBytes.{Keeps};
 ghost use Rattle.lsm_directory.specs.Folders.{IsFolderAt};
 ghost use Rattle.lsm_directory.specs.Holding.{IsFolderFault};
@@ -13,7 +13,7 @@ ghost use Rattle.lsm_cmd_import.specs.declared.copy_fault.CopyFault.TheVariants.
 
 use crate::copy_fault::CopyFault;
 use crate::importing::import;
-use crate::reply::reply;
+use crate::reply::tell_made;
 use lsm_directory::{
     FolderFile, Known, Paths, files_beside, first_unread, open_at, refuse, status_of,
 };
@@ -107,27 +107,39 @@ fn open_folders<C: FolderCalls, P: Paths<C>, R: Wait>(
 }
 
 /// Copies the database in the folder at a path to the folder at another.
-fn import_at<C: FolderCalls + Send + Sync, P: Paths<C>, R: Wait, O: Write>(
+fn import_at<C: FolderCalls + Send + Sync, P: Paths<C>, R: Wait, O: Write, E: Write>(
     rt: &R,
     paths: &P,
     line: &ImportLine<'_>,
+    to_first_fault: bool,
     reasons: &Reasons,
     out: &mut O,
+    err: &mut E,
 ) -> Result<(), CopyFault>
 where
     C::Mark: Send + Sync,
-    ensures done { OnOk result (ImportsAt C.FolderCalls C.Mark.Mark line.now (O.contents out.old)
-        (O.contents out.new)) }
-    ensures refused { IfErr result (λ e. FailsToImport C.FolderCalls C.Mark.Mark line.now e
-        (O.contents out.old) (O.contents out.new)) }
+    ensures done { OnOk result (ImportsAt C.FolderCalls C.Mark.Mark to_first_fault line.now
+        (O.contents out.old) (O.contents out.new) (E.contents err.old) (E.contents err.new)) }
+    ensures refused { IfErr result (λ e. FailsToImport C.FolderCalls C.Mark.Mark to_first_fault
+        line.now e (O.contents out.old) (O.contents out.new)) }
+    ensures quiet { to_first_fault ≡ false → Keeps (E.contents err.old) (E.contents err.new) }
 {
     let (mut folder, files, source, target) = open_folders(rt, paths, line, reasons)?;
-    let (made, _source, _target) = import(rt, paths.alloc(), &mut folder, &files, source, target);
+    let alloc = paths.alloc();
+    let (made, _source, _target) = import(
+        rt,
+        alloc,
+        &mut folder,
+        &files,
+        source,
+        target,
+        to_first_fault,
+    );
     let made = match made {
         Ok(made) => made,
         Err(fault) => return Err(fault),
     };
-    match reply(out, made) {
+    match tell_made(alloc, made, out, err) {
         Ok(()) => Ok(()),
         Err(_) => Err(CopyFault::Write),
     }
@@ -140,7 +152,9 @@ where
 /// The tables become plain ones, under their numbers and at their levels; of each key that the logs
 /// write, the last write comes in as one table more, at level 0; the manifest comes last. The
 /// source is only read. A log that is damaged, or begins below the end of the one before, is
-/// refused.
+/// refused; or, to the first fault, it comes in as far as it has none, and no later one does. What
+/// is left out is then told on `err`: `note: N.log has F NAME: its last B bytes and L later logs
+/// are left out`.
 ///
 /// `Locked` where another program has one of the folders open; the refusals of opening and looking
 /// at them; `IsThere` where the target has a database, and `UnflushedLog` where it has a log that
@@ -150,22 +164,28 @@ pub fn run_import<C: FolderCalls + Send + Sync, P: Paths<C>, R: Wait, O: Write, 
     rt: &R,
     paths: &P,
     line: &ImportLine<'_>,
+    to_first_fault: bool,
     out: &mut O,
     err: &mut E,
 ) -> u8
 where
     C::Mark: Send + Sync,
-    ensures done { result ≡ 0 → ImportsAt C.FolderCalls C.Mark.Mark line.now (O.contents out.old)
-        (O.contents out.new) }
+    ensures done { result ≡ 0 → ImportsAt C.FolderCalls C.Mark.Mark to_first_fault line.now
+        (O.contents out.old) (O.contents out.new) (E.contents err.old) (E.contents err.new) }
     ensures refused { result ≢ 0 → (result ≡ 1) × ((fault : CopyFault)
-        × FailsToImport C.FolderCalls C.Mark.Mark line.now fault (O.contents out.old)
-        (O.contents out.new)) }
-    ensures quiet { result ≡ 0 → Keeps (E.contents err.old) (E.contents err.new) }
+        × FailsToImport C.FolderCalls C.Mark.Mark to_first_fault line.now fault
+        (O.contents out.old) (O.contents out.new)) }
+
+    // Nothing is told where all is to be read.
+    ensures quiet { to_first_fault ≡ false → result ≡ 0
+        → Keeps (E.contents err.old) (E.contents err.new) }
 {
     let reasons = match Reasons::new(paths.alloc()) {
         Ok(reasons) => reasons,
         Err(_) => return refuse(CopyFault::OutOfMemory, err),
     };
-    let done = import_at(rt, paths, line, &reasons, out);
-    status_of(done, Known::answered(Some(&reasons)), err)
+    match import_at(rt, paths, line, to_first_fault, &reasons, out, err) {
+        Ok(()) => 0,
+        Err(fault) => status_of(Err(fault), Known::answered(Some(&reasons)), err),
+    }
 }

@@ -2,6 +2,8 @@
 -- is to recover first: this project's rule. It is about a folder that was opened at that path, and
 -- about a shelf on its place; that these are the run's own is to be read.
 use Rattle.std.specs.Prelude.{◌≡◌, ◌⊎◌, ℕ, Bool, List, [], ◌∷◌, ◌++◌, Option, codes, decimal}
+use Rattle.lsm_text.specs.Printing.{Begins}
+use Rattle.lsm_log_files.specs.Stops.{left_text}
 use Rattle.std.specs.Io.KnownBytes.{Appends, Keeps}
 use Rattle.lsm_folder.specs.declared.folder_calls.FolderCalls.{Ghosts}
 use Rattle.lsm_folder.specs.declared.mark.Mark as mark
@@ -15,7 +17,7 @@ use Rattle.lsm_opening.specs.declared.prepared.Start.TheVariants.{Begin}
 use Rattle.lsm_opening.specs.declared.faults.writer_fault.WriterFault.{WriterFault}
 use Rattle.lsm_opening.specs.declared.faults.writer_fault.WriterFault.TheVariants.{Directory}
 use Rattle.lsm_requests.specs.declared.ingest_options.IngestOptions.{IngestOptions}
-use Rattle.lsm_recovery.specs.Recovered.{FailsOn, RecoversOn}
+use Rattle.lsm_recovery.specs.Recovered.{FailsTo, RecoversBy}
 use Rattle.lsm_recovery.specs.declared.bring_fault.BringFault.{BringFault}
 use Rattle.lsm_recovery.specs.declared.bring_fault.BringFault.TheVariants.{OutOfMemory, Folder}
 use Rattle.lsm_recovery.specs.declared.brought.Brought.{Brought}
@@ -50,8 +52,8 @@ module _ {C M : Type 0} (folders : Ghosts C M) where
       ⊎ ((e : WriterFault) × (fault ≡ Folder e)
       × ((folder : C) × IsFolderAt folders path (IsUnprepared options e) folder)))
 
-module _ {C M : Type 0} (folders : Ghosts C M) (marks : mark.Ghosts M) where
-  -- The logs of the folder at the path came into its database.
+module _ {C M : Type 0} (folders : Ghosts C M) (marks : mark.Ghosts M) (to_first_fault : Bool) where
+  -- The logs of the folder at the path came into its database, whole or to the first fault.
   pub record RecoversTo (options : IngestOptions) (path : List ℕ) (brought : Brought)
       : Type 0 where
     pub start : Start
@@ -59,11 +61,12 @@ module _ {C M : Type 0} (folders : Ghosts C M) (marks : mark.Ghosts M) where
     pub folder : C
     pub left : C
     pub ready : IsReady folders options path start files folder
-    pub recovered : RecoversOn folders marks files folder left brought
+    pub recovered : RecoversBy folders marks to_first_fault files folder left brought
 
-  -- so it was, and the line of it was written
-  abbrev pub RecoversAt : List ℕ → (old new : Option (List ℕ)) → Type 0
-  RecoversAt path old new = (brought : Brought) × RecoversTo plainly path brought
+  -- So it was; what was left out was told on standard error, and the line of it was written.
+  abbrev pub RecoversAt : List ℕ → (old new said_old said_new : Option (List ℕ)) → Type 0
+  RecoversAt path old new said_old said_new = (brought : Brought)
+      × RecoversTo plainly path brought × Appends said_old said_new (left_text brought.stop)
       × Appends old new (brought_text brought)
 
   -- they did not
@@ -74,15 +77,15 @@ module _ {C M : Type 0} (folders : Ghosts C M) (marks : mark.Ghosts M) where
     pub folder : C
     pub left : C
     pub ready : IsReady folders options path start files folder
-    pub refused : FailsOn folders marks files folder left fault
+    pub refused : FailsTo folders marks to_first_fault files folder left fault
 
   -- the folder was not opened, or the writes did not come in
   abbrev pub IsNotRecovered : IngestOptions → List ℕ → BringFault → Type 0
   IsNotRecovered options path fault =
       IsUnready folders options path fault ⊎ FailsAt options path fault
 
-  -- So it was, and nothing was written on the output; or they came in, and the line of it was not
-  -- written.
+  -- So it was, and nothing was written on the output; or they came in, and what is told of it was
+  -- not written.
   abbrev pub FailsToRecover : List ℕ → RecoverFault → (old new : Option (List ℕ)) → Type 0
   FailsToRecover path (Logs fault) old new = Keeps old new × IsNotRecovered plainly path fault
   FailsToRecover path WriteFault old new = (brought : Brought) × RecoversTo plainly path brought
@@ -96,10 +99,13 @@ module _ {C M : Type 0} (folders : Ghosts C M) (marks : mark.Ghosts M) where
     pub folder : C
     pub ready : IsReady folders options path (Begin number) files folder
 
-  -- It has no database yet; or the logs of the one that is there came in.
-  abbrev pub ComesFirst : Bool → List ℕ → Type 0
-  ComesFirst begins path = IsBare (seeing_logs begins) path
-      ⊎ ((brought : Brought) × RecoversTo (seeing_logs begins) path brought)
+  -- It has no database yet; or the logs of the one that is there came in. What was left out was
+  -- told on standard error, as far as that could be written.
+  abbrev pub ComesFirst : Bool → List ℕ → (said_old said_new : Option (List ℕ)) → Type 0
+  ComesFirst begins path said_old said_new =
+      (IsBare (seeing_logs begins) path × Keeps said_old said_new)
+      ⊎ ((brought : Brought) × RecoversTo (seeing_logs begins) path brought
+      × Begins said_old said_new (left_text brought.stop))
 
   -- They did not come in.
   abbrev pub FailsFirst : Bool → List ℕ → BringFault → Type 0

@@ -1,6 +1,6 @@
 //! One run of `recover`, and of what comes before another command.
 
-ghost use Rattle.std.specs.Prelude.{◌≡◌, ◌≢◌, IfErr, IfOk, OnOk};
+ghost use Rattle.std.specs.Prelude.{◌≡◌, ◌≢◌, false, IfErr, IfOk, OnOk};
 ghost use Rattle.std.specs.Io.KnownBytes.{Keeps};
 ghost use Rattle.lsm_opening.specs.Preparing.{plainly};
 ghost use Rattle.lsm_cmd_recover.specs.Recovered.{ComesFirst, FailsFirst, FailsToRecover, IsReady};
@@ -12,8 +12,9 @@ use crate::recover_fault::RecoverFault;
 use crate::reply::reply;
 use lsm_directory::{Known, Paths, open_at, refuse, status_of};
 use lsm_folder::{FolderCalls, Reasons};
+use lsm_log_files::tell_left_out;
 use lsm_opening::{Prepared, Start, WriterFault, plainly, prepare};
-use lsm_recovery::{BringFault, recover_on};
+use lsm_recovery::{BringFault, recover_to};
 use lsm_requests::IngestOptions;
 use std::io::Write;
 use std::sync::Wait;
@@ -45,24 +46,31 @@ fn open_folder<C: FolderCalls, P: Paths<C>, R: Wait>(
 }
 
 /// Brings the logs of the folder at a path into its database.
-fn recover_at<C: FolderCalls + Send + Sync, P: Paths<C>, R: Wait, O: Write>(
+fn recover_at<C: FolderCalls + Send + Sync, P: Paths<C>, R: Wait, O: Write, E: Write>(
     rt: &R,
     paths: &P,
     path: &str,
+    to_first_fault: bool,
     reasons: &Reasons,
     out: &mut O,
+    err: &mut E,
 ) -> Result<(), RecoverFault>
 where
     C::Mark: Send + Sync,
-    ensures done { OnOk result (RecoversAt C.FolderCalls C.Mark.Mark path.now (O.contents out.old)
-        (O.contents out.new)) }
-    ensures refused { IfErr result (λ e. FailsToRecover C.FolderCalls C.Mark.Mark path.now e
-        (O.contents out.old) (O.contents out.new)) }
+    ensures done { OnOk result (RecoversAt C.FolderCalls C.Mark.Mark to_first_fault path.now
+        (O.contents out.old) (O.contents out.new) (E.contents err.old) (E.contents err.new)) }
+    ensures refused { IfErr result (λ e. FailsToRecover C.FolderCalls C.Mark.Mark to_first_fault
+        path.now e (O.contents out.old) (O.contents out.new)) }
+    ensures quiet { to_first_fault ≡ false → Keeps (E.contents err.old) (E.contents err.new) }
 {
     let (mut folder, prepared) = open_folder(rt, paths, path, plainly(), reasons)?;
-    let brought = match recover_on(rt, paths.alloc(), &mut folder, &prepared.logs) {
+    let alloc = paths.alloc();
+    let brought = match recover_to(rt, alloc, &mut folder, &prepared.logs, to_first_fault) {
         Ok(brought) => brought,
         Err(fault) => return Err(RecoverFault::Logs(fault)),
+    };
+    let Ok(()) = tell_left_out(alloc, brought.stop, err) else {
+        return Err(RecoverFault::Write);
     };
     match reply(out, brought) {
         Ok(()) => Ok(()),
@@ -80,27 +88,35 @@ fn seeing_logs(begins: bool) -> IngestOptions
 }
 
 /// Brings the logs of the folder at a path into its database, unless one is to be begun there.
-fn recover_before<C: FolderCalls + Send + Sync, P: Paths<C>, R: Wait>(
+fn recover_before<C: FolderCalls + Send + Sync, P: Paths<C>, R: Wait, E: Write>(
     rt: &R,
     paths: &P,
     path: &str,
     begins: bool,
+    to_first_fault: bool,
     reasons: &Reasons,
+    err: &mut E,
 ) -> Result<(), BringFault>
 where
     C::Mark: Send + Sync,
-    ensures done { OnOk result (ComesFirst C.FolderCalls C.Mark.Mark begins path.now) }
-    ensures refused { IfErr result (FailsFirst C.FolderCalls C.Mark.Mark begins path.now) }
+    ensures done { OnOk result (ComesFirst C.FolderCalls C.Mark.Mark to_first_fault begins path.now
+        (E.contents err.old) (E.contents err.new)) }
+    ensures refused { IfErr result
+        (FailsFirst C.FolderCalls C.Mark.Mark to_first_fault begins path.now) }
+    ensures quiet { to_first_fault ≡ false → Keeps (E.contents err.old) (E.contents err.new) }
 {
     let options = seeing_logs(begins);
     let (mut folder, prepared) = open_folder(rt, paths, path, options, reasons)?;
     if let Start::Begin(_) = prepared.start {
         return Ok(());
     }
-    match recover_on(rt, paths.alloc(), &mut folder, &prepared.logs) {
-        Ok(_) => Ok(()),
-        Err(fault) => Err(fault),
-    }
+    let alloc = paths.alloc();
+    let brought = match recover_to(rt, alloc, &mut folder, &prepared.logs, to_first_fault) {
+        Ok(brought) => brought,
+        Err(fault) => return Err(fault),
+    };
+    let _ = tell_left_out(alloc, brought.stop, err);
+    Ok(())
 }
 
 /// Brings the logs of the folder at a path, which LevelDB would read when it opens it, into the
@@ -111,7 +127,9 @@ where
 /// new manifest names it and the tables that are there, and reads none of the logs. They stay in
 /// the folder. Where none is to be read, nothing is written; where each is empty, what a crash left
 /// of other manifests is removed first, as by each command that writes. A log that is damaged, or
-/// begins below the end of the one before, is refused.
+/// begins below the end of the one before, is refused; or, to the first fault, it comes in as far
+/// as it has none, and no later one does. What is left out is then told on `err`: `note: N.log has
+/// F NAME: its last B bytes and L later logs are left out`.
 ///
 /// `Locked` where another program has the folder open; the refusals of opening and looking at it,
 /// and of its tables. After each refusal but `Write` the database is as it was, but for one of the
@@ -120,24 +138,30 @@ pub fn run_recover<C: FolderCalls + Send + Sync, P: Paths<C>, R: Wait, O: Write,
     rt: &R,
     paths: &P,
     path: &str,
+    to_first_fault: bool,
     out: &mut O,
     err: &mut E,
 ) -> u8
 where
     C::Mark: Send + Sync,
-    ensures done { result ≡ 0 → RecoversAt C.FolderCalls C.Mark.Mark path.now (O.contents out.old)
-        (O.contents out.new) }
+    ensures done { result ≡ 0 → RecoversAt C.FolderCalls C.Mark.Mark to_first_fault path.now
+        (O.contents out.old) (O.contents out.new) (E.contents err.old) (E.contents err.new) }
     ensures refused { result ≢ 0 → (result ≡ 1) × ((fault : RecoverFault)
-        × FailsToRecover C.FolderCalls C.Mark.Mark path.now fault (O.contents out.old)
-        (O.contents out.new)) }
-    ensures quiet { result ≡ 0 → Keeps (E.contents err.old) (E.contents err.new) }
+        × FailsToRecover C.FolderCalls C.Mark.Mark to_first_fault path.now fault
+        (O.contents out.old) (O.contents out.new)) }
+
+    // Nothing is told where all is to be read.
+    ensures quiet { to_first_fault ≡ false → result ≡ 0
+        → Keeps (E.contents err.old) (E.contents err.new) }
 {
     let reasons = match Reasons::new(paths.alloc()) {
         Ok(reasons) => reasons,
         Err(_) => return refuse(RecoverFault::Logs(BringFault::OutOfMemory), err),
     };
-    let done = recover_at(rt, paths, path, &reasons, out);
-    status_of(done, Known::answered(Some(&reasons)), err)
+    match recover_at(rt, paths, path, to_first_fault, &reasons, out, err) {
+        Ok(()) => 0,
+        Err(fault) => status_of(Err(fault), Known::answered(Some(&reasons)), err),
+    }
 }
 
 /// Brings the logs of the folder at a path in before another command opens it, as `run_recover`
@@ -154,19 +178,26 @@ pub fn recover_first<C: FolderCalls + Send + Sync, P: Paths<C>, R: Wait, E: Writ
     paths: &P,
     path: &str,
     begins: bool,
+    to_first_fault: bool,
     err: &mut E,
 ) -> u8
 where
     C::Mark: Send + Sync,
-    ensures done { result ≡ 0 → ComesFirst C.FolderCalls C.Mark.Mark begins path.now }
+    ensures done { result ≡ 0 → ComesFirst C.FolderCalls C.Mark.Mark to_first_fault begins path.now
+        (E.contents err.old) (E.contents err.new) }
     ensures refused { result ≢ 0 → (result ≡ 1) × ((fault : BringFault)
-        × FailsFirst C.FolderCalls C.Mark.Mark begins path.now fault) }
-    ensures quiet { result ≡ 0 → Keeps (E.contents err.old) (E.contents err.new) }
+        × FailsFirst C.FolderCalls C.Mark.Mark to_first_fault begins path.now fault) }
+
+    // Nothing is told where all is to be read.
+    ensures quiet { to_first_fault ≡ false → result ≡ 0
+        → Keeps (E.contents err.old) (E.contents err.new) }
 {
     let reasons = match Reasons::new(paths.alloc()) {
         Ok(reasons) => reasons,
         Err(_) => return refuse(BringFault::OutOfMemory, err),
     };
-    let done = recover_before(rt, paths, path, begins, &reasons);
-    status_of(done, Known::answered(Some(&reasons)), err)
+    match recover_before(rt, paths, path, begins, to_first_fault, &reasons, err) {
+        Ok(()) => 0,
+        Err(fault) => status_of(Err(fault), Known::answered(Some(&reasons)), err),
+    }
 }

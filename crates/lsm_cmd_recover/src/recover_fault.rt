@@ -15,7 +15,7 @@ use std::io::{self, Write};
 pub enum RecoverFault {
     /// The logs did not come in.
     Logs(BringFault),
-    /// They came in, and the line of it was not written.
+    /// They came in, and what is told of it was not written.
     Write,
 }
 

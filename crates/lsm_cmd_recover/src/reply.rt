@@ -16,6 +16,7 @@ pub(crate) fn reply<O: Write>(out: &mut O, brought: Brought) -> io::Result<()>
         logs,
         entries,
         rest,
+        ..
     } = brought;
     writeln!(out, "logs {logs} entries {entries} rest {rest}")?;
     out.flush()

@@ -2,7 +2,7 @@
 -- relation for what status 0 means, and one for what status 1 does. Those of a command on a folder
 -- are about a folder that was opened at the path of its words, and the calls on it, and about
 -- shelves on its place; that such a shelf is the run's own is to be read.
-use Rattle.std.specs.Prelude.{◌≡◌, ◌⊎◌, ℕ, IsFalse, Bool, true, ⊤}
+use Rattle.std.specs.Prelude.{◌≡◌, ◌⊎◌, ℕ, IsFalse, Bool, false, true, ⊤}
 use Rattle.std.specs.Prelude.{List, [], ◌∷◌, Option, Some, None}
 use Rattle.std.specs.Io.KnownBytes.{Appends, Keeps}
 use Rattle.clap.specs.Words.{Text}
@@ -69,16 +69,17 @@ opened_by (Shell line) = Some (line.path.now, line.options.begins)
 opened_by (Bench line) = None
 
 module _ {C M : Type 0} (folders : Ghosts C M) (marks : mark.Ghosts M) where
-  -- the logs of that folder came in, or it has no database yet
+  -- the logs of that folder came in, each whole, or it has no database yet
   abbrev pub ComesBefore : Option (List ℕ × Bool) → Type 0
   ComesBefore None = ⊤
-  ComesBefore (Some (path, begins)) = ComesFirst folders marks begins path
+  ComesBefore (Some (path, begins)) = (said_old : Option (List ℕ)) × (said_new : Option (List ℕ))
+      × ComesFirst folders marks false begins path said_old said_new
 
   -- they did not
   abbrev pub StaysBefore : Option (List ℕ × Bool) → Type 0
   StaysBefore None = ⊥
   StaysBefore (Some (path, begins)) = (fault : BringFault)
-      × FailsFirst folders marks begins path fault
+      × FailsFirst folders marks false begins path fault
 
 module _ {C M : Type 0} (folders : Ghosts C M) where
   -- ---- ingest, put, delete, clean
@@ -111,9 +112,9 @@ module _ {C M : Type 0} (folders : Ghosts C M) (marks : mark.Ghosts M)
       LoadsAt folders line.path.now line.options (text line.input) old new
       × (IsFalse line.options.progress → Keeps said_old said_new)
   IsDone text (Import line) old new said_old said_new =
-      ImportsAt folders marks line old new × Keeps said_old said_new
+      ImportsAt folders marks line.to_first_fault line old new said_old said_new
   IsDone text (Recover line) old new said_old said_new =
-      RecoversAt folders marks line.path.now old new × Keeps said_old said_new
+      RecoversAt folders marks line.to_first_fault line.path.now old new said_old said_new
   IsDone text (Repair path) old new said_old said_new =
       RepairsAt folders marks path.now old new × Keeps said_old said_new
   IsDone text (Compact line) old new said_old said_new =
@@ -181,9 +182,10 @@ module _ {C M : Type 0} (folders : Ghosts C M) (marks : mark.Ghosts M)
   IsUndone text (Load line) old new =
       FailsToLoad folders marks line.path.now line.options (text line.input) old new
   IsUndone text (Import line) old new =
-      (fault : CopyFault) × FailsToImport folders marks line fault old new
+      (fault : CopyFault) × FailsToImport folders marks line.to_first_fault line fault old new
   IsUndone text (Recover line) old new =
-      (fault : RecoverFault) × FailsToRecover folders marks line.path.now fault old new
+      (fault : RecoverFault)
+      × FailsToRecover folders marks line.to_first_fault line.path.now fault old new
   IsUndone text (Repair path) old new =
       (fault : RepairFault) × FailsToRepair folders marks path.now fault old new
   IsUndone text (Compact line) old new = IsUncompacted folders marks line old new

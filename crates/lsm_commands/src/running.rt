@@ -141,8 +141,10 @@ where
         Request::Levels(line) => run_levels(rt, paths, line, out, err),
         Request::Write(line) => run_writing(rt, paths, line, &mut input, out, err),
         Request::Load(line) => run_load(rt, paths, line, input, out, err),
-        Request::Import(line) => run_import(rt, paths, line, out, err),
-        Request::Recover(line) => run_recover(rt, paths, line.path, out, err),
+        Request::Import(line) => run_import(rt, paths, line, line.to_first_fault, out, err),
+        Request::Recover(line) => {
+            run_recover(rt, paths, line.path, line.to_first_fault, out, err)
+        }
         Request::Repair(path) => run_repair(rt, paths, path, out, err),
         Request::Compact(line) => run_compact(rt, paths, line, out, err),
         Request::Script(found) => run_script(rt, paths, *found, input, out, err),
@@ -204,7 +206,7 @@ where
         return 0;
     }
     match opened_by(request) {
-        Some((path, begins)) => recover_first(rt, paths, path, begins, err),
+        Some((path, begins)) => recover_first(rt, paths, path, begins, false, err),
         None => 0,
     }
 }

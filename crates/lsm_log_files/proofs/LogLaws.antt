@@ -174,7 +174,7 @@ pub read_all : (numbers : List ℕ) (i : ℕ) (batches : List WriteBatch) (rest 
 read_all numbers i batches rest old new done r =
     subst (λ (ns : List ℕ). AreRead ns batches rest old new) (take_all i numbers done) r
 
-parts_at : (numbers : List ℕ) (i : ℕ) → i < length numbers
+pub parts_at : (numbers : List ℕ) (i : ℕ) → i < length numbers
     → numbers ≡ take i numbers ++ get_or numbers i 0 ∷ drop (i + 1) numbers
 parts_at numbers i lt =
     let s : i + 1 ≡ suc i = omega arith in

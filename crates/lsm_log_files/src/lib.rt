@@ -12,8 +12,12 @@ mod source_fault;
 // Which logs there are.
 mod log_files;
 
-// The manifest, and the logs one after another.
+// The manifest, and the logs one after another; or up to the first fault.
+mod log_stop;
 mod reading;
+mod stopping;
 
+pub use log_stop::{LogStop, tell_left_out};
 pub use reading::{SourceRead, read_source};
 pub use source_fault::SourceFault;
+pub use stopping::{SourceFront, read_source_to};

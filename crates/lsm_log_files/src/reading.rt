@@ -35,7 +35,7 @@ fn missing(fault: FolderFault) -> ShelfFault
 }
 
 /// The bytes of the log of a number.
-fn load_log<C: FolderCalls, R: Wait>(
+pub(crate) fn load_log<C: FolderCalls, R: Wait>(
     rt: &R,
     alloc: Global,
     folder: &mut C,
@@ -79,7 +79,7 @@ fn read_log<C: FolderCalls, R: Wait>(
 }
 
 /// The sum of two numbers of bytes. No folder has so many that they can't be counted.
-fn sum_of(rest: u64, more: u64) -> Result<u64, AllocError>
+pub(crate) fn sum_of(rest: u64, more: u64) -> Result<u64, AllocError>
     ensures { IfOk result (λ sum. sum ≡ rest + more) }
 {
     match rest.checked_add(more) {
@@ -135,7 +135,7 @@ fn read_logs<C: FolderCalls, R: Wait>(
 }
 
 /// What a manifest comes to, and how many bytes at its end hold no whole record.
-fn read_shape<N: Naming, S: Shelf, R: Wait>(
+pub(crate) fn read_shape<N: Naming, S: Shelf, R: Wait>(
     rt: &R,
     alloc: Global,
     source: &mut NamedShelf<N, S>,

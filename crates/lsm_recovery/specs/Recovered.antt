@@ -1,5 +1,5 @@
 -- What comes of the logs of a folder: this project's rule.
-use Rattle.std.specs.Prelude.{◌≡◌, ◌⊎◌, ℕ, ◌<◌, List}
+use Rattle.std.specs.Prelude.{◌≡◌, ◌⊎◌, ℕ, ◌<◌, Bool, false, List, Option}
 use Rattle.lsm_folder.specs.Calls.{AreHonest, Call}
 use Rattle.lsm_folder.specs.declared.folder_calls.FolderCalls.{Ghosts}
 use Rattle.lsm_folder.specs.declared.mark.Mark as mark
@@ -14,7 +14,8 @@ use Rattle.lsm_directory.specs.declared.folder.folder_file.FolderFile.{FolderFil
 use Rattle.lsm_opening.specs.Tidying.{OnlyReads}
 use Rattle.lsm_wal.specs.declared.write_batch.WriteBatch.{WriteBatch}
 use Rattle.lsm_import.specs.Copies.{OnlyPuts}
-use Rattle.lsm_log_files.specs.Source.{IsNoSource, IsSource}
+use Rattle.lsm_log_files.specs.Stops.{IsNoSourceTo, IsSourceTo}
+use Rattle.lsm_log_files.specs.declared.log_stop.LogStop.{LogStop}
 use Rattle.lsm_log_files.specs.declared.source_fault.SourceFault.{SourceFault}
 use Rattle.lsm_recovery.specs.Bringing.{BringsIn, BringsNone}
 use Rattle.lsm_recovery.specs.declared.bring_fault.BringFault.{BringFault}
@@ -39,34 +40,37 @@ Brings Into Honest files shape batches brought was is =
     ((brought.logs ≡ 0) × (brought.entries ≡ 0) × (is ≡ was))
     ⊎ ((0 < brought.logs) × BringsIn Into Honest files shape batches brought.entries was is)
 
--- The manifest and just the logs that LevelDB reads were read, and the writes of these came in.
-pub record IsRecovered (Into : ℕ → List ℕ → Type 0) (Honest : Type 0) (files : List FolderFile)
-    (brought : Brought) (before later : Moment) : Type 0 where
+-- The manifest and just the logs that LevelDB reads were read, whole or to the first fault, and the
+-- writes of these came in.
+pub record IsRecovered (to_first_fault : Bool) (Into : ℕ → List ℕ → Type 0) (Honest : Type 0)
+    (files : List FolderFile) (brought : Brought) (before later : Moment) : Type 0 where
   pub shape : Form
   pub batches : List WriteBatch
   pub mid : Told
-  pub source : IsSource files shape batches brought.logs brought.rest before.calls later.calls
-      before.told mid
+  pub source : IsSourceTo to_first_fault brought.stop files shape batches brought.logs brought.rest
+      before.calls later.calls before.told mid
   pub brings : Brings Into Honest files shape batches brought mid later.told
   pub reads : OnlyReads before.calls later.calls
 
 -- Memory ran out; or they were not read; or they were, and the writes did not come in.
-abbrev pub IsKeptOut : (ℕ → List ℕ → Type 0) → (Asked → ShelfFault → Type 0) → Type 0
+abbrev pub IsKeptOut : Bool → (ℕ → List ℕ → Type 0) → (Asked → ShelfFault → Type 0) → Type 0
     → List FolderFile → BringFault → Moment → Moment → Type 0
-IsKeptOut Into Denied Honest files fault before later =
+IsKeptOut to_first_fault Into Denied Honest files fault before later =
     (fault ≡ OutOfMemory)
     ⊎ (((e : SourceFault) × (fault ≡ Read e)
-    × IsNoSource Denied files e before.calls later.calls before.told later.told)
-    ⊎ ((shape : Form) × (batches : List WriteBatch) × (count : ℕ) × (rest : ℕ) × (mid : Told)
-    × IsSource files shape batches count rest before.calls later.calls before.told mid
+    × IsNoSourceTo to_first_fault Denied files e before.calls later.calls before.told later.told)
+    ⊎ ((shape : Form) × (batches : List WriteBatch) × (count : ℕ) × (rest : ℕ)
+    × (stop : Option LogStop) × (mid : Told)
+    × IsSourceTo to_first_fault stop files shape batches count rest before.calls later.calls
+    before.told mid
     × BringsNone Into Denied Honest files shape batches mid fault))
 
 -- Why the writes did not come in. The shelf got tables at most, and began no manifest: no call that
 -- it answered with Ok changed the database, and the logs are still to be read.
-pub record IsUnrecovered (Into : ℕ → List ℕ → Type 0) (Denied : Asked → ShelfFault → Type 0)
-    (Honest : Type 0) (files : List FolderFile) (fault : BringFault) (before later : Moment)
-    : Type 0 where
-  pub why : IsKeptOut Into Denied Honest files fault before later
+pub record IsUnrecovered (to_first_fault : Bool) (Into : ℕ → List ℕ → Type 0)
+    (Denied : Asked → ShelfFault → Type 0) (Honest : Type 0) (files : List FolderFile)
+    (fault : BringFault) (before later : Moment) : Type 0 where
+  pub why : IsKeptOut to_first_fault Into Denied Honest files fault before later
   pub puts : OnlyPuts before.told later.told
   pub reads : OnlyReads before.calls later.calls
 
@@ -78,27 +82,38 @@ module _ {C M : Type 0} (folders : Ghosts C M) where
   moment folder shelf = moment_of (folders.calls folder) (told_by folders shelf)
 
 module _ {C M : Type 0} (folders : Ghosts C M) (marks : mark.Ghosts M) where
-  -- The logs among these files of the folder came into its database, by a new shelf on it.
-  pub record RecoversOn (files : List FolderFile) (old new : C) (brought : Brought) : Type 0 where
+  -- The logs among these files of the folder came into its database, whole or to the first fault,
+  -- by a new shelf on it.
+  pub record RecoversBy (to_first_fault : Bool) (files : List FolderFile) (old new : C)
+      (brought : Brought) : Type 0 where
     pub begun : FileShelf C M
     pub fresh_shelf : told_by folders begun ≡ fresh (folders.place old)
     pub ended : FileShelf C M
     pub done :
-        IsRecovered (stored_at folders marks (told_by folders begun).place)
+        IsRecovered to_first_fault (stored_at folders marks (told_by folders begun).place)
         (AreHonest folders.calls) files brought (moment folders old begun)
         (moment folders new ended)
 
   -- They did not: what the fault says, and what is left.
-  pub record FailsBy (files : List FolderFile) (old new : C) (fault : BringFault) : Type 0 where
+  pub record FailsBy (to_first_fault : Bool) (files : List FolderFile) (old new : C)
+      (fault : BringFault) : Type 0 where
     pub begun : FileShelf C M
     pub fresh_shelf : told_by folders begun ≡ fresh (folders.place old)
     pub ended : FileShelf C M
     pub refused :
-        IsUnrecovered (stored_at folders marks (told_by folders begun).place) MayRefuse
-        (AreHonest folders.calls) files fault (moment folders old begun)
+        IsUnrecovered to_first_fault (stored_at folders marks (told_by folders begun).place)
+        MayRefuse (AreHonest folders.calls) files fault (moment folders old begun)
         (moment folders new ended)
 
   -- so it was; or there was no memory for the shelf, and the folder was asked for nothing
+  abbrev pub FailsTo : Bool → List FolderFile → (old new : C) → BringFault → Type 0
+  FailsTo to_first_fault files old new fault =
+      ((fault ≡ OutOfMemory) × (new ≡ old)) ⊎ FailsBy to_first_fault files old new fault
+
+  -- ---- of whole logs alone
+
+  abbrev pub RecoversOn : List FolderFile → (old new : C) → Brought → Type 0
+  RecoversOn = RecoversBy false
+
   abbrev pub FailsOn : List FolderFile → (old new : C) → BringFault → Type 0
-  FailsOn files old new fault =
-      ((fault ≡ OutOfMemory) × (new ≡ old)) ⊎ FailsBy files old new fault
+  FailsOn = FailsTo false

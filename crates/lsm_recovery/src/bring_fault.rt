@@ -7,7 +7,7 @@ ghost use Rattle.lsm_recovery.specs.declared.bring_fault.BringFault.TheVariants.
 ghost use Rattle.lsm_recovery.specs.declared.bring_fault.BringFault.TheVariants.{Tables};
 
 use lsm_batch::Write as KeyWrite;
-use lsm_directory::{DirectoryFault, Exit};
+use lsm_directory::{Exit, check_meaning};
 use lsm_import::ImportFault;
 use lsm_log_files::SourceFault;
 use lsm_opening::WriterFault;
@@ -75,10 +75,8 @@ impl Exit for BringFault {
             ),
             BringFault::Folder(fault) => fault.explain(err, &[]),
             BringFault::Read(fault) => fault.explain(err, &[]),
-            BringFault::Tables(CheckFault::Read(_, fault)) => {
-                DirectoryFault::Read(*fault).explain(err, &[])
-            }
-            BringFault::OutOfMemory | BringFault::Bring(_) | BringFault::Tables(_) => Ok(()),
+            BringFault::Tables(fault) => err.write_all(check_meaning(fault).as_bytes()),
+            BringFault::OutOfMemory | BringFault::Bring(_) => Ok(()),
         }
     }
 }

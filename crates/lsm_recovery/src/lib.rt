@@ -17,4 +17,4 @@ mod recovering;
 
 pub use bring_fault::BringFault;
 pub use brought::Brought;
-pub use recovering::recover_on;
+pub use recovering::{recover_on, recover_to};

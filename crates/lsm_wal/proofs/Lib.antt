@@ -3,6 +3,7 @@ mod WriteLoop
 mod BatchLaws
 mod BatchLoop
 mod EntryLaws
+mod CutLaws
 mod LogLaws
 mod FrontLaws
 mod RowLaws

@@ -9,11 +9,10 @@ use Rattle.lsm_wal.specs.Reading.{batches_at, with_rest}
 use Rattle.lsm_wal.specs.View.{Fails}
 use Rattle.lsm_wal.proofs.BatchLoop.{log_fails, batches_fail, read_log}
 use Rattle.lsm_manifest.specs.Log.{IsLog}
-use Rattle.lsm_manifest.specs.LogWriting.{SpellsPrefix}
-use Rattle.lsm_manifest.specs.Log.{AreRecords}
 use Rattle.lsm_wal.specs.declared.write_batch.WriteBatch.{WriteBatch}
 use Rattle.lsm_wal.specs.WriteLog.{AreBatches, IsWriteLog, SpellsFirstBatches}
 use Rattle.lsm_wal.proofs.BatchLaws.{batches_again, batches_take, same_batches}
+use Rattle.lsm_wal.proofs.CutLaws.{Prefixes, cut_log}
 
 abbrev done : List WriteBatch × ℕ → Result (List WriteBatch × ℕ) WriteLogFault
 done x = Ok x
@@ -21,10 +20,6 @@ done x = Ok x
 abbrev OneLog : Type 0
 OneLog = (bytes : List ℕ) (rs ss : List (List ℕ)) (m n : ℕ) → IsLog bytes rs m → IsLog bytes ss n
     → (rs ≡ ss) × (m ≡ n)
-
-abbrev Prefixes : Type 0
-Prefixes = (bytes : List ℕ) (records : List (List ℕ)) → AreRecords 0 bytes records → (n : ℕ)
-    → SpellsPrefix (take n bytes) records
 
 pub one_write_log : OneLog → (bytes : List ℕ) (xs ys : List WriteBatch) (m n : ℕ)
     → IsWriteLog bytes xs m → IsWriteLog bytes ys n → (xs ≡ ys) × (m ≡ n)
@@ -34,12 +29,10 @@ one_write_log one bytes xs ys m n a b =
     subst (λ (rs : List (List ℕ)). AreBatches 0 rs xs) same.0 a.spelled in
     (same_batches 0 b.records xs ys spelled b.spelled, same.1)
 
-pub first_batches : Prefixes → ((bytes : List ℕ) (records : List (List ℕ)) → IsLog bytes records 0
-    → AreRecords 0 bytes records)
-    → (bytes : List ℕ) (bs : List WriteBatch) → IsWriteLog bytes bs 0 → (n : ℕ)
-    → SpellsFirstBatches (take n bytes) bs
-first_batches prefixes whole bytes bs a n =
-    let p = prefixes bytes a.records (whole bytes a.records a.log) n in
+pub first_batches : Prefixes → (bytes : List ℕ) (bs : List WriteBatch) (rest : ℕ)
+    → IsWriteLog bytes bs rest → (n : ℕ) → SpellsFirstBatches (take n bytes) bs
+first_batches prefixes bytes bs rest a n =
+    let p = cut_log prefixes bytes a.records rest a.log n in
     record {
       whole = p.whole;
       rest = p.rest;

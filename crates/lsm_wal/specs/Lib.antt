@@ -5,3 +5,4 @@ pub mod Reading
 pub mod Writing
 pub mod View
 pub mod WriteLogs
+pub mod Front

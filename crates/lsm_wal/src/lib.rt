@@ -16,8 +16,8 @@ mod write_logs;
 mod write_reader;
 
 pub use folding::{last_writes, newest_is_last};
-pub use log_front::{LogFront, read_to_first_fault};
+pub use log_front::log_fronts;
 pub use write_batch::{WriteBatch, one_write_batch};
 pub use write_log::{WriteLog, first_batches, one_write_log, read_writes};
 pub use write_log_fault::WriteLogFault;
-pub use write_logs::WriteLogs;
+pub use write_logs::{LeftOut, WriteLogs};

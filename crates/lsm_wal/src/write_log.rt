@@ -9,7 +9,7 @@ ghost use Rattle.lsm_wal.specs.declared.write_batch.WriteBatch.{WriteBatch as Gi
 use crate::write_batch::WriteBatch;
 use crate::write_log_fault::WriteLogFault;
 use lsm_codec::{Bytes, List};
-use lsm_manifest::{one_log, prefixes, read_log, whole_log};
+use lsm_manifest::{one_log, prefixes, read_log};
 use std::alloc::Global;
 
 /// The batches of a log, in order, and how many bytes at its end hold no whole record.
@@ -77,12 +77,11 @@ pub fn one_write_log()
     one_log();
 }
 
-/// A law: the first bytes of a log without a rest, however many, spell the first of its batches. So
-/// what a crash leaves of a log that was only appended to is whole batches from the front.
+/// A law: the first bytes of a log, however many, spell the first of its batches. So what a crash
+/// leaves of a log that was only appended to is whole batches from the front.
 pub fn first_batches()
-    ensures { (bytes : List ℕ) (batches : List Given) → IsWriteLog bytes batches 0 → (n : ℕ)
-        → SpellsFirstBatches (take n bytes) batches }
+    ensures { (bytes : List ℕ) (batches : List Given) (rest : ℕ) → IsWriteLog bytes batches rest
+        → (n : ℕ) → SpellsFirstBatches (take n bytes) batches }
 {
     prefixes();
-    whole_log();
 }

@@ -24,8 +24,8 @@ returns-in-Err-clause-refused g c = inl (
   },
 )
 
-pub returns-in-Ok-reply-clause-done : goal.returns-in-Ok-reply-clause-done
-returns-in-Ok-reply-clause-done g c = (
+pub returns-in-Ok-tell_made-clause-done : goal.returns-in-Ok-tell_made-clause-done
+returns-in-Ok-tell_made-clause-done g c = (
   c.in-Ok.made,
   record {
     files = c.in_ok-folder.files.items;
@@ -38,7 +38,8 @@ returns-in-Ok-reply-clause-done g c = (
     left_target = c.import-made.result.2;
     done = rw (c.in-Ok.is, c.deref.ensures.value) at c.import-made.ensures.done;
   },
-  c.in-Ok-reply.ensures.written,
+  c.in-Ok-tell_made.ensures.left,
+  c.in-Ok-tell_made.ensures.written,
 )
 
 pub returns-clause-refused : goal.returns-clause-refused

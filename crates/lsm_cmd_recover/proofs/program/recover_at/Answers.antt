@@ -18,7 +18,7 @@ returns-in-Err-clause-refused g c = (
     start = c.in_ok-folder.prepared.start;
     files = c.in_ok-folder.prepared.logs.items;
     folder = c.in_ok-folder.folder;
-    left = c.recover_on.new.folder;
+    left = c.recover_to.new.folder;
     ready = rw c.plainly.ensures at c.in_ok-folder.ensures.ready;
     refused = rw c.deref.ensures.value at c.in-Err.ensures.refused;
   },
@@ -31,7 +31,7 @@ returns-clause-refused g c = (
     start = c.in_ok-folder.prepared.start;
     files = c.in_ok-folder.prepared.logs.items;
     folder = c.in_ok-folder.folder;
-    left = c.recover_on.new.folder;
+    left = c.recover_to.new.folder;
     ready = rw c.plainly.ensures at c.in_ok-folder.ensures.ready;
     recovered = rw c.deref.ensures.value at c.in-Ok.ensures.done;
   },

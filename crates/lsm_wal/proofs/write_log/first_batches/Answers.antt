@@ -3,4 +3,3 @@ use Rattle.lsm_wal.proofs.write_log.first_batches.Goals as goal
 
 pub returns : goal.returns
 returns c = first_batches c.prefixes.ensures
-    (λ bytes records is. (c.whole_log.ensures bytes records).1 is)
