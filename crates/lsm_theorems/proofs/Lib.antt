@@ -7,3 +7,4 @@ pub mod SmallRun
 pub mod Witnesses
 pub mod AnyImage
 pub mod FirstLife
+pub mod RecoveryLaws

@@ -5,4 +5,5 @@ pub mod Newest
 pub mod Unchanged
 pub mod FirstLife
 pub mod SmallRun
+pub mod Recoveries
 pub mod Stored

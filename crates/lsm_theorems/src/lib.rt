@@ -24,6 +24,7 @@ pub mod pins;
 // What lies in files.
 pub mod bytes;
 pub mod crashes;
+pub mod recoveries;
 
 // That there is something of which the laws speak.
 pub mod compared;
