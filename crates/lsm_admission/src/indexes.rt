@@ -75,7 +75,7 @@ fn open_levels<N: Naming, V: Vouching, S: Shelf>(
 /// none was judged. It rests on the honesty of the shelf inside alone, not on what was supposed of
 /// its tables. The shelf is given back.
 ///
-/// The first refusal names its table: 13 to 18 and 6 to 8 of the footer or the index block; those
+/// The first refusal names its table: 12 to 17, and 6 to 8, of the footer or the index block; those
 /// of reading the table; `OutOfMemory`.
 pub fn open_indexes<N: Naming, V: Vouching, S: Shelf>(
     alloc: Global,

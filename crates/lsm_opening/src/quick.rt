@@ -27,10 +27,10 @@ use std::alloc::Global;
 use std::sync::Wait;
 
 /// The state of the database of which this manifest was read, under the name and the premise that
-/// were picked, with the options of these parts, as `start_with` opens one; but its tables are found
-/// and measured, of each its footer and its index block are read, and no data block. The shelf is
-/// given back under that premise: that it keeps the tables of this manifest (`KeepsTables`). Where
-/// it does, the state is that of an opening which judges every table (`judged`).
+/// were picked, with the options of these parts, as `start_with` opens one; but its tables are
+/// found and measured, of each its footer and its index block are read, and no data block. The
+/// shelf is given back under that premise: that it keeps the tables of this manifest
+/// (`KeepsTables`). Where it does, the state is that of an opening which judges every table.
 ///
 /// `UnflushedLog` with the first of these logs that LevelDB would read; the refusals of
 /// `State::open_found`.

@@ -37,9 +37,9 @@ opened_state o publisher pinners version journal next halted = record {
   history = all_entries (files version);
 }
 
--- What a state begins with, whether the tables were judged or not: the manifest records the version,
--- with so many bytes at its end that hold no whole record; each number of the version is below the
--- next one; and under `Honest` the version is sound.
+-- What a state begins with, whether the tables were judged or not: the manifest records the
+-- version, with so many bytes at its end that hold no whole record; each number of the version is
+-- below the next one; and under `Honest` the version is sound.
 pub record IsOpenable (Honest : Type 0) (h : HeldManifest) (v : Levels) (rest next : ℕ)
     : Type 0 where
   pub recorded : IsRecorded rest h v next
