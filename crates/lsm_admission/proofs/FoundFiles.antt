@@ -66,7 +66,7 @@ there_all Keeps (g ∷ files) [] a f h = absurd a
 there_all Keeps (g ∷ files) (t ∷ ts) a f (inl e) = subst (IsThere Keeps) e (there_is Keeps g t a.0)
 there_all Keeps (g ∷ files) (t ∷ ts) a f (inr h) = there_all Keeps files ts a.1 f h
 
-around : {X : Type 0} (xs : List X) (i : ℕ) (x : X) → i < length xs → x ≡ get_or xs i x
+pub around : {X : Type 0} (xs : List X) (i : ℕ) (x : X) → i < length xs → x ≡ get_or xs i x
     → xs ≡ take i xs ++ x ∷ drop (i + 1) xs
 around xs i x lt at =
     sym (take-append-drop (i + 1) xs) ∙ ap (λ front. front ++ drop (i + 1) xs) (take_more xs i x lt)

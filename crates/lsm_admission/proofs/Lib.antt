@@ -12,3 +12,5 @@ pub mod AnswerLaws
 pub mod KnownKept
 pub mod AnyImage
 pub mod ImagesOf
+pub mod FoundOrder
+pub mod IndexLaws

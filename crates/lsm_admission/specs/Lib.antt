@@ -1,5 +1,6 @@
 -- What public clauses cite, and so what a caller reads
 pub mod FoundTables
+pub mod Indexes
 pub mod Keeping
 pub mod AdmitRefusal
 pub mod Admitted

@@ -1,6 +1,6 @@
 //! Laws of what a shelf keeps. Each function's contract is one law; its body is empty.
 
-ghost use Rattle.std.specs.Prelude.{◌≡◌};
+ghost use Rattle.std.specs.Prelude.{◌≡◌, ℕ, Option};
 ghost use Rattle.lsm_codec.specs.Lists.{Has};
 ghost use Rattle.lsm_manifest.specs.FileOrder.{TableFile};
 ghost use Rattle.lsm_manifest.specs.Shape.{Form};
@@ -8,14 +8,23 @@ ghost use Rattle.lsm_verify.specs.CheckRefusal.{IsOfShape};
 ghost use Rattle.lsm_verify.specs.Loading.{all_files};
 ghost use Rattle.lsm_verify.specs.Settled.{KeepsAge};
 ghost use Rattle.lsm_version.specs.FileNumbers.{AreDistinct, numbers_of};
-ghost use Rattle.lsm_version.specs.Versions.{Levels, files};
+ghost use Rattle.lsm_table.specs.ReadFault.{IsMemoryOrShelf};
+ghost use Rattle.lsm_table.specs.declared.read_fault.ReadFault.{ReadFault};
+ghost use Rattle.lsm_verify.specs.declared.check_fault.CheckFault.TheVariants.{Read};
+ghost use Rattle.lsm_version.specs.Versions.{IsSound, Levels, files};
+ghost use Rattle.lsm_journal.specs.HeldManifest.{HeldManifest};
+ghost use Rattle.lsm_journal.specs.Recorded.{IsRecorded};
+ghost use Rattle.lsm_journal.specs.Recovering.{IsRecovered};
+ghost use Rattle.lsm_admission.specs.FoundTables.{IsFoundFrom};
+ghost use Rattle.lsm_admission.specs.Indexes.{HaveIndexes, IsIndexRefusal, all_tables};
 ghost use Rattle.lsm_admission.specs.KnownImages.{images_of};
 ghost use Rattle.lsm_admission.specs.KnownAnswers.{KnowsTables, KnownImage};
 ghost use Rattle.lsm_admission.specs.Keeping.{KeepsOnly, ImagesOf, KeepsTables};
 
 use crate::known::KnownTables;
 use lsm_finding::Finding;
-use lsm_table::Naming;
+use lsm_journal::named_is_recorded;
+use lsm_table::{Naming, Shelf};
 
 /// What a judgment found is kept: where a version is of a shape and its ages are in order, as
 /// `lsm_verify::check` gives one over an honest shelf, and the shelf keeps, for each of its tables,
@@ -54,4 +63,23 @@ pub fn versions_can_be_known()
     ensures { (shape : Form) (v : Levels) → IsOfShape shape v
         → AreDistinct (numbers_of shape.levels) → KeepsAge (files v)
         → KnowsTables (images_of v.tables) shape }
+{}
+
+/// The manifest that was read records the version whose tables were found for it, whatever they
+/// hold: so a state may begin with it.
+pub fn found_is_recorded<N: Naming, S: Finding>()
+    ensures { (rest : ℕ) (h : HeldManifest) (shape : Form) (v : Levels)
+        → IsRecovered h shape rest → IsFoundFrom (S.keeps N.place) shape v
+        → IsRecorded rest h v shape.next }
+{
+    named_is_recorded();
+}
+
+/// Where a version is sound, each of its tables has an index; and over an honest shelf a refusal to
+/// read their indexes is the shelf's, or for want of memory.
+pub fn sound_tables_have_indexes<N: Naming, S: Shelf>()
+    ensures indexes { (v : Levels) → IsSound v → HaveIndexes (all_tables v.tables) }
+    ensures refused { (v : Levels) (number : Option ℕ) (fault : ReadFault) → S.honest → IsSound v
+        → IsIndexRefusal (S.refuses N.place) S.honest (all_tables v.tables) (Read number fault)
+        → IsMemoryOrShelf fault }
 {}

@@ -14,6 +14,7 @@ mod layouts;
 // Their tables, found.
 mod admitting;
 mod finding;
+mod indexes;
 
 // A database that is there.
 mod admitted;
@@ -31,9 +32,10 @@ pub use admitted::{Admitted, recover_manifest};
 pub use admitting::admit;
 pub use answer_fault::AnswerFault;
 pub use answering::get_unjudged;
+pub use indexes::open_indexes;
 pub use known::{Known, KnownReceipt, KnownTables, get_known};
 pub use laws::{
-    any_image_keeps_no_file, judged_tables_are_kept, known_tables_are_kept, versions_can_be_known,
-    versions_keep_their_tables,
+    any_image_keeps_no_file, found_is_recorded, judged_tables_are_kept, known_tables_are_kept,
+    sound_tables_have_indexes, versions_can_be_known, versions_keep_their_tables,
 };
 pub use lsm_finding::{Finding, Vouched, Vouching};

@@ -15,6 +15,7 @@ use Rattle.lsm_version.specs.FileNumbers.{AreDistinct, file_numbers, numbers_of}
 use Rattle.lsm_verify.specs.Loading.{AreFilesOf, AreInFileOrder, AreLevelsOf}
 use Rattle.lsm_version.specs.Versions.{Levels, files_from, files_of, level_in}
 use Rattle.lsm_journal.specs.HeldManifest.{HeldManifest}
+use Rattle.lsm_journal.specs.Finding.{IsNamedBy}
 use Rattle.lsm_journal.specs.Recorded.{IsFileAt, IsRecorded, meta_of}
 use Rattle.lsm_journal.specs.Recovering.{IsRecovered}
 use Rattle.lsm_journal.specs.Writing.{metas_of}
@@ -60,11 +61,11 @@ shape_numbers level (ts ∷ tables) =
     ∙ ap (λ ns. ns ++ map (λ F. F.number) (files_from (suc level) tables)) (level_numbers level ts)
     ∙ ap (λ ns. file_numbers (map meta_of ts) ++ ns) (shape_numbers (suc level) tables)
 
-pub recovered : ShapesInOrder → (rest : ℕ) (h : HeldManifest) (shape : Form) (v : Levels) → IsRecovered h shape rest → IsOfShape shape v → AreDistinct (numbers_of shape.levels) → IsRecorded rest h v shape.next
-recovered law rest h shape v r of own =
+pub named : (rest : ℕ) (h : HeldManifest) (shape : Form) (v : Levels) → IsRecovered h shape rest
+    → IsNamedBy shape v → AreDistinct (numbers_of shape.levels) → IsRecorded rest h v shape.next
+named rest h shape v r of own =
     let p = r.replayed in
-    let order = in_order shape.levels (λ i lt. let low : i ≤ 6 = (let seven = p.seven in omega arith) in (p.levels i low).ordered) in
-    let levels : metas_of v.tables ≡ shape.levels = levels_are shape.last shape.levels v.tables (law shape v of order) in
+    let levels : metas_of v.tables ≡ shape.levels = of.files in
     let seven : length v.tables ≡ 7 = sym (length-map v.tables (λ ts. map meta_of ts)) ∙ ap length levels ∙ p.seven in
     let fits = manifest_fits h.bytes r.edits rest r.manifest in
     record {
@@ -105,3 +106,17 @@ recovered law rest h shape v r of own =
         let here : Has (get_or (metas_of v.tables) level []) file = subst (λ (fs : List (List TableFile)). Has (get_or fs level []) file) (sym levels) (((p.levels level low).files file).1 st) in
         let x = map_has meta_of (level_in v.tables level) file (subst (λ (fs : List TableFile). Has fs file) (level_metas v.tables level) here) in
         (x.0, x.1, x.2)
+
+-- a version of the shape is so, whose tables were read
+pub recovered : ShapesInOrder → (rest : ℕ) (h : HeldManifest) (shape : Form) (v : Levels)
+    → IsRecovered h shape rest → IsOfShape shape v → AreDistinct (numbers_of shape.levels)
+    → IsRecorded rest h v shape.next
+recovered law rest h shape v r of own =
+    let p = r.replayed in
+    let order = in_order shape.levels
+    (λ i lt. let low : i ≤ 6 = (let seven = p.seven in omega arith) in (p.levels i low).ordered) in
+    named rest h shape v r (record {
+      files = levels_are shape.last shape.levels v.tables (law shape v of order);
+      pointers = of.pointers;
+      last = of.last;
+    }) own

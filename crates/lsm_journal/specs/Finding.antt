@@ -16,6 +16,7 @@ use Rattle.lsm_verify.specs.declared.check_fault.CheckFault.{CheckFault}
 use Rattle.lsm_journal.specs.HeldManifest.{HeldManifest}
 use Rattle.lsm_journal.specs.declared.manifest_limit.ManifestLimit.{ManifestLimit}
 use Rattle.lsm_journal.specs.Recorded.{IsRecorded}
+use Rattle.lsm_journal.specs.Writing.{metas_of}
 use Rattle.lsm_journal.specs.Recovering.{IsRecovered, IsRecoverRefusal, RecoverCounted}
 use Rattle.lsm_journal.specs.declared.open_fault.OpenFault.{OpenFault}
 use Rattle.lsm_journal.specs.declared.open_fault.OpenFault.TheVariants.{OutOfMemory, Shelf, Recover}
@@ -37,6 +38,13 @@ abbrev pub taken_numbers : List ℕ → Levels → ℕ → List ℕ
 taken_numbers listed version manifest = (listed ++ numbers_in version) ++ manifest ∷ []
 
 -- ---- what is read
+
+-- The version has a table of the number, the size and the keys of each file of the shape, in their
+-- order, and the shape's pointers and last sequence. Of what its tables hold nothing is said.
+pub record IsNamedBy (shape : Form) (v : Levels) : Type 0 where
+  pub files : metas_of v.tables ≡ shape.levels
+  pub pointers : v.pointers ≡ shape.pointers
+  pub last : v.last ≡ shape.last
 
 -- The manifest that was read comes to the shape, with so many bytes at its end that hold no whole
 -- record. The version is of that shape, in which no number stands twice; so the manifest records

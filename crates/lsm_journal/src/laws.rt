@@ -12,6 +12,7 @@ ghost use Rattle.lsm_version.specs.Versions.{IsWhole, Levels};
 ghost use Rattle.lsm_journal.specs.HeldManifest.{HeldManifest};
 ghost use Rattle.lsm_journal.specs.Recorded.{FitsLevels, IsRecorded};
 ghost use Rattle.lsm_journal.specs.Difference.{Difference, FitsDifference, LeadsTo};
+ghost use Rattle.lsm_journal.specs.Finding.{IsNamedBy};
 ghost use Rattle.lsm_journal.specs.Recovering.{IsRecovered};
 ghost use Rattle.lsm_journal.specs.Sending.{with_front};
 ghost use Rattle.lsm_journal.specs.Writing.{change_edit, record_of};
@@ -27,6 +28,14 @@ pub fn recovered_is_recorded()
 {
     shapes_in_order();
 }
+
+/// It records each version whose tables are those that the shape names, whatever they hold: for
+/// that no table has to be read.
+pub fn named_is_recorded()
+    ensures { (rest : ℕ) (h : HeldManifest) (shape : Form) (v : Levels) → IsRecovered h shape rest
+        → IsNamedBy shape v → AreDistinct (numbers_of shape.levels)
+        → IsRecorded rest h v shape.next }
+{}
 
 /// The keys of a recorded version fit: each is an internal key, and its length fits 32 bits.
 pub fn recorded_keys_fit()

@@ -35,8 +35,8 @@ pub use found::Found;
 pub use journal::Journal;
 pub use keys::added_keys_fit;
 pub use laws::{
-    differences_fit, recorded_keys_fit, recovered_is_recorded, torn_changes_record_one_of_two,
-    whole_keys_fit,
+    differences_fit, named_is_recorded, recorded_keys_fit, recovered_is_recorded,
+    torn_changes_record_one_of_two, whole_keys_fit,
 };
 pub use manifest_limit::ManifestLimit;
 pub use open_fault::OpenFault;

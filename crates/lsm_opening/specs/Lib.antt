@@ -6,5 +6,6 @@ pub mod Names
 pub mod Tidying
 pub mod Preparing
 pub mod Starting
+pub mod Quick
 pub mod Reading
 pub mod Compactions

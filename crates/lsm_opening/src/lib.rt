@@ -20,6 +20,7 @@ mod preparing;
 mod tidying;
 
 // A database is begun or opened, or opened to be read alone.
+mod quick;
 mod reading;
 mod starting;
 
@@ -37,6 +38,7 @@ pub use obsolete::is_obsolete;
 pub use parts::NewParts;
 pub use prepared::{Prepared, Start};
 pub use preparing::{plainly, prepare};
+pub use quick::open_quickly;
 pub use reading::open_to_read;
 pub use starting::{begin, begin_with, open, start, start_with};
 pub use sweeping::sweep;

@@ -6,6 +6,7 @@ ghost use Rattle.lsm_opening.specs.declared.faults.writer_fault.WriterFault.TheV
 ghost use Rattle.lsm_state.specs.Options.{Fits};
 
 use crate::faults::writer_fault::WriterFault;
+use lsm_finding::{Vouched, Vouching};
 use lsm_history::NewHistory;
 use lsm_pins::{Board, Pinner, Publisher};
 use lsm_slots::Boarded;
@@ -78,6 +79,33 @@ impl<S: Shelf> NewParts<S> {
         ensures options { IfOk result (λ p. p.options ≡ usual) }
     {
         NewParts::with(alloc, Options::for_programs())
+    }
+
+    /// The options.
+    pub fn options(&self) -> &Options
+        ensures { result.now ≡ self.now.options }
+    {
+        &self.options
+    }
+
+    /// The same for the shelf under a premise, whose tables have the same receipts.
+    pub(crate) fn vouched<V: Vouching>(self) -> NewParts<Vouched<V, S>>
+        ensures { result ≡ self }
+    {
+        let NewParts {
+            options,
+            records,
+            publisher,
+            pinners,
+            history,
+        } = self;
+        NewParts {
+            options,
+            records,
+            publisher,
+            pinners,
+            history,
+        }
     }
 
     /// The same under the name that stands for them. `AllocError` where a growth was refused.

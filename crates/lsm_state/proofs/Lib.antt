@@ -4,6 +4,7 @@ mod EditionLaws
 mod Removing
 mod Listed
 mod OpenLaws
+mod UnjudgedLaws
 pub mod ReserveLaws
 mod ChangeLaws
 mod AskedLaws

@@ -1,5 +1,5 @@
 -- What opening a database gives: the law of the state.
-use Rattle.std.proofs.Common.{◌≡◌, ℕ, zero, suc, ◌+◌, ◌-◌, ◌<◌, ◌≤◌, ◌==◌, Bool, false, true, cond, None, replicate, List, [], ◌∷◌, map, refl, sym, ◌∙◌, ap, subst, inl, inr, arith}
+use Rattle.std.proofs.Common.{◌≡◌, ℕ, zero, suc, ◌+◌, ◌-◌, ◌^◌, ◌<◌, ◌≤◌, ◌==◌, Bool, false, true, cond, None, replicate, List, [], ◌∷◌, map, refl, sym, ◌∙◌, ap, subst, inl, inr, arith}
 use Rattle.std.proofs.lemmas.Bool.{eq-eqb}
 use Rattle.std.proofs.lemmas.List.Sums.{sum_by-cons}
 use Rattle.std.specs.Prelude.{Result, Ok, Err, IfOk, IfErr}
@@ -28,12 +28,13 @@ use Rattle.lsm_journal.specs.declared.open_fault.OpenFault.{OpenFault}
 use Rattle.lsm_journal.specs.declared.open_fault.OpenFault.TheVariants as opening
 use Rattle.lsm_state.specs.Held.{Held, IsLawfulState, plain}
 use Rattle.lsm_state.specs.Making.{IsNewBoard}
-use Rattle.lsm_state.specs.Opening.{IsBegun, IsFound, IsOpenRefusal, IsReadOnce, IsStartRefusal, opened_state}
+use Rattle.lsm_journal.proofs.CallerLemmas.{found_below, found_recorded}
+use Rattle.lsm_state.specs.Opening.{IsAnew, IsBegun, IsFound, IsNotAnew, IsOpenRefusal, IsOpenable}
+use Rattle.lsm_state.specs.Opening.{IsReadOnce, opened_state}
 use Rattle.lsm_state.specs.Options.{Fits}
 use Rattle.lsm_state.specs.declared.options.Options.{Options}
 use Rattle.lsm_state.proofs.Numbers.{has_map}
 use Rattle.lsm_journal.specs.declared.manifest_limit.ManifestLimit.{ManifestLimit}
-use Rattle.lsm_state.specs.Options.{limit_of}
 
 -- ---- numbers that stand once
 
@@ -145,23 +146,6 @@ pub board_opened : (board : TableId) (o : Options) (publisher : Known) (pinners 
     → IsNewBoard board o publisher pinners → IsNewBoard board s.options s.slots.board s.pinners
 board_opened board o publisher pinners s e new = subst (λ (x : Held). IsNewBoard board x.options x.slots.board x.pinners) (sym e) new
 
-limit_opened : (o : Options) (publisher : Known) (pinners : List Known) (s : Held) → s ≡ opened_state o publisher pinners s.slots.version s.journal s.next true → (limit_of s.options) ≡ (limit_of o)
-limit_opened o publisher pinners s e = ap (λ (x : Held). (limit_of x.options)) e
-
-pub found_opened : (honest : Type 0) (o : Options) (publisher : Known) (pinners : List Known) (s : Held) (rest : ℕ) (was is : Told)
-    → s ≡ opened_state o publisher pinners s.slots.version s.journal s.next true → IsFound honest (limit_of o) s.journal s.slots.version rest s.next was is
-    → IsFound honest (limit_of s.options) s.journal s.slots.version rest s.next was is
-found_opened honest o publisher pinners s rest was is e f =
-    subst (λ (limit : ManifestLimit). IsFound honest limit s.journal s.slots.version rest s.next was is) (sym (limit_opened o publisher pinners s e)) f
-
-pub begun_opened : {E : Type 0} (r : Result Held E) (honest : Type 0) (o : Options) (publisher : Known) (pinners : List Known) (s : Held) (was is : Told)
-    → s ≡ opened_state o publisher pinners s.slots.version s.journal s.next true
-    → IfOk r (λ t. IsBegun honest (limit_of s.options) t.journal t.slots.version t.next was is)
-    → IfOk r (λ t. IsBegun honest (limit_of o) t.journal t.slots.version t.next was is)
-begun_opened (Ok t) honest o publisher pinners s was is e b =
-    subst (λ (limit : ManifestLimit). IsBegun honest limit t.journal t.slots.version t.next was is) (limit_opened o publisher pinners s e) b
-begun_opened (Err x) honest o publisher pinners s was is e b = tt
-
 pub state_opened : {E : Type 0} (r : Result Held E) (o : Options) (publisher : Known) (pinners : List Known) (s : Held) → s ≡ opened_state o publisher pinners s.slots.version s.journal s.next true
     → IfOk r (λ t. t ≡ opened_state s.options s.slots.board s.pinners s.slots.version t.journal t.next false)
     → IfOk r (λ t. t ≡ opened_state o publisher pinners t.slots.version t.journal t.next false)
@@ -171,19 +155,83 @@ state_opened (Ok t) o publisher pinners s e b =
     q ∙ ap (λ (v : Levels). opened_state o publisher pinners v t.journal t.next false) (sym (ap (λ (x : Held). x.slots.version) q))
 state_opened (Err x) o publisher pinners s e b = tt
 
-pub refused_opened : {T : Type 0} (r : Result T OpenFault) (Stored : ℕ → List ℕ → Type 0) (Refused : Asked → ShelfFault → Type 0) (honest : Type 0) (o : Options) (publisher : Known)
-    (pinners : List Known) (s : Held) (was is : Told) → s ≡ opened_state o publisher pinners s.slots.version s.journal s.next true
-    → IfErr r (λ e. IsStartRefusal Refused honest (limit_of s.options) e was is) → IfErr r (λ e. IsOpenRefusal Stored Refused honest (limit_of o) e was is)
-refused_opened (Ok x) Stored Refused honest o publisher pinners s was is e b = tt
-refused_opened (Err x) Stored Refused honest o publisher pinners s was is e b =
-    inr (subst (λ (limit : ManifestLimit). IsStartRefusal Refused honest limit x was is) (limit_opened o publisher pinners s e) b)
+-- ---- what was found, for a state to begin with
+
+pub openable_found : (honest : Type 0) (limit : ManifestLimit) (h : HeldManifest) (v : Levels)
+    (rest next : ℕ) (was is : Told) → IsFound honest limit h v rest next was is
+    → IsOpenable honest h v rest next
+openable_found honest limit h v rest next was is f = record {
+  recorded = found_recorded honest limit h v rest next was is f;
+  below = found_below honest limit h v rest next was is f;
+  fits = f.fits;
+  sound = f.loaded.sound;
+}
+
+-- a new manifest began for it
+pub begun_anew : {E : Type 0} (r : Result Held E) (honest : Type 0) (limit : ManifestLimit)
+    (o : Options) (publisher : Known) (pinners : List Known) (v : Levels) (h : HeldManifest)
+    (rest next : ℕ) (was read is : Told) → IsFound honest limit h v rest next was read
+    → IfOk r (λ t. IsAnew v next h t.journal t.next read is)
+    → IfOk r (λ t. t ≡ opened_state o publisher pinners v t.journal t.next false)
+    → IfOk r (λ t. IsBegun honest limit t.journal t.slots.version t.next was is)
+begun_anew (Ok t) honest limit o publisher pinners v h rest next was read is found anew opened =
+    subst (λ (w : Levels). IsBegun honest limit t.journal w t.next was is)
+    (sym (ap (λ (x : Held). x.slots.version) opened)) (record {
+      before = h;
+      rest = rest;
+      number = next;
+      read = read;
+      found = found;
+      rolls = anew.rolls;
+      after = anew.after;
+      fits = anew.fits;
+    })
+begun_anew (Err x) honest limit o publisher pinners v h rest next was read is found anew opened = tt
+
+-- or none did
+pub refused_anew : {T : Type 0} (r : Result T OpenFault) (Stored : ℕ → List ℕ → Type 0)
+    (Refused : Asked → ShelfFault → Type 0) (honest : Type 0) (limit : ManifestLimit) (s : Held)
+    (rest : ℕ) (was read is : Told)
+    → IsFound honest limit s.journal s.slots.version rest s.next was read
+    → IfErr r (λ e. IsNotAnew Refused s.slots.version s.next s.journal e read is)
+    → IfErr r (λ e. IsOpenRefusal Stored Refused honest limit e was is)
+refused_anew (Ok x) Stored Refused honest limit s rest was read is found n = tt
+refused_anew (Err (opening.Shelf e)) Stored Refused honest limit s rest was read is found n =
+    inr (record {
+      held = s.journal;
+      version = s.slots.version;
+      rest = rest;
+      number = s.next;
+      read = read;
+      found = found;
+      cause = n.0;
+      asked = n.1;
+      told = n.2;
+    })
+refused_anew (Err opening.NumbersSpent) Stored Refused honest limit s rest was read is found n =
+    inr (record {
+      held = s.journal;
+      version = s.slots.version;
+      rest = rest;
+      found = subst (λ (t : Told). IsFound honest limit s.journal s.slots.version rest (2 ^ 64 - 1)
+          was t) (sym n.1)
+          (subst (λ (m : ℕ). IsFound honest limit s.journal s.slots.version rest m was read) n.0
+          found);
+    })
+refused_anew (Err (opening.Recover e)) Stored Refused honest limit s rest was read is found n =
+    absurd n
+refused_anew (Err (opening.Check e)) Stored Refused honest limit s rest was read is found n =
+    absurd n
+refused_anew (Err opening.OutOfMemory) Stored Refused honest limit s rest was read is found n =
+    absurd n
 
 -- what refuses a new manifest is no refusal to read the one that is there
-pub read_opened : {T : Type 0} (r : Result T OpenFault) (Refused : Asked → ShelfFault → Type 0) (honest : Type 0) (limit : ManifestLimit) (was is a b : Told)
-    → IfErr r (λ e. IsStartRefusal Refused honest limit e was is) → IfErr r (λ e. IsReadOnce e a b)
-read_opened (Ok x) Refused honest limit was is a b s = tt
-read_opened (Err (opening.Recover e)) Refused honest limit was is a b s = absurd s
-read_opened (Err (opening.Check e)) Refused honest limit was is a b s = tt
-read_opened (Err (opening.Shelf e)) Refused honest limit was is a b s = tt
-read_opened (Err opening.NumbersSpent) Refused honest limit was is a b s = tt
-read_opened (Err opening.OutOfMemory) Refused honest limit was is a b s = tt
+pub read_anew : {T : Type 0} (r : Result T OpenFault) (Refused : Asked → ShelfFault → Type 0)
+    (v : Levels) (number : ℕ) (h : HeldManifest) (read is a b : Told)
+    → IfErr r (λ e. IsNotAnew Refused v number h e read is) → IfErr r (λ e. IsReadOnce e a b)
+read_anew (Ok x) Refused v number h read is a b n = tt
+read_anew (Err (opening.Recover e)) Refused v number h read is a b n = absurd n
+read_anew (Err (opening.Check e)) Refused v number h read is a b n = tt
+read_anew (Err (opening.Shelf e)) Refused v number h read is a b n = tt
+read_anew (Err opening.NumbersSpent) Refused v number h read is a b n = tt
+read_anew (Err opening.OutOfMemory) Refused v number h read is a b n = tt

@@ -7,6 +7,7 @@ pub mod Collecting
 pub mod Making
 pub mod Listing
 pub mod Opening
+pub mod Unjudged
 pub mod Reserving
 pub mod Changing
 pub mod Ingesting

@@ -1,15 +1,17 @@
 -- What a state is when its database is opened, and why it is not (that a new manifest begins each
 -- time is this project's rule).
 use Rattle.std.specs.Prelude.{◌≡◌, ℕ, ◌+◌, ◌-◌, ◌^◌, ◌<◌, ◌⊎◌, Bool, List, []}
+use Rattle.lsm_codec.specs.Lists.{Has}
 use Rattle.lsm_pins.specs.Known.{Known}
 use Rattle.lsm_shelf.specs.Asked.{Asked}
 use Rattle.lsm_shelf.specs.Refusals.{IsWantOr}
 use Rattle.lsm_shelf.specs.declared.shelf_fault.ShelfFault.{ShelfFault}
 use Rattle.lsm_shelf.specs.Told.{Told, Becomes, Counted, TakenIs}
 use Rattle.lsm_model.specs.Files.{all_entries}
-use Rattle.lsm_version.specs.Versions.{Levels, files}
+use Rattle.lsm_version.specs.Versions.{IsSound, Levels, files, numbers_in}
 use Rattle.lsm_slots.specs.Slots.{first_slots}
 use Rattle.lsm_journal.specs.HeldManifest.{HeldManifest}
+use Rattle.lsm_journal.specs.Recorded.{IsRecorded}
 use Rattle.lsm_journal.specs.Sending.{RollsOver, started_by}
 use Rattle.lsm_state.specs.Held.{Held}
 use Rattle.lsm_state.specs.declared.options.Options.{Options}
@@ -35,6 +37,24 @@ opened_state o publisher pinners version journal next halted = record {
   history = all_entries (files version);
 }
 
+-- What a state begins with, whether the tables were judged or not: the manifest records the
+-- version, with so many bytes at its end that hold no whole record; each number of the version is
+-- below the next one; and under `Honest` the version is sound.
+pub record IsOpenable (Honest : Type 0) (h : HeldManifest) (v : Levels) (rest next : ℕ)
+    : Type 0 where
+  pub recorded : IsRecorded rest h v next
+  pub below : (n : ℕ) → Has (numbers_in v) n → n < next
+  pub fits : next < 2 ^ 64
+  pub sound : Honest → IsSound v
+
+-- A new manifest took the place of the one before, here and on the shelf: its one edit spells the
+-- version, and it has the number that was next.
+pub record IsAnew (v : Levels) (number : ℕ) (before h : HeldManifest) (next : ℕ) (was is : Told)
+    : Type 0 where
+  pub rolls : RollsOver v number before h was is
+  pub after : next ≡ number + 1
+  pub fits : next < 2 ^ 64
+
 -- The manifest that was found records the version. The manifest held is a new one, whose one edit
 -- spells it, and has the number that was next; both are what the shelf was sent.
 pub record IsBegun (Honest : Type 0) (limit : ManifestLimit) (h : HeldManifest) (v : Levels)
@@ -49,6 +69,18 @@ pub record IsBegun (Honest : Type 0) (limit : ManifestLimit) (h : HeldManifest) 
   pub fits : next < 2 ^ 64
 
 -- ---- refusals
+
+-- Why no new manifest takes the place of the one before: the shelf refused it, or memory ran out;
+-- or no number is left, and the shelf was asked for nothing.
+abbrev pub IsNotAnew : (Asked → ShelfFault → Type 0) → Levels → ℕ → HeldManifest → OpenFault → Told
+    → Told → Type 0
+IsNotAnew Refused v number before (Shelf e) was is =
+    (TakenIs number e × Counted e was is) × IsWantOr (Refused (started_by v number before)) e
+    × Becomes was is
+IsNotAnew Refused v number before NumbersSpent was is = (number ≡ 2 ^ 64 - 1) × (is ≡ was)
+IsNotAnew Refused v number before (Recover e) was is = ⊥
+IsNotAnew Refused v number before (Check e) was is = ⊥
+IsNotAnew Refused v number before OutOfMemory was is = ⊥
 
 -- The new manifest was refused by the shelf, or for want of memory.
 pub record IsUnstarted (Refused : Asked → ShelfFault → Type 0) (Honest : Type 0)

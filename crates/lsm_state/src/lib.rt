@@ -50,6 +50,7 @@ mod open;
 mod options;
 mod state;
 mod state_fault;
+mod unjudged;
 
 // What changes the version.
 mod changing;

@@ -3,21 +3,22 @@
 ghost use Rattle.std.specs.Prelude.{◌≡◌, ℕ, false, true, IfErr, IfOk};
 ghost use Rattle.lsm_journal.specs.Finding.{IsFindRefusal, IsFound, IsReadOnce};
 ghost use Rattle.lsm_shelf.specs.Stored.{Stored};
-ghost use Rattle.lsm_shelf.specs.Told.{Told};
 ghost use Rattle.lsm_state.specs.Making.{IsNewBoard, IsNewHistory};
-ghost use Rattle.lsm_state.specs.Opening.{IsBegun, IsOpenRefusal, IsStartRefusal, opened_state};
+ghost use Rattle.lsm_state.specs.Opening.{IsAnew, IsBegun, IsNotAnew, IsOpenRefusal, IsOpenable};
+ghost use Rattle.lsm_state.specs.Opening.{opened_state};
 ghost use Rattle.lsm_state.specs.Options.{Fits, limit_of};
 
 use crate::coming::{edition_of, entries_of_version};
 use crate::options::Options;
 use crate::state::State;
 use lsm_history::NewHistory;
-use lsm_journal::{Found, OpenFault};
+use lsm_journal::{Found, Journal, OpenFault};
 use lsm_live::LiveJobs;
 use lsm_pins::{Pinner, Publisher};
 use lsm_slots::{Boarded, Slots, Snapshots};
 use lsm_table::{NamedShelf, Registry, Shelf};
 use lsm_verify::NoWatch;
+use lsm_version::Version;
 use std::alloc::{AllocError, Global};
 use std::sync::{Arc, Wait};
 use std::thread::Threads;
@@ -119,7 +120,16 @@ impl<N: Boarded, S: Shelf> State<N, S> {
         ensures counts_err { IfErr result (λ e. IsReadOnce e shelf.old shelf.new) }
     {
         let found: Found<N, S> = Found::read(rt, alloc, shelf, &registry, options.limit())?;
-        let state = State::of_found(alloc, options, registry, board, history, found)?;
+        let Found {
+            journal,
+            version,
+            rest: _,
+            next,
+            counts: _,
+        } = found;
+        let state = State::halted(
+            alloc, options, registry, board, history, journal, version, next,
+        )?;
         Ok(state)
     }
 
@@ -155,41 +165,51 @@ impl<N: Boarded, S: Shelf> State<N, S> {
             shelves,
             &NoWatch,
         )?;
-        let state = State::of_found(alloc, options, registry, board, history, found)?;
+        let Found {
+            journal,
+            version,
+            rest: _,
+            next,
+            counts: _,
+        } = found;
+        let state = State::halted(
+            alloc, options, registry, board, history, journal, version, next,
+        )?;
         Ok(state)
     }
 
     // The state of what was found, for reading alone.
-    fn of_found(
+    pub(crate) fn halted(
         alloc: Global,
         options: Options,
         registry: Arc<Registry<N, S>>,
         board: (Publisher, Vec<Pinner>),
         history: NewHistory,
-        found: Found<N, S>,
+        journal: Journal,
+        version: Version<N, S>,
+        next: u64,
     ) -> Result<State<N, S>, AllocError>
         requires fits { Fits options }
         requires board { IsNewBoard N.board options board.0 board.1.items }
         requires history { IsNewHistory N.history history }
-        requires found { (was : Told) × ((is : Told) × IsFound S.honest (limit_of options)
-            found.journal found.version found.rest found.next was is) }
-        ensures { IfOk result (λ s. s ≡ opened_state options board.0 board.1.items found.version
-            found.journal found.next true) }
+        requires openable { (rest : ℕ) × IsOpenable S.honest journal version rest next }
+        ensures { IfOk result (λ s.
+            s ≡ opened_state options board.0 board.1.items version journal next true) }
     {
         let (publisher, pinners) = board;
         let mut keeper = history.named();
-        keeper.grow(&entries_of_version(&found.version));
-        let slots = Slots::new(alloc, publisher, options.versions, found.version)?;
+        keeper.grow(&entries_of_version(&version));
+        let slots = Slots::new(alloc, publisher, options.versions, version)?;
         keeper.publish(&edition_of(slots.id(), slots.version()));
         Ok(State {
             registry,
             options,
             slots,
             snapshots: Snapshots::new(alloc),
-            next: found.next,
+            next,
             next_ticket: 1,
             live: LiveJobs::new(alloc),
-            journal: found.journal,
+            journal,
             halted: true,
             pinners,
             keeper,
@@ -197,7 +217,7 @@ impl<N: Boarded, S: Shelf> State<N, S> {
     }
 
     // The state that was opened for reading, once a new manifest has begun under its next number.
-    fn begin<R: Wait>(
+    pub(crate) fn begin<R: Wait>(
         self,
         rt: &R,
         alloc: Global,
@@ -206,18 +226,14 @@ impl<N: Boarded, S: Shelf> State<N, S> {
         requires board { IsNewBoard N.board self.options self.slots.board self.pinners }
         requires opened { self ≡ opened_state self.options self.slots.board self.pinners
             self.slots.version self.journal self.next true }
-        requires found { (was : Told) × ((rest : ℕ) × IsFound S.honest (limit_of self.options)
-            self.journal self.slots.version rest self.next was shelf.old) }
-        ensures begun { (was : Told) (rest : ℕ) → IsFound S.honest (limit_of self.options)
-            self.journal self.slots.version rest self.next was shelf.old
-            → IfOk result (λ s. IsBegun S.honest (limit_of self.options) s.journal
-            s.slots.version s.next was shelf.new) }
+        requires openable { (rest : ℕ)
+            × IsOpenable S.honest self.journal self.slots.version rest self.next }
+        ensures anew { IfOk result (λ s. IsAnew self.slots.version self.next self.journal
+            s.journal s.next shelf.old shelf.new) }
         ensures opened { IfOk result (λ s. s ≡ opened_state self.options self.slots.board
             self.pinners self.slots.version s.journal s.next false) }
-        ensures refused { (was : Told) (rest : ℕ) → IsFound S.honest (limit_of self.options)
-            self.journal self.slots.version rest self.next was shelf.old
-            → IfErr result (λ e. IsStartRefusal (S.refuses N.place) S.honest
-            (limit_of self.options) e was shelf.new) }
+        ensures refused { IfErr result (λ e. IsNotAnew (S.refuses N.place) self.slots.version
+            self.next self.journal e shelf.old shelf.new) }
     {
         let mut state = self;
         let number = state.next;

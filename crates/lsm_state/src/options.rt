@@ -90,7 +90,7 @@ impl Options {
     }
 
     /// From how many bytes on a new manifest is due.
-    pub(crate) fn limit(&self) -> ManifestLimit
+    pub fn limit(&self) -> ManifestLimit
         ensures { result ≡ limit_of self.now }
     {
         ManifestLimit {

@@ -3,11 +3,17 @@ use Rattle.std.proofs.lemmas.Result.{err_from_is_err_and}
 use Rattle.lsm_journal.specs.Finding.{IsFound}
 use Rattle.lsm_journal.proofs.CallerLemmas.{found_without_room}
 use Rattle.lsm_state.specs.Held.{Held}
+use Rattle.lsm_state.proofs.OpenLaws.{openable_found}
 use Rattle.lsm_state.proofs.state.State.open_to_read_by.Goals as goal
 use Rattle.lsm_state.specs.Options.{limit_of}
 
-pub of_found-requires-clause-found : goal.of_found-requires-clause-found
-of_found-requires-clause-found g c κs within = (c.args.shelf.now, (c.read_by.new.shelf, rw c.limit.ensures at c.in_ok-found.ensures.found))
+pub halted-requires-clause-openable : goal.halted-requires-clause-openable
+halted-requires-clause-openable g c κs within =
+    let f = c.in_ok-found.found in (
+      f.rest,
+      openable_found g.S.Shelf.honest _ f.journal f.version f.rest f.next _ _
+          c.in_ok-found.ensures.found,
+    )
 
 pub returns-in_err-state-clause-refused : goal.returns-in_err-state-clause-refused
 returns-in_err-state-clause-refused g c =
