@@ -9,10 +9,13 @@
 //! read by.
 #![tactic(auto)]
 
-// Where blocks come from.
+// Where blocks come from, and what of them is read ahead.
+mod ahead;
 mod blocks;
 mod direct;
 mod judging;
+mod part;
+mod reads_ahead;
 mod shelf_reads;
 
 // An open table, its reads, and going through it.
@@ -31,6 +34,7 @@ mod parts;
 mod recent;
 mod recent_blocks;
 
+pub use ahead::Ahead;
 pub use block_key::BlockKey;
 pub use blocks::Blocks;
 pub use cached::{Cached, MAX_OPEN_TABLES};
