@@ -12,9 +12,8 @@ const FIRST: usize = 16 << 10;
 const MOST: usize = 128 << 10;
 
 /// What a reader of a table that goes on from block to block has read ahead of it: bytes of its
-/// image, with the receipt that they were read by. The first block is read alone; from the second
-/// on more is read at once each time, up to 128 KiB. No checksum and no block is judged before it is
-/// asked for.
+/// image, with the receipt that they were read by. The first block that is asked for is read alone;
+/// then more is read at once each time, up to 128 KiB. A block is judged when it is asked for.
 #[derive(Drop)]
 pub struct Ahead<N: Naming, S: Shelf> {
     pub(crate) part: Option<Part<N, S>>,

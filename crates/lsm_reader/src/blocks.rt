@@ -74,9 +74,9 @@ pub trait Blocks<N: Naming, S: Shelf> {
         ensures refused { IfErr result
             (IsReadRefusal (S.refuses N.place) (S.Receipt.number receipt.now)) };
 
-    /// The same for a reader that goes on from block to block of a table: as much as it asks for is
-    /// read in one call of the shelf, and kept in `ahead` for the blocks that follow. Where that call
-    /// is refused the block is read alone.
+    /// The same for a reader that goes on from block to block of a table: what follows the block is
+    /// read with it, in one call of the shelf, and kept in `ahead` for the next ones. Where that
+    /// call is refused the block is read alone.
     fn block_ahead(
         &mut self,
         alloc: Global,

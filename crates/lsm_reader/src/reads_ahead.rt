@@ -48,7 +48,8 @@ pub(crate) trait ReadsAhead<N: Naming, S: Shelf> {
         ensures told { Becomes (told self.old) (told self.new) }
         ensures refused { IfErr result
             (S.refuses N.place (ReadAt (S.Receipt.number receipt.now) offset len)) }
-        ensures cause { IfErr result (λ e. NotTaken e × Counted e (told self.old) (told self.new)) };
+        ensures cause { IfErr result (λ e.
+            NotTaken e × Counted e (told self.old) (told self.new)) };
 }
 
 impl<N: Naming, S: Shelf> ReadsAhead<N, S> for NamedShelf<N, S> {
