@@ -56,7 +56,7 @@ pub(crate) fn compare_by_first(a: &[u8], b: &[u8]) -> Ordering
     a.cmp(b)
 }
 
-/// The order of two texts, bytewise, a proper prefix first: they are looked at eight bytes at a time.
+/// The order of two texts, bytewise, a proper prefix first. Looks at eight bytes at a time.
 pub fn compare(a: &[u8], b: &[u8]) -> Ordering
     ensures { result ≡ slice_cmp nat_cmp a.now b.now }
 {
