@@ -18,10 +18,11 @@ mod part;
 mod reads_ahead;
 mod shelf_reads;
 
-// An open table, its reads, and going through it.
+// An open table, its reads and searches, and going through it.
 mod open_table;
 mod opening;
 mod reads;
+mod search;
 mod table_cursor;
 mod table_reader;
 mod table_stream;

@@ -24,6 +24,7 @@ ghost use Rattle.lsm_shelf.specs.Told.{Becomes};
 use crate::ahead::Ahead;
 use crate::blocks::Blocks;
 use crate::opening::data_block_by;
+use crate::search::seek_here_by;
 use lsm_block::{Block, BlockIter};
 use lsm_codec::KeyRef;
 use lsm_table::{Naming, ReadFault, Shelf, TableFault};
@@ -146,9 +147,7 @@ fn seek_next_by<N: Naming, S: Shelf, B: Blocks<N, S>>(
     ensures refused { IfErr result
         (IsReadRefusal (S.refuses N.place) (S.Receipt.number receipt.now)) }
 {
-    let mut alone = Ahead::none();
-    let block = data_block_by(blocks, alloc, receipt, index.value(), &mut alone)?;
-    let entries = BlockIter::seek(alloc, block, key)?;
+    let entries = seek_here_by(blocks, alloc, receipt, &*index, key)?;
     index.pass()?;
     Ok(entries)
 }
