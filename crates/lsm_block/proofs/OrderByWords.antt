@@ -2,6 +2,7 @@
 -- highest.
 use Rattle.std.proofs.Common.{◌≡◌, ℕ, suc, ◌+◌, ◌*◌, ◌^◌, ◌<◌, ◌≤◌, List, [], ◌∷◌, ◌++◌}
 use Rattle.std.proofs.Common.{length, take, drop, Ordering, Less, Equal, Greater, refl, sym}
+use Rattle.std.proofs.Common.{slice_index}
 use Rattle.std.proofs.Common.{ap, ◌∙◌, arith, inl, inr}
 use Rattle.std.specs.Int.{w64, from_be_bytes}
 use Rattle.std.specs.Ordering.{nat_cmp, ordering_then}
@@ -111,3 +112,19 @@ by_eight a b x xs y ys m n o ex exs ey eys fa fb la lb em en eo =
     (ap (λ (l : List ℕ). slice_cmp nat_cmp l b) (sym (take-append-drop 8 a))
     ∙ ap (slice_cmp nat_cmp (take 8 a ++ drop 8 a)) (sym (take-append-drop 8 b))
     ∙ cmp_parts (take 8 a) (take 8 b) (drop 8 a) (drop 8 b) (lx ∙ sym ly))
+
+-- ---- texts of which the first bytes differ
+
+pub first_less : (a b : List ℕ) → 0 < length a → 0 < length b
+    → nat_cmp (slice_index a 0) (slice_index b 0) ≡ Less → Less ≡ slice_cmp nat_cmp a b
+first_less [] b p q h = absurd (omega (arith, p))
+first_less (x ∷ xs) [] p q h = absurd (omega (arith, q))
+first_less (x ∷ xs) (y ∷ ys) p q h =
+    ap (λ (o : Ordering). ordering_then o (slice_cmp nat_cmp xs ys)) (sym h)
+
+pub first_greater : (a b : List ℕ) → 0 < length a → 0 < length b
+    → nat_cmp (slice_index a 0) (slice_index b 0) ≡ Greater → Greater ≡ slice_cmp nat_cmp a b
+first_greater [] b p q h = absurd (omega (arith, p))
+first_greater (x ∷ xs) [] p q h = absurd (omega (arith, q))
+first_greater (x ∷ xs) (y ∷ ys) p q h =
+    ap (λ (o : Ordering). ordering_then o (slice_cmp nat_cmp xs ys)) (sym h)

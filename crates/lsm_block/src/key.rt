@@ -41,8 +41,23 @@ fn high_first(eight: &[u8]) -> u64
     ])
 }
 
-/// Compares two texts, eight bytes at a time.
-fn compare(a: &[u8], b: &[u8]) -> Ordering
+/// Compares two texts of which the first bytes mostly tell the order.
+#[tactic(auto, using(crate::proofs::OrderByWords::first_less, crate::proofs::OrderByWords::first_greater))]
+pub(crate) fn compare_by_first(a: &[u8], b: &[u8]) -> Ordering
+    ensures { result ≡ slice_cmp nat_cmp a.now b.now }
+{
+    if !a.is_empty() && !b.is_empty() {
+        match a[0].cmp(&b[0]) {
+            Ordering::Less => return Ordering::Less,
+            Ordering::Greater => return Ordering::Greater,
+            Ordering::Equal => {}
+        }
+    }
+    a.cmp(b)
+}
+
+/// The order of two texts, bytewise, a proper prefix first. Looks at eight bytes at a time.
+pub fn compare(a: &[u8], b: &[u8]) -> Ordering
     ensures { result ≡ slice_cmp nat_cmp a.now b.now }
 {
     let mut left = a;
@@ -59,7 +74,7 @@ fn compare(a: &[u8], b: &[u8]) -> Ordering
             }
         }
     }
-    left.cmp(right)
+    compare_by_first(left, right)
 }
 
 /// Whether an internal key stands before the one that is searched for.

@@ -9,7 +9,7 @@ ghost use Rattle.lsm_codec.specs.KeyRef.{key_of};
 ghost use Rattle.lsm_block.specs.KeyParts.{joined};
 ghost use Rattle.lsm_block.specs.Reading.{comes_after};
 
-use crate::key::tail;
+use crate::key::{compare, compare_by_first, tail};
 use lsm_codec::KeyRef;
 use std::alloc::AllocError;
 use std::cmp::Ordering;
@@ -104,7 +104,7 @@ impl<'b, 'a> SharedKey<'b, 'a> {
         let (user, _) = self.before.split_at(self.before.len() - 8);
         let (_, user) = user.split_at(self.shared);
         let (own, _) = self.own.split_at(self.own.len() - 8);
-        user.cmp(own)
+        compare_by_first(user, own)
     }
 
     /// Whether it comes after the key before it, of which there are no bytes where there is none.
@@ -141,7 +141,7 @@ impl<'b, 'a> SharedKey<'b, 'a> {
         }
         let (other_front, rest) = other.split_at(self.shared);
         let (own, _) = self.own.split_at(self.own.len() - 8);
-        front.cmp(other_front).then(own.cmp(rest))
+        compare(front, other_front).then(compare_by_first(own, rest))
     }
 
     /// Whether it stands before the one that is searched for.

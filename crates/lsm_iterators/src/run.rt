@@ -32,7 +32,7 @@ use std::marker::Model;
 
 /// A source of a merge: tables of which each one's entries stand before the next one's, as those of
 /// a level from 1 on, or one table. Each is opened when it is reached, and it holds the index block
-/// and one data block of the table at which it stands.
+/// and one data block of the table at which it stands, and what was read ahead of that.
 ///
 /// Contracts see it as what is left: the entries with its depth, the one at which it stands first,
 /// the same entries with the numbers of their files, and the files that are not yet read to their

@@ -14,18 +14,19 @@ ghost use Rattle.lsm_iterators.specs.Runs.{HasEntries};
 ghost use Rattle.lsm_iterators.specs.Seeking.{at_or_past};
 
 use lsm_codec::{KeyRef, MAX_SEQ};
-use lsm_reader::{Blocks, TableCursor, index_by};
+use lsm_reader::{Ahead, Blocks, TableCursor, index_by};
 use lsm_table::{Naming, ReadFault, Shelf, TableFault, TableReceipt, key_for};
 use std::alloc::Global;
 use std::marker::{Model, PhantomData};
 
-/// The table at which a run stands: a place in it, with the receipt by which it is read. Contracts
-/// see it as the number of its file, and the entries that are left, the one at which it stands
-/// first.
+/// The table at which a run stands: a place in it, with the receipt by which it is read, and what
+/// was read ahead. Contracts see it as the number of its file, and the entries that are left, the
+/// one at which it stands first.
 #[derive(Drop)]
 pub(crate) struct TableIter<N: Naming, S: Shelf> {
     receipt: S::Receipt,
     cursor: TableCursor,
+    ahead: Ahead<N, S>,
     of: PhantomData<N>,
 }
 
@@ -74,6 +75,7 @@ impl<N: Naming, S: Shelf> TableIter<N, S> {
         Ok(TableIter {
             receipt,
             cursor,
+            ahead: Ahead::none(),
             of: PhantomData,
         })
     }
@@ -111,6 +113,7 @@ impl<N: Naming, S: Shelf> TableIter<N, S> {
         Ok(TableIter {
             receipt,
             cursor,
+            ahead: Ahead::none(),
             of: PhantomData,
         })
     }
@@ -158,7 +161,8 @@ impl<N: Naming, S: Shelf> TableIter<N, S> {
         ensures refused { IfErr result (IsReadRefusal (S.refuses N.place) self.old.number) }
         ensures file { self.new.number ≡ self.old.number }
     {
-        self.cursor.advance_by(blocks, alloc, &self.receipt)
+        self.cursor
+            .advance_by(blocks, alloc, &self.receipt, &mut self.ahead)
     }
 
     /// Goes on to the next entry, and tells how many bytes of its user key are those of the user
@@ -184,6 +188,7 @@ impl<N: Naming, S: Shelf> TableIter<N, S> {
         ensures refused { IfErr result (IsReadRefusal (S.refuses N.place) self.old.number) }
         ensures file { self.new.number ≡ self.old.number }
     {
-        self.cursor.step_by(blocks, alloc, &self.receipt)
+        self.cursor
+            .step_by(blocks, alloc, &self.receipt, &mut self.ahead)
     }
 }

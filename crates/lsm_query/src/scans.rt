@@ -19,8 +19,8 @@ use std::sync::Arc;
 
 /// A scan of the version at a sequence: each user key that has an answer, with it, ascending.
 /// It takes the blocks of tables from `blocks`, as each call of the scan does that goes on, and
-/// holds an index block and a data block for each table of level 0 and for each deeper level,
-/// however many entries there are.
+/// holds an index block, a data block and at most 128 KiB that were read ahead, for each table of
+/// level 0 and for each deeper level, however many entries there are.
 ///
 /// `Shelf` where the shelf refused. `Table` with `OutOfMemory` where a growth was refused, and
 /// with another refusal of a table only where the shelf's bytes are not those that were put.

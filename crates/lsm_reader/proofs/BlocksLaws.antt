@@ -65,7 +65,7 @@ take_twice zero r xs = refl
 take_twice (suc k) r [] = ap (take (suc k)) (take_none (suc k + r))
 take_twice (suc k) r (x ∷ xs) = take_twice_on k r x xs (take_twice k r xs)
 
-take_less : (k m : ℕ) (xs : List ℕ) → k ≤ m → take k (take m xs) ≡ take k xs
+pub take_less : (k m : ℕ) (xs : List ℕ) → k ≤ m → take k (take m xs) ≡ take k xs
 take_less k m xs h =
     let e : m ≡ k + (m - k) = omega (arith, h) in
     ap (λ (j : ℕ). take k (take j xs)) e ∙ take_twice k (m - k) xs

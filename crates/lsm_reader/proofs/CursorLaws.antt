@@ -35,6 +35,10 @@ pub at_end : (es : List Entry) → is_end es ≡ true → es ≡ []
 at_end [] h = refl
 at_end (e ∷ es) h = absurd cc
 
+pub at_some : (here index : List Entry) → is_end here ≡ false → IsAtEntry here index
+at_some [] index h = absurd cc
+at_some (e ∷ es) index h = tt
+
 pub some_not_end : (e : Entry) (es xs : List Entry) → xs ≡ e ∷ es → is_end xs ≡ true → ⊥
 some_not_end e es xs same h = let bad = sym (ap is_end same) ∙ h in absurd cc
 

@@ -1,4 +1,5 @@
 pub mod BlocksLaws
+pub mod AheadLaws
 pub mod OpeningLaws
 pub mod CursorLaws
 pub mod GettingLaws

@@ -9,6 +9,7 @@ ghost use Rattle.lsm_table.specs.OpenTable.{opening_at};
 ghost use Rattle.lsm_table.specs.ReadFault.{ReadCounted};
 ghost use Rattle.lsm_shelf.specs.Told.{Becomes};
 
+use crate::ahead::Ahead;
 use lsm_block::Block;
 use lsm_table::{Naming, ReadFault, Shelf};
 use std::alloc::Global;
@@ -63,6 +64,26 @@ pub trait Blocks<N: Naming, S: Shelf> {
         receipt: &S::Receipt,
         offset: u64,
         size: u64,
+    ) -> Result<Arc<Block>, ReadFault>
+        requires here { S.is_of N.place receipt.now }
+        ensures exact { S.honest → Reads (λ b. (arc_value {X = HeldBlock} b).entries) result
+            (stored_block (S.Receipt.image receipt.now) record { offset = offset; size = size }) }
+        ensures told { Becomes (told self.old) (told self.new) }
+        ensures loan { loan self.new ≡ loan self.old }
+        ensures cause { IfErr result (λ e. ReadCounted e (told self.old) (told self.new)) }
+        ensures refused { IfErr result
+            (IsReadRefusal (S.refuses N.place) (S.Receipt.number receipt.now)) };
+
+    /// The same for a reader that goes on from block to block of a table: what follows the block is
+    /// read with it, in one call of the shelf, and kept in `ahead` for the next ones. Where that
+    /// call is refused the block is read alone.
+    fn block_ahead(
+        &mut self,
+        alloc: Global,
+        receipt: &S::Receipt,
+        offset: u64,
+        size: u64,
+        ahead: &mut Ahead<N, S>,
     ) -> Result<Arc<Block>, ReadFault>
         requires here { S.is_of N.place receipt.now }
         ensures exact { S.honest → Reads (λ b. (arc_value {X = HeldBlock} b).entries) result

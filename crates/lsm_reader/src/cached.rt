@@ -2,6 +2,7 @@
 
 ghost use Rattle.std.specs.Prelude.{◌≡◌, IfOk};
 
+use crate::ahead::Ahead;
 use crate::block_key::BlockKey;
 use crate::blocks::Blocks;
 use crate::kept_block::KeptBlock;
@@ -113,6 +114,21 @@ impl<N: Naming, S: Shelf> Blocks<N, S> for Cached<N, S> {
         offset: u64,
         size: u64,
     ) -> Result<Arc<Block>, ReadFault> {
+        let mut ahead = Ahead {
+            part: None,
+            window: 0,
+        };
+        self.block_ahead(alloc, receipt, offset, size, &mut ahead)
+    }
+
+    fn block_ahead(
+        &mut self,
+        alloc: Global,
+        receipt: &S::Receipt,
+        offset: u64,
+        size: u64,
+        ahead: &mut Ahead<N, S>,
+    ) -> Result<Arc<Block>, ReadFault> {
         let Cached { shelf, blocks, .. } = self;
         let handle = Handle { offset, size };
         let key = BlockKey {
@@ -125,7 +141,7 @@ impl<N: Naming, S: Shelf> Blocks<N, S> for Cached<N, S> {
                 return share(&kept.block);
             }
         }
-        let block = shelf.block(alloc, receipt, offset, size)?;
+        let block = shelf.block_ahead(alloc, receipt, offset, size, ahead)?;
         let shared = match Arc::try_clone(&block) {
             Ok(shared) => shared,
             // It is used all the same.

@@ -2,6 +2,7 @@
 
 ghost use Rattle.std.specs.Prelude.{◌≡◌};
 
+use crate::ahead::Ahead;
 use crate::blocks::Blocks;
 use lsm_block::Block;
 use lsm_table::{NamedShelf, Naming, ReadFault, Shelf};
@@ -47,6 +48,18 @@ impl<'a, N: Naming, S: Shelf> Blocks<N, S> for Direct<'a, N, S> {
     ) -> Result<Arc<Block>, ReadFault> {
         let named = &mut *self.shelf;
         named.block(alloc, receipt, offset, size)
+    }
+
+    fn block_ahead(
+        &mut self,
+        alloc: Global,
+        receipt: &S::Receipt,
+        offset: u64,
+        size: u64,
+        ahead: &mut Ahead<N, S>,
+    ) -> Result<Arc<Block>, ReadFault> {
+        let named = &mut *self.shelf;
+        named.block_ahead(alloc, receipt, offset, size, ahead)
     }
 
     fn copy_receipt(&self, receipt: &S::Receipt) -> S::Receipt {

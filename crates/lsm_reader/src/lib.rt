@@ -9,16 +9,20 @@
 //! read by.
 #![tactic(auto)]
 
-// Where blocks come from.
+// Where blocks come from, and what of them is read ahead.
+mod ahead;
 mod blocks;
 mod direct;
 mod judging;
+mod part;
+mod reads_ahead;
 mod shelf_reads;
 
-// An open table, its reads, and going through it.
+// An open table, its reads and searches, and going through it.
 mod open_table;
 mod opening;
 mod reads;
+mod search;
 mod table_cursor;
 mod table_reader;
 mod table_stream;
@@ -31,6 +35,7 @@ mod parts;
 mod recent;
 mod recent_blocks;
 
+pub use ahead::Ahead;
 pub use block_key::BlockKey;
 pub use blocks::Blocks;
 pub use cached::{Cached, MAX_OPEN_TABLES};

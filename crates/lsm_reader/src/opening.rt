@@ -11,6 +11,7 @@ ghost use Rattle.lsm_table.specs.OpenTable.{opening_at, block_named};
 ghost use Rattle.lsm_table.specs.ReadFault.{ReadCounted};
 ghost use Rattle.lsm_shelf.specs.Told.{Becomes};
 
+use crate::ahead::Ahead;
 use crate::blocks::Blocks;
 use lsm_block::Block;
 use lsm_table::{Handle, Naming, ReadFault, Shelf, TableFault};
@@ -35,12 +36,13 @@ pub fn index_by<N: Naming, S: Shelf, B: Blocks<N, S>>(
     blocks.index(alloc, receipt)
 }
 
-/// The block that the value of an index entry names.
+/// The block that the value of an index entry names, from what was read ahead where it is there.
 pub(crate) fn data_block_by<N: Naming, S: Shelf, B: Blocks<N, S>>(
     blocks: &mut B,
     alloc: Global,
     receipt: &S::Receipt,
     spelled: &[u8],
+    ahead: &mut Ahead<N, S>,
 ) -> Result<Arc<Block>, ReadFault>
     requires here { S.is_of N.place receipt.now }
     ensures exact { S.honest → Reads (λ b. (arc_value {X = HeldBlock} b).entries) result
@@ -55,5 +57,5 @@ pub(crate) fn data_block_by<N: Naming, S: Shelf, B: Blocks<N, S>>(
     if !rest.is_empty() {
         return Err(ReadFault::Table(TableFault::BadIndex));
     }
-    blocks.block(alloc, receipt, handle.offset, handle.size)
+    blocks.block_ahead(alloc, receipt, handle.offset, handle.size, ahead)
 }

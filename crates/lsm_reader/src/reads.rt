@@ -3,7 +3,7 @@
 ghost use Rattle.std.specs.Prelude.{◌≡◌, ℕ, List, IfOk, IfErr};
 ghost use Rattle.std.specs.Arc.{arc_value};
 ghost use Rattle.lsm_block.specs.Held.{HeldBlock};
-ghost use Rattle.lsm_reader.specs.Blocks.{Reads, IsAtEntry};
+ghost use Rattle.lsm_reader.specs.Blocks.{Reads, or_none};
 ghost use Rattle.lsm_reader.specs.Getting.{got, got_by};
 ghost use Rattle.lsm_reader.specs.Refusals.{IsReadRefusal};
 ghost use Rattle.lsm_table.specs.Footer.{body_of};
@@ -17,20 +17,27 @@ ghost use Rattle.lsm_shelf.specs.Told.{Becomes};
 
 use crate::blocks::Blocks;
 use crate::opening::index_by;
-use crate::table_cursor::TableCursor;
-use lsm_block::Block;
+use crate::search::sought_by;
+use lsm_block::{Block, BlockIter};
 use lsm_table::{Found, NamedShelf, Naming, ReadFault, Shelf, found_in_entry, key_for};
 use std::alloc::{AllocError, Global};
 use std::sync::Arc;
 
-/// What the entry at which a cursor stands says of the user key; nothing where it stands at none.
-fn found_at(alloc: Global, cursor: &TableCursor, user: &[u8]) -> Result<Option<Found>, AllocError>
-    ensures found { IfOk result (λ f. seen f ≡ found_in (of_user user.now cursor.now.here)) }
-    ensures stands { IsAtEntry cursor.now.here cursor.now.index }
+/// What the first of the entries that a search found says of the user key; nothing where it found
+/// none.
+fn found_at(
+    alloc: Global,
+    here: &Option<BlockIter>,
+    user: &[u8],
+) -> Result<Option<Found>, AllocError>
+    ensures found { IfOk result (λ f. seen f ≡ found_in (of_user user.now (or_none here.now))) }
 {
-    match cursor.key() {
+    let Some(entries) = here else {
+        return Ok(None);
+    };
+    match entries.key() {
         None => Ok(None),
-        Some(first) => found_in_entry(alloc, &first, cursor.value(), user),
+        Some(first) => found_in_entry(alloc, &first, entries.value(), user),
     }
 }
 
@@ -59,8 +66,8 @@ pub(crate) fn get_from<N: Naming, S: Shelf, B: Blocks<N, S>>(
         (IsReadRefusal (S.refuses N.place) (S.Receipt.number receipt.now)) }
 {
     let key = key_for(user, seq);
-    let cursor = TableCursor::seek_by(blocks, alloc, receipt, index, &key)?;
-    Ok(found_at(alloc, &cursor, user)?)
+    let here = sought_by(blocks, alloc, receipt, index, &key)?;
+    Ok(found_at(alloc, &here, user)?)
 }
 
 /// What a read of the user key finds at the sequence in the table of a receipt: the newest entry

@@ -2,8 +2,10 @@
 
 ghost use Rattle.std.specs.Prelude.{◌≡◌};
 
+use crate::ahead::Ahead;
 use crate::blocks::Blocks;
 use crate::judging::{footer_from, is_inside, judge};
+use crate::reads_ahead::ReadsAhead;
 use lsm_block::Block;
 use lsm_table::{
     FOOTER, Footer, Handle, NamedShelf, Naming, ReadFault, Shelf, TRAILER, TableFault, TableReceipt,
@@ -40,13 +42,26 @@ impl<N: Naming, S: Shelf> Blocks<N, S> for NamedShelf<N, S> {
         offset: u64,
         size: u64,
     ) -> Result<Arc<Block>, ReadFault> {
+        let mut ahead = Ahead {
+            part: None,
+            window: 0,
+        };
+        self.block_ahead(alloc, receipt, offset, size, &mut ahead)
+    }
+
+    fn block_ahead(
+        &mut self,
+        alloc: Global,
+        receipt: &S::Receipt,
+        offset: u64,
+        size: u64,
+        ahead: &mut Ahead<N, S>,
+    ) -> Result<Arc<Block>, ReadFault> {
         let handle = Handle { offset, size };
         if !is_inside(handle, receipt.size()) {
             return Err(ReadFault::Table(TableFault::BadHandle));
         }
-        let text = self
-            .shelf
-            .read_at(alloc, receipt, offset, size as usize + TRAILER)?;
+        let text = self.part_at(alloc, receipt, offset, size as usize + TRAILER, ahead)?;
         Ok(judge(alloc, handle, text)?)
     }
 

@@ -21,8 +21,10 @@ ghost use Rattle.lsm_table.specs.Searching.{Sought};
 ghost use Rattle.lsm_table.specs.Table.{DataBlock};
 ghost use Rattle.lsm_shelf.specs.Told.{Becomes};
 
+use crate::ahead::Ahead;
 use crate::blocks::Blocks;
 use crate::opening::data_block_by;
+use crate::search::seek_here_by;
 use lsm_block::{Block, BlockIter};
 use lsm_codec::KeyRef;
 use lsm_table::{Naming, ReadFault, Shelf, TableFault};
@@ -58,6 +60,7 @@ fn enter_by<N: Naming, S: Shelf, B: Blocks<N, S>>(
     alloc: Global,
     receipt: &S::Receipt,
     spelled: &[u8],
+    ahead: &mut Ahead<N, S>,
 ) -> Result<BlockIter, ReadFault>
     requires here { S.is_of N.place receipt.now }
     ensures some { IfOk result (λ i. IsSome (key_of_first i)) }
@@ -75,7 +78,7 @@ fn enter_by<N: Naming, S: Shelf, B: Blocks<N, S>>(
     ensures refused { IfErr result
         (IsReadRefusal (S.refuses N.place) (S.Receipt.number receipt.now)) }
 {
-    let block = data_block_by(blocks, alloc, receipt, spelled)?;
+    let block = data_block_by(blocks, alloc, receipt, spelled, ahead)?;
     let entries = BlockIter::first(alloc, block)?;
     if entries.is_at_end() {
         return Err(ReadFault::Table(TableFault::BadIndex));
@@ -90,6 +93,7 @@ fn enter_next_by<N: Naming, S: Shelf, B: Blocks<N, S>>(
     alloc: Global,
     receipt: &S::Receipt,
     index: &mut BlockIter,
+    ahead: &mut Ahead<N, S>,
 ) -> Result<Option<BlockIter>, ReadFault>
     requires here { S.is_of N.place receipt.now }
     ensures stands { IfOk result (λ h. IsAtEntry (or_none h) index.new) }
@@ -113,7 +117,7 @@ fn enter_next_by<N: Naming, S: Shelf, B: Blocks<N, S>>(
     if index.is_at_end() {
         return Ok(None);
     }
-    let entries = enter_by(blocks, alloc, receipt, index.value())?;
+    let entries = enter_by(blocks, alloc, receipt, index.value(), ahead)?;
     index.pass()?;
     Ok(Some(entries))
 }
@@ -143,8 +147,7 @@ fn seek_next_by<N: Naming, S: Shelf, B: Blocks<N, S>>(
     ensures refused { IfErr result
         (IsReadRefusal (S.refuses N.place) (S.Receipt.number receipt.now)) }
 {
-    let block = data_block_by(blocks, alloc, receipt, index.value())?;
-    let entries = BlockIter::seek(alloc, block, key)?;
+    let entries = seek_here_by(blocks, alloc, receipt, &*index, key)?;
     index.pass()?;
     Ok(entries)
 }
@@ -174,7 +177,8 @@ impl TableCursor {
             (IsReadRefusal (S.refuses N.place) (S.Receipt.number receipt.now)) }
     {
         let mut places = BlockIter::first(alloc, index)?;
-        let here = enter_next_by(blocks, alloc, receipt, &mut places)?;
+        let mut alone = Ahead::none();
+        let here = enter_next_by(blocks, alloc, receipt, &mut places, &mut alone)?;
         Ok(TableCursor {
             index: places,
             here,
@@ -276,6 +280,7 @@ impl TableCursor {
         blocks: &mut B,
         alloc: Global,
         receipt: &S::Receipt,
+        ahead: &mut Ahead<N, S>,
     ) -> Result<(), ReadFault>
         requires here { S.is_of N.place receipt.now }
         // It stands at an entry, unless no data block was left.
@@ -296,16 +301,18 @@ impl TableCursor {
         ensures refused { IfErr result
             (IsReadRefusal (S.refuses N.place) (S.Receipt.number receipt.now)) }
     {
-        self.here = enter_next_by(blocks, alloc, receipt, &mut self.index)?;
+        self.here = enter_next_by(blocks, alloc, receipt, &mut self.index, ahead)?;
         Ok(())
     }
 
-    /// Goes on to the next entry, or to the end. An `Err` leaves it.
+    /// Goes on to the next entry, or to the end. What it reads of the next data block it takes from
+    /// `ahead`, or reads there. An `Err` leaves it.
     pub fn advance_by<N: Naming, S: Shelf, B: Blocks<N, S>>(
         &mut self,
         blocks: &mut B,
         alloc: Global,
         receipt: &S::Receipt,
+        ahead: &mut Ahead<N, S>,
     ) -> Result<(), ReadFault>
         requires here { S.is_of N.place receipt.now }
         ensures steps { S.honest → AreNamed (body_of (S.Receipt.image receipt.now)) self.old.index
@@ -327,17 +334,18 @@ impl TableCursor {
         if self.advance_here()?.is_some() {
             return Ok(());
         }
-        self.next_block_by(blocks, alloc, receipt)
+        self.next_block_by(blocks, alloc, receipt, ahead)
     }
 
     /// Goes on to the next entry, and tells how many bytes of its user key are those of the user
-    /// key before it, as far as one data block spells them once. Where none is left it stays. An
-    /// `Err` leaves it.
+    /// key before it, as far as one data block spells them once. Where none is left it stays. What
+    /// it reads of the next data block it takes from `ahead`, or reads there. An `Err` leaves it.
     pub fn step_by<N: Naming, S: Shelf, B: Blocks<N, S>>(
         &mut self,
         blocks: &mut B,
         alloc: Global,
         receipt: &S::Receipt,
+        ahead: &mut Ahead<N, S>,
     ) -> Result<Option<usize>, ReadFault>
         requires here { S.is_of N.place receipt.now }
         ensures moved { S.honest → AreNamed (body_of (S.Receipt.image receipt.now)) self.old.index
@@ -367,7 +375,7 @@ impl TableCursor {
         if self.index.is_at_end() {
             return Ok(None);
         }
-        self.next_block_by(blocks, alloc, receipt)?;
+        self.next_block_by(blocks, alloc, receipt, ahead)?;
         Ok(Some(0))
     }
 }

@@ -13,6 +13,7 @@ ghost use Rattle.lsm_table.specs.ReadFault.{ReadCounted, IsMemoryOrShelf};
 ghost use Rattle.lsm_reader.specs.Stepping.{StepsOn, value_in};
 ghost use Rattle.lsm_reader.specs.Refusals.{IsSomeReadRefusal};
 
+use crate::ahead::Ahead;
 use crate::blocks::Blocks;
 use crate::table_cursor::TableCursor;
 use lsm_block::Block;
@@ -22,14 +23,16 @@ use std::alloc::Global;
 use std::marker::{Model, PhantomData};
 use std::sync::Arc;
 
-/// Goes through an open table, of which it holds the index block and one data block. Contracts see
-/// it as the entry at which it stands, if it stands at one, and the entries that are left after it.
+/// Goes through an open table, of which it holds the index block, one data block, and what was read
+/// ahead. Contracts see it as the entry at which it stands, if it stands at one, and the entries
+/// that are left after it.
 #[derive(Drop)]
 pub struct TableReader<N: Naming, S: Shelf> {
     receipt: S::Receipt,
     index: Arc<Block>,
     // None before the first entry.
     cursor: Option<TableCursor>,
+    ahead: Ahead<N, S>,
     of: PhantomData<N>,
 }
 
@@ -62,6 +65,7 @@ impl<N: Naming, S: Shelf> TableReader<N, S> {
             receipt,
             index,
             cursor: None,
+            ahead: Ahead::none(),
             of: PhantomData,
         }
     }
@@ -102,7 +106,7 @@ impl<N: Naming, S: Shelf> TableReader<N, S> {
         ensures refused { IfErr result (IsSomeReadRefusal (S.refuses N.place)) }
     {
         if let Some(cursor) = &mut self.cursor {
-            cursor.advance_by(blocks, alloc, &self.receipt)?;
+            cursor.advance_by(blocks, alloc, &self.receipt, &mut self.ahead)?;
             return Ok(!cursor.is_at_end());
         }
         let index = Arc::try_clone(&self.index)?;

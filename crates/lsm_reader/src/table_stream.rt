@@ -12,6 +12,7 @@ ghost use Rattle.lsm_table.specs.ReadFault.{ReadCounted, IsMemoryOrShelf};
 ghost use Rattle.lsm_shelf.specs.Told.{Becomes};
 ghost use Rattle.lsm_reader.specs.Refusals.{IsReadRefusal, IsSomeReadRefusal};
 
+use crate::ahead::Ahead;
 use crate::blocks::Blocks;
 use crate::opening::index_by;
 use crate::table_cursor::TableCursor;
@@ -26,6 +27,7 @@ use std::marker::{Model, PhantomData};
 pub struct TableStream<N: Naming, S: Shelf> {
     receipt: S::Receipt,
     cursor: TableCursor,
+    ahead: Ahead<N, S>,
     of: PhantomData<N>,
 }
 
@@ -67,6 +69,7 @@ impl<N: Naming, S: Shelf> TableStream<N, S> {
         Ok(TableStream {
             receipt,
             cursor,
+            ahead: Ahead::none(),
             of: PhantomData,
         })
     }
@@ -106,7 +109,8 @@ impl<N: Naming, S: Shelf> TableStream<N, S> {
         ensures cause { IfErr result (λ e. ReadCounted e (B.told blocks.old) (B.told blocks.new)) }
         ensures refused { IfErr result (IsSomeReadRefusal (S.refuses N.place)) }
     {
-        self.cursor.advance_by(blocks, alloc, &self.receipt)
+        self.cursor
+            .advance_by(blocks, alloc, &self.receipt, &mut self.ahead)
     }
 
     /// Goes on to the next entry, and tells how many bytes of its user key are those of the user
@@ -130,6 +134,7 @@ impl<N: Naming, S: Shelf> TableStream<N, S> {
         ensures cause { IfErr result (λ e. ReadCounted e (B.told blocks.old) (B.told blocks.new)) }
         ensures refused { IfErr result (IsSomeReadRefusal (S.refuses N.place)) }
     {
-        self.cursor.step_by(blocks, alloc, &self.receipt)
+        self.cursor
+            .step_by(blocks, alloc, &self.receipt, &mut self.ahead)
     }
 }

@@ -1,12 +1,21 @@
 //! The range of user keys of a table, and of the tables of a level.
 
 ghost use Rattle.std.specs.Prelude.{◌≡◌, ◌≤◌, MatchOption, IsTrue, nat_lt, length};
+ghost use Rattle.lsm_codec.specs.Keys.{user_le};
 ghost use Rattle.lsm_version.specs.Reads.{HasNoCandidate, IsFirstReaching, IsRising, IsYoungest};
 ghost use Rattle.lsm_version.specs.Reads.{begins_by, covers, is_below, is_candidate, reaches};
 ghost use Rattle.lsm_version.specs.Versions.{user_of};
 
-use lsm_model::is_at_most;
+use lsm_block::compare;
 use lsm_table::{Naming, Registry, Shelf, TableRef};
+
+/// Whether a user key is at most another one.
+#[tactic(auto, unfolding(lsm_codec::specs::Keys::user_le))]
+fn is_at_most(a: &[u8], b: &[u8]) -> bool
+    ensures { result ≡ user_le a.now b.now }
+{
+    compare(a, b).is_le()
+}
 
 /// The user key in the bytes of an internal key.
 fn user_of(key: &[u8]) -> &[u8]

@@ -47,4 +47,4 @@ loop-left-preserved c =
     )
 
 pub returns : goal.returns
-returns c = rw c.cmp-2.ensures c.loop-left.invariant.0
+returns c = rw c.compare_by_first.ensures c.loop-left.invariant.0

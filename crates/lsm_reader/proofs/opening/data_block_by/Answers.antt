@@ -20,4 +20,6 @@ returns-then-not-is_empty-clause-exact g c honest =
 pub returns-clause-exact : goal.returns-clause-exact
 returns-clause-exact g c honest =
     let same = named_stored (g.S.Receipt.TableReceipt.image c.args.receipt.now) c.args.spelled.now c.in_ok-handle.rest.now c.in_ok-handle.handle c.in_ok-handle.ensures (sym c.is_empty.ensures ∙ c.if-not-is_empty.false) in
-    subst (λ (r : Result (List Entry) TableFault). Reads (λ b. (arc_value {X = HeldBlock} b).entries) c.block.result r) (sym same) (c.block.ensures.exact honest)
+    subst (λ (r : Result (List Entry) TableFault).
+    Reads (λ b. (arc_value {X = HeldBlock} b).entries) c.block_ahead.result r) (sym same)
+    (c.block_ahead.ensures.exact honest)

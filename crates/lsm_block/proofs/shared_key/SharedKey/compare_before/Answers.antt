@@ -18,5 +18,11 @@ returns-then-self-lt8 c =
 
 pub returns : goal.returns
 returns c =
-    rw (c.cmp-2.ensures, c.split_at-3.ensures.front, c.split_at-2.ensures.back, c.split_at.ensures.front, ← c.self.view_is)
+    rw (
+      c.compare_by_first.ensures,
+      c.split_at-3.ensures.front,
+      c.split_at-2.ensures.back,
+      c.split_at.ensures.front,
+      ← c.self.view_is,
+    )
     (before_by_rest _ c.self.invariant (omega (arith, c.if-self-lt8.false)) (omega (arith, c.if-self.false)))

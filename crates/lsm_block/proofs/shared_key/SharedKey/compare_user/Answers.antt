@@ -22,7 +22,16 @@ returns-then-other-self c =
 pub returns : goal.returns
 returns c =
     let len = ap (λ (k : KeyParts). length (joined k)) c.self.view_is in
-    rw (c.then.ensures, c.cmp-2.ensures, c.cmp-3.ensures, c.split_at-2.ensures.front, c.split_at-3.ensures.front, c.split_at-3.ensures.back, c.split_at-4.ensures.front, ← c.self.view_is) record {
+    rw (
+      c.then.ensures,
+      c.compare.ensures,
+      c.compare_by_first.ensures,
+      c.split_at-2.ensures.front,
+      c.split_at-3.ensures.front,
+      c.split_at-3.ensures.back,
+      c.split_at-4.ensures.front,
+      ← c.self.view_is,
+    ) record {
       compares = user_by_parts _ c.args.other.now c.self.invariant (omega (arith, joined-length _ c.self.invariant, len, c.len-len.ensures, c.if-len-self.false)) (omega (arith, c.if-other-self.false));
       bytes = joined-fits _ c.self.invariant;
     }

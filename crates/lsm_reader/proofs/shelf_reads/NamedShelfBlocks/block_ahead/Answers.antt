@@ -1,7 +1,7 @@
 use Rattle.std.proofs.Common.{sym, ◌∙◌}
 use Rattle.std.proofs.lemmas.Result.{err_from_is_err_and}
 use Rattle.lsm_reader.proofs.BlocksLaws.{outside, tested, there_is, there_fails}
-use Rattle.lsm_reader.proofs.shelf_reads.NamedShelfBlocks.block.Goals as goal
+use Rattle.lsm_reader.proofs.shelf_reads.NamedShelfBlocks.block_ahead.Goals as goal
 
 pub returns-then-not-is_inside-clause-exact : goal.returns-then-not-is_inside-clause-exact
 returns-then-not-is_inside-clause-exact g c honest =
