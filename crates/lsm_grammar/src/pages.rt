@@ -508,16 +508,19 @@ one has; and for each table that is not whole, as in
 `left out 000005.ldb: refused 15 BadChecksum`, why it is not.
 
 Each file stays but CURRENT: the old tables, the old manifest, and the logs
-(`N.log`), each of which is then one to read: `lsm recover DIR` brings them in as
-the newest writes, so first move those away that came in before. A key that was
+(`N.log`). The logs to read stay the old manifest's; where that can't be read to
+its end, a note names each log that may have come in before: move such away before
+`lsm recover DIR`, which brings each in as the newest writes. A key that was
 deleted is back where the table with its deletion is left out, or where a table
 is there that the database had given up. Later openings and `lsm clean` remove
-the old tables: copy DIR first. `N.sst` is not read. Keys are in bytewise order.
-What is read is held in memory. Where `lsm check DIR` finds no fault there is
-nothing to repair.
+the old tables: copy DIR first. `N.sst` is not read. What is read is held in
+memory. Where `lsm check DIR` finds no fault there is nothing to repair.
 
-It is `refused 64 NothingWhole` where no whole table has an entry, and `refused
-65 TwoValues N M` where these two have two values of one key and sequence.
+It is `refused 64 NothingWhole` where no whole table has an entry, and
+`refused 65 TwoValues N M` where these two have two values of one key and
+sequence; where the old manifest has keys in another order it is
+`refused 29 OtherComparator`, and where the disk does not give a table
+`refused 9 Device`: move that table out of DIR to go on without it.
 Another program that has DIR open is `refused 52 Locked`.
 
 Exit status: 0 done, 1 refused, 2 bad command line. After a `write fault` it is
