@@ -13,6 +13,8 @@ Without LevelDB:
   one is put back, all is read, and `recover` brings the log in.
 - A log: what reads tells of it, what writes is refused, `--beside-log` writes all the same, and
   `compact` and `clean` leave it.
+- Manifests that are damaged, lost, or tell of tables what is not so: the second line names
+  `lsm repair`, which cures them.
 - The commands of examples/README.md, and the picture of `levels`; what README says of `rt version`,
   where there is a kit.
 
@@ -433,29 +435,62 @@ def damaged_block(folder):
     judge(PAIRS // 2 < count < PAIRS, f"{cure} leaves {count} of {PAIRS} pairs")
 
 
+def shaped(folder, name, tables, adds, log=0):
+    """A folder of whole tables, of which the manifest tells so."""
+    keys = {"a1": "61 1 put 76\n", "a2": "61 2 put 76\n", "b": "62 3 put 76\n", "ac": "61 1 put 76\n63 2 put 76\n"}
+    (folder / name).mkdir()
+    for number, table in enumerate(tables, 4):
+        (folder / "list").write_text(keys[table])
+        printed(f"./lsm mktable < list > {name}/{number:06}.ldb", folder)
+    fields = [f"log={log}", "next=6", "last=3", *(f"add={add}" for add in adds)]
+    (folder / name / "MANIFEST-000001").write_bytes(files.manifest([fields]))
+    (folder / name / "CURRENT").write_text("MANIFEST-000001\n")
+
+
+SHAPES = [
+    ("overlap", ["ac", "b"], ["1,4,127,a@1+,c@2+", "1,5,114,b@3+,b@3+"], "refused 31 Overlap 1", 3),
+    ("range", ["a1"], ["0,4,115,a@1+,a@1+"], "refused 32 WrongRange 4", 1),
+    ("age", ["a1", "a2"], ["0,4,114,a@1+,a@1+", "1,5,114,a@2+,a@2+"], "refused 33 AgeOrder 61", 1),
+]
+
+
 def shapes(folder):
     """Folders whose tables are whole, and whose manifest tells of them what is not so."""
-    keys = {"a1": "61 1 put 76\n", "a2": "61 2 put 76\n", "b": "62 3 put 76\n", "ac": "61 1 put 76\n63 2 put 76\n"}
-    repair = "plyvel.repair_db('{}')"
-    for name, tables, adds, refusal, cure, line, count in [
-        ("overlap", ["ac", "b"], ["1,4,127,a@1+,c@2+", "1,5,114,b@3+,b@3+"], "refused 31 Overlap 1", "RepairDB", repair, 3),
-        ("range", ["a1"], ["0,4,115,a@1+,a@1+"], "refused 32 WrongRange 4", "RepairDB", repair, 1),
-        ("age", ["a1", "a2"], ["0,4,114,a@1+,a@1+", "1,5,114,a@2+,a@2+"], "refused 33 AgeOrder 61", "compaction in LevelDB", "db = plyvel.DB('{}', compression=None); db.compact_range(); db.close()", 1),
-    ]:
-        (folder / name).mkdir()
-        for number, table in enumerate(tables, 4):
-            (folder / "list").write_text(keys[table])
-            printed(f"./lsm mktable < list > {name}/{number:06}.ldb", folder)
-        fields = ["log=0", "next=6", "last=3", *(f"add={add}" for add in adds)]
-        (folder / name / "MANIFEST-000001").write_bytes(files.manifest([fields]))
-        (folder / name / "CURRENT").write_text("MANIFEST-000001\n")
+    repair = ("RepairDB", "plyvel.repair_db('{}')")
+    compaction = ("compaction in LevelDB", "db = plyvel.DB('{}', compression=None); db.compact_range(); db.close()")
+    for name, tables, adds, refusal, count in SHAPES:
+        shaped(folder, name, tables, adds)
+        cure, line = compaction if name == "age" else repair
         judge(mended(folder, name, refusal, cure, line.format(name)) == count, f"{name}: other pairs")
+
+
+def by_repair(folder):
+    """The same, and a table that is added twice, a manifest that is damaged, and none: the second line names
+    `lsm repair`, which cures it, and has no log read that the old manifest did not."""
+    twice = ("twice", ["a1"], ["0,4,114,a@1+,a@1+", "1,4,114,a@1+,a@1+"], "refused 30 DoubleFile 4", 1)
+    damage = ("damage", ["a1"], ["0,4,114,a@1+,a@1+"], "refused 19 LogChecksum", 1)
+    none = ("none", ["a1"], ["0,4,114,a@1+,a@1+"], "refused 10 Missing", 1)
+    for name, tables, adds, refusal, count in [*SHAPES, twice, damage, none]:
+        name = f"own-{name}"
+        shaped(folder, name, tables, adds, log=7)
+        manifest = folder / name / "MANIFEST-000001"
+        if "damage" in name:
+            manifest.write_bytes(manifest.read_bytes()[:-1] + b"?")
+        if "none" in name:
+            manifest.unlink()
+        (folder / name / "000006.log").write_bytes(b"old")
+        said = printed(f"./lsm check {name}", folder)
+        judge(said.startswith(refusal) and "lsm repair DIR" in said, f"{name} is not {refusal} with lsm repair: {said}")
+        said = printed(f"./lsm repair {name}", folder)
+        judge(("note: 000006.log" in said) == ("damage" in name or "none" in name), f"{name}: of its log repair says {said}")
+        said = printed(f"./lsm check {name} > /dev/null; ./lsm scan {name} --count 2> /dev/null", folder)
+        judge(said == str(count), f"lsm repair does not cure {name}: {said}")
 
 
 if not works(sys.argv[1]):
     print("cures: not run, for want of a program\n0 passed, 0 failed")
     sys.exit(0)
-parts = [lost_current, old_names, full_batch, locks, cut_manifest, beside_log, examples]
+parts = [lost_current, old_names, full_batch, locks, cut_manifest, beside_log, examples, by_repair]
 if ctypes.util.find_library("leveldb") is None:
     print("cures: compressed tables and logs not tried, for want of LevelDB's library")
 else:

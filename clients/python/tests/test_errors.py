@@ -54,7 +54,7 @@ def test_damaged_manifest(folder):
     name = change(folder, "MANIFEST", 30)
     error = raised(tiswenor.DB, folder)
     assert type(error) is tiswenor.CorruptionError
-    where = "in the manifest that CURRENT names; LevelDB's RepairDB makes a new one"
+    where = "in the manifest that CURRENT names; lsm repair DIR, or RepairDB, makes a new one"
     assert str(error) == f"{error.number} {error.name}: {folder}: {where}; in {folder}/{name}"
     assert (error.call, error.file, error.reason) == (None, name, None)
 

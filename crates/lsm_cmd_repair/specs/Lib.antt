@@ -1,2 +1,3 @@
 -- What public clauses cite, and so what a caller reads
+pub mod RepairFault
 pub mod Repaired

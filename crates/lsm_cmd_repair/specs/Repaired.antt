@@ -11,7 +11,7 @@ use Rattle.lsm_storage.specs.FileNames.{padded}
 use Rattle.lsm_directory.specs.Folders.{IsFolderAt}
 use Rattle.lsm_directory.specs.Holding.{IsFolderFault, IsHeld, IsUnheld}
 use Rattle.lsm_directory.specs.declared.faults.directory_fault.DirectoryFault.{DirectoryFault}
-use Rattle.lsm_repair.specs.LeftOut.{file_of, name_of, number_of}
+use Rattle.lsm_repair.specs.LeftOut.{name_of, number_of}
 use Rattle.lsm_repair.specs.Repairing.{FailsOn, RepairsOn}
 use Rattle.lsm_repair.specs.declared.left_out.LeftOut.{LeftOut}
 use Rattle.lsm_repair.specs.declared.mend_fault.MendFault.{MendFault}
@@ -34,13 +34,21 @@ why_text l = codes ".ldb: refused "
 
 -- `left out 000005.ldb: refused 15 BadChecksum`
 abbrev pub left_text : LeftOut → List ℕ
-left_text l = (codes "left out " ++ padded (file_of l)) ++ why_text l
+left_text l = (codes "left out " ++ padded l.file) ++ why_text l
 
 abbrev pub lefts_text : List LeftOut → List ℕ
 lefts_text left = flat_map left_text left
 
 abbrev pub repaired_text : ℕ → ℕ → List LeftOut → List ℕ
 repaired_text tables entries left = head_text tables entries ++ lefts_text left
+
+-- `note: 000007.log is not brought in, and may be older than the tables`
+abbrev pub note_text : ℕ → List ℕ
+note_text log = (codes "note: " ++ padded log)
+    ++ codes ".log is not brought in, and may be older than the tables\n"
+
+abbrev pub notes_text : List ℕ → List ℕ
+notes_text logs = flat_map note_text logs
 
 module _ {C M : Type 0} (folders : Ghosts C M) where
   -- The lock of the folder at this path was held alone.
@@ -56,16 +64,21 @@ module _ {C M : Type 0} (folders : Ghosts C M) where
 
 module _ {C M : Type 0} (folders : Ghosts C M) (marks : mark.Ghosts M) where
   -- The database of the folder at the path was repaired.
-  pub record RepairsTo (path : List ℕ) (tables entries : ℕ) (left : List LeftOut) : Type 0 where
+  pub record RepairsTo (path : List ℕ) (tables entries : ℕ) (left : List LeftOut)
+      (unsure : List ℕ) : Type 0 where
     pub folder : C
     pub last : C
     pub opened : IsOpened folders path folder
-    pub repaired : RepairsOn folders marks folder last tables entries left
+    pub repaired : RepairsOn folders marks folder last tables entries left unsure
 
-  -- so it was, and the lines of it were written
-  abbrev pub RepairsAt : List ℕ → (old new : Option (List ℕ)) → Type 0
-  RepairsAt path old new = (tables : ℕ) × (entries : ℕ) × (left : List LeftOut)
-      × RepairsTo path tables entries left × Appends old new (repaired_text tables entries left)
+  -- so it was; the lines of it were written, and a note on standard error for each log that may
+  -- have come in before
+  abbrev pub RepairsAt : List ℕ → (old new said_old said_new : Option (List ℕ)) → Type 0
+  RepairsAt path old new said_old said_new =
+      (tables : ℕ) × (entries : ℕ) × (left : List LeftOut) × (unsure : List ℕ)
+      × RepairsTo path tables entries left unsure
+      × Appends old new (repaired_text tables entries left)
+      × Appends said_old said_new (notes_text unsure)
 
   -- it was not
   pub record FailsAt (path : List ℕ) (fault : MendFault) : Type 0 where
@@ -75,10 +88,10 @@ module _ {C M : Type 0} (folders : Ghosts C M) (marks : mark.Ghosts M) where
     pub refused : FailsOn folders marks folder last fault
 
   -- The folder was not opened, or its database not repaired, and nothing was written on the output;
-  -- or it was, and the lines of it were not written. Memory may run out before.
+  -- or it was, and the lines or the notes of it were not written. Memory may run out before.
   abbrev pub FailsToRepair : List ℕ → RepairFault → (old new : Option (List ℕ)) → Type 0
   FailsToRepair path fault old new =
       (Keeps old new × (IsUnopened folders path fault
       ⊎ ((e : MendFault) × (fault ≡ Mend e) × ((e ≡ OutOfMemory) ⊎ FailsAt path e))))
       ⊎ ((fault ≡ WriteFault) × ((tables : ℕ) × (entries : ℕ) × (left : List LeftOut)
-      × RepairsTo path tables entries left))
+      × (unsure : List ℕ) × RepairsTo path tables entries left unsure))

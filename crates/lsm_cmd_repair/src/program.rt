@@ -1,16 +1,17 @@
 //! One run of `repair`.
 
 ghost use Rattle.std.specs.Prelude.{◌≡◌, ◌≢◌, IfErr, IfOk, OnOk};
-ghost use Rattle.std.specs.Io.KnownBytes.{Keeps};
+ghost use Rattle.std.specs.Io.KnownBytes.{Appends};
 ghost use Rattle.lsm_cmd_repair.specs.Repaired.{FailsToRepair, IsOpened, IsUnopened, RepairsAt};
+ghost use Rattle.lsm_cmd_repair.specs.Repaired.{notes_text, repaired_text};
 ghost use Rattle.lsm_cmd_repair.specs.declared.repair_fault.RepairFault.{RepairFault};
 
 use crate::repair_fault::RepairFault;
-use crate::reply::reply;
+use crate::reply::{note, reply};
 use lsm_directory::{Known, Paths, hold, open_at, refuse, status_of};
 use lsm_folder::{FolderCalls, LockKind, Reasons};
-use lsm_repair::{MendFault, repair_on};
-use std::io::Write;
+use lsm_repair::{MendFault, Repaired, repair_on};
+use std::io::{self, Write};
 use std::sync::Wait;
 
 /// Opens the folder, and takes its lock alone.
@@ -37,18 +38,30 @@ fn open_folder<C: FolderCalls, P: Paths<C>, R: Wait>(
     Ok(folder)
 }
 
+/// Writes what is said of a database that was repaired: the notes first.
+fn tell<O: Write, E: Write>(out: &mut O, err: &mut E, repaired: &Repaired) -> io::Result<()>
+    ensures lines { OnOk result (Appends (O.contents out.old) (O.contents out.new)
+        (repaired_text repaired.now.tables repaired.now.entries repaired.now.left.items)) }
+    ensures notes { OnOk result (Appends (E.contents err.old) (E.contents err.new)
+        (notes_text repaired.now.unsure.items)) }
+{
+    note(err, &repaired.unsure)?;
+    reply(out, repaired.tables, repaired.entries, &repaired.left)
+}
+
 /// Repairs the database of the folder at a path.
-fn repair_at<C: FolderCalls + Send + Sync, P: Paths<C>, R: Wait, O: Write>(
+fn repair_at<C: FolderCalls + Send + Sync, P: Paths<C>, R: Wait, O: Write, E: Write>(
     rt: &R,
     paths: &P,
     path: &str,
     reasons: &Reasons,
     out: &mut O,
+    err: &mut E,
 ) -> Result<(), RepairFault>
 where
     C::Mark: Send + Sync,
     ensures done { OnOk result (RepairsAt C.FolderCalls C.Mark.Mark path.now (O.contents out.old)
-        (O.contents out.new)) }
+        (O.contents out.new) (E.contents err.old) (E.contents err.new)) }
     ensures refused { IfErr result (λ e. FailsToRepair C.FolderCalls C.Mark.Mark path.now e
         (O.contents out.old) (O.contents out.new)) }
 {
@@ -57,7 +70,7 @@ where
         Ok(repaired) => repaired,
         Err(fault) => return Err(RepairFault::Mend(fault)),
     };
-    match reply(out, repaired.tables, repaired.entries, &repaired.left) {
+    match tell(out, err, &repaired) {
         Ok(()) => Ok(()),
         Err(_) => Err(RepairFault::Write),
     }
@@ -68,8 +81,9 @@ where
 /// table that is left out, and answers the exit status: 0 where it is done, and 1 where it is
 /// refused. A fault is one line on `err`, and may have more behind it.
 ///
-/// Each file stays but `CURRENT`: old tables, those left out, the old manifest, and the logs, each
-/// of which is then one to read. What was read is held in memory.
+/// Each file stays but `CURRENT`: old tables, those left out, the old manifest, and the logs, of
+/// which those are to be read that the old manifest had read; where that can't be read to its end,
+/// a note on `err` names each of them. What was read is held in memory.
 ///
 /// `Locked` where another program has the folder open; the refusals of opening it, and those of
 /// `repair_on`.
@@ -83,16 +97,15 @@ pub fn run_repair<C: FolderCalls + Send + Sync, P: Paths<C>, R: Wait, O: Write, 
 where
     C::Mark: Send + Sync,
     ensures done { result ≡ 0 → RepairsAt C.FolderCalls C.Mark.Mark path.now (O.contents out.old)
-        (O.contents out.new) }
+        (O.contents out.new) (E.contents err.old) (E.contents err.new) }
     ensures refused { result ≢ 0 → (result ≡ 1) × ((fault : RepairFault)
         × FailsToRepair C.FolderCalls C.Mark.Mark path.now fault (O.contents out.old)
         (O.contents out.new)) }
-    ensures quiet { result ≡ 0 → Keeps (E.contents err.old) (E.contents err.new) }
 {
     let reasons = match Reasons::new(paths.alloc()) {
         Ok(reasons) => reasons,
         Err(_) => return refuse(RepairFault::Mend(MendFault::OutOfMemory), err),
     };
-    let done = repair_at(rt, paths, path, &reasons, out);
+    let done = repair_at(rt, paths, path, &reasons, out, err);
     status_of(done, Known::answered(Some(&reasons)), err)
 }

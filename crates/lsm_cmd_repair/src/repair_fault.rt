@@ -1,6 +1,7 @@
 //! Why a run of `repair` ends with status 1.
 
 ghost use Rattle.std.specs.Prelude.{◌≡◌, None};
+ghost use Rattle.lsm_cmd_repair.specs.RepairFault.{file_of};
 ghost use Rattle.lsm_cmd_repair.specs.declared.repair_fault.RepairFault.TheVariants.{Mend};
 
 use lsm_batch::Write as KeyWrite;
@@ -9,6 +10,10 @@ use lsm_repair::MendFault;
 use std::fmt;
 use std::io::{self, Write};
 
+/// Of keys that are not in bytewise order.
+const OTHER_ORDER: &[u8] =
+    b"in the manifest that CURRENT names; lsm manifest prints which comparator it has\n";
+
 /// Why a run of `repair` ends with status 1. It prints as a text without a newline.
 #[derive(Debug, Drop)]
 pub enum RepairFault {
@@ -16,7 +21,7 @@ pub enum RepairFault {
     Folder(DirectoryFault),
     /// The database is not repaired.
     Mend(MendFault),
-    /// It is, and the lines of it were not written.
+    /// It is, and the lines or the notes of it were not written.
     Write,
 }
 
@@ -33,12 +38,15 @@ impl fmt::Display for RepairFault {
 }
 
 impl Exit for RepairFault {
-    ghost file = { λ _. None };
+    ghost file = { file_of };
 
     ghost meaning = { λ _. None };
 
     fn table_file(&self) -> Option<u64> {
-        None
+        match self {
+            RepairFault::Mend(MendFault::Unread(number, _)) => Some(*number),
+            _ => None,
+        }
     }
 
     fn refusal(&self) -> Option<u64> {
@@ -56,6 +64,7 @@ impl Exit for RepairFault {
                 err,
                 "move {one:06}.ldb or {other:06}.ldb out of DIR: the other one is then taken"
             ),
+            RepairFault::Mend(MendFault::OtherComparator) => err.write_all(OTHER_ORDER),
             RepairFault::Mend(_) | RepairFault::Write => Ok(()),
         }
     }

@@ -3,8 +3,8 @@
 ghost use Rattle.std.specs.Prelude.{◌++◌, OnOk, codes};
 ghost use Rattle.std.specs.Io.KnownBytes.{Appends};
 ghost use Rattle.lsm_storage.specs.FileNames.{padded};
-ghost use Rattle.lsm_cmd_repair.specs.Repaired.{head_text, left_text, lefts_text, repaired_text};
-ghost use Rattle.lsm_cmd_repair.specs.Repaired.{why_text};
+ghost use Rattle.lsm_cmd_repair.specs.Repaired.{head_text, left_text, lefts_text, note_text};
+ghost use Rattle.lsm_cmd_repair.specs.Repaired.{notes_text, repaired_text, why_text};
 
 use lsm_repair::LeftOut;
 use std::io::{self, Write};
@@ -47,7 +47,7 @@ fn write_left<O: Write>(out: &mut O, left: LeftOut) -> io::Result<()>
     ensures { OnOk result
         (Appends (O.contents out.old) (O.contents out.new) (left_text left)) }
 {
-    write_name(out, left.file())?;
+    write_name(out, left.file)?;
     write_why(out, left)
 }
 
@@ -84,4 +84,41 @@ pub(crate) fn reply<O: Write>(
 {
     write_lines(out, tables, entries, left)?;
     out.flush()
+}
+
+/// Writes the beginning of the note of a log.
+fn begin_note<E: Write>(err: &mut E, log: u64) -> io::Result<()>
+    ensures { OnOk result
+        (Appends (E.contents err.old) (E.contents err.new) (codes "note: " ++ padded log)) }
+{
+    err.write_all(b"note: ")?;
+    write_number(err, log)
+}
+
+/// Writes the note of a log that may have come in before.
+fn write_note<E: Write>(err: &mut E, log: u64) -> io::Result<()>
+    ensures { OnOk result (Appends (E.contents err.old) (E.contents err.new) (note_text log)) }
+{
+    begin_note(err, log)?;
+    err.write_all(b".log is not brought in, and may be older than the tables\n")
+}
+
+/// Writes the notes of these logs.
+fn write_each<E: Write>(err: &mut E, logs: &[u64]) -> io::Result<()>
+    ensures { OnOk result
+        (Appends (E.contents err.old) (E.contents err.new) (notes_text logs.now)) }
+{
+    for log in logs {
+        write_note(err, *log)?;
+    }
+    Ok(())
+}
+
+/// Writes a note for each of these logs, which may have come in before, and flushes.
+pub(crate) fn note<E: Write>(err: &mut E, logs: &[u64]) -> io::Result<()>
+    ensures { OnOk result
+        (Appends (E.contents err.old) (E.contents err.new) (notes_text logs.now)) }
+{
+    write_each(err, logs)?;
+    err.flush()
 }

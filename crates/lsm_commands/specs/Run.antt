@@ -116,7 +116,7 @@ module _ {C M : Type 0} (folders : Ghosts C M) (marks : mark.Ghosts M)
   IsDone text (Recover line) old new said_old said_new =
       RecoversAt folders marks line.to_first_fault line.path.now old new said_old said_new
   IsDone text (Repair path) old new said_old said_new =
-      RepairsAt folders marks path.now old new × Keeps said_old said_new
+      RepairsAt folders marks path.now old new said_old said_new
   IsDone text (Compact line) old new said_old said_new =
       IsCompactedAt folders line old new × (IsFalse line.options.progress → Keeps said_old said_new)
   IsDone text (Script input) old new said_old said_new =

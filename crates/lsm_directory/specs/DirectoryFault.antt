@@ -140,12 +140,12 @@ file_of Absent = None
 
 -- of a manifest that is damaged
 abbrev pub damaged : List ℕ
-damaged = codes "in the manifest that CURRENT names; LevelDB's RepairDB makes a new one\n"
+damaged = codes "in the manifest that CURRENT names; lsm repair DIR, or RepairDB, makes a new one\n"
 
 -- of a manifest that is not there, or that CURRENT does not name in its form
 abbrev pub unnamed : List ℕ
 unnamed =
-    codes "CURRENT has to name a manifest that is there: echo MANIFEST-N > DIR/CURRENT\n"
+    codes "lsm repair DIR makes a manifest; to name one: echo MANIFEST-N > DIR/CURRENT\n"
 
 abbrev pub shelf_meaning : ShelfFault → List ℕ
 shelf_meaning shelf_faults.OutOfMemory = []
@@ -176,7 +176,7 @@ replay_meaning replay_faults.NoLastSequence = damaged
 replay_meaning replay_faults.OtherComparator =
     codes "in the manifest that CURRENT names; lsm manifest prints which comparator it has\n"
 replay_meaning (replay_faults.DoubleFile number) =
-    codes "in the manifest that CURRENT names; open it in LevelDB once more, without a write\n"
+    codes "in the manifest that CURRENT names; lsm repair DIR, or open it in LevelDB once more\n"
 
 abbrev pub recover_meaning : RecoverFault → List ℕ
 recover_meaning (recover_faults.Shelf fault) = shelf_meaning fault
@@ -207,11 +207,11 @@ abbrev pub check_meaning : CheckFault → List ℕ
 check_meaning (check_faults.Read file fault) = read_meaning fault
 check_meaning (check_faults.DoubleFile number) = []
 check_meaning (check_faults.Overlap level) =
-    codes "two tables of the level overlap; LevelDB's RepairDB puts all tables at level 0\n"
+    codes "two tables of the level overlap; lsm repair DIR, or LevelDB's RepairDB, orders them\n"
 check_meaning (check_faults.WrongRange number) =
-    codes "not the table of which the manifest tells: put that back, or run LevelDB's RepairDB\n"
+    codes "not the table that the manifest tells of: put that back, lsm repair DIR, or RepairDB\n"
 check_meaning (check_faults.AgeOrder user) =
-    codes "an older entry lies above a newer one of that key; a compaction in LevelDB orders them\n"
+    codes "an older entry lies above a newer one: lsm repair DIR, or a compaction in LevelDB\n"
 
 -- what a fault means, beside the file of a table that it names
 abbrev pub meaning_of : DirectoryFault → List ℕ
@@ -228,7 +228,7 @@ meaning_of (UnflushedLog number) =
 meaning_of (TornManifest rest) =
     codes "the manifest's cut end may name tables; --accept-rest, or no --strict, lets them go\n"
 meaning_of (LaterManifest number) =
-    codes "the later manifest may name other tables; no --strict reads what CURRENT names\n"
+    codes "a later manifest may name other tables; --accept-rest, or no --strict, lets them go\n"
 meaning_of RocksDbFiles =
     codes "what RocksDB has in its logs is not read; no --strict reads the tables\n"
 meaning_of Absent = []

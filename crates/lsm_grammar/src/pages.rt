@@ -525,16 +525,19 @@ one has; and for each table that is not whole, as in
 `left out 000005.ldb: refused 15 BadChecksum`, why it is not.
 
 Each file stays but CURRENT: the old tables, the old manifest, and the logs
-(`N.log`), each of which is then one to read: `lsm recover DIR` brings them in as
-the newest writes, so first move those away that came in before. A key that was
+(`N.log`). The logs to read stay the old manifest's; where that can't be read to
+its end, a note names each log that may have come in before: move such away before
+`lsm recover DIR`, which brings each in as the newest writes. A key that was
 deleted is back where the table with its deletion is left out, or where a table
 is there that the database had given up. Later openings and `lsm clean` remove
-the old tables: copy DIR first. `N.sst` is not read. Keys are in bytewise order.
-What is read is held in memory. Where `lsm check DIR` finds no fault there is
-nothing to repair.
+the old tables: copy DIR first. `N.sst` is not read. What is read is held in
+memory. Where `lsm check DIR` finds no fault there is nothing to repair.
 
-It is `refused 64 NothingWhole` where no whole table has an entry, and `refused
-65 TwoValues N M` where these two have two values of one key and sequence.
+It is `refused 64 NothingWhole` where no whole table has an entry, and
+`refused 65 TwoValues N M` where these two have two values of one key and
+sequence; where the old manifest has keys in another order it is
+`refused 29 OtherComparator`, and where the disk does not give a table
+`refused 9 Device`: move that table out of DIR to go on without it.
 Another program that has DIR open is `refused 52 Locked`.
 
 Exit status: 0 done, 1 refused, 2 bad command line. After a `write fault` it is
@@ -575,11 +578,11 @@ bytes.
 --workers is how many threads compact at a time, 1 to 8; 2 if it is not said.
 
 What stands in a write-ahead log (`N.log`) is not read, and stays there. Another
-program that has DIR open is `refused 52 Locked`, and a manifest whose last B
-bytes are no whole record `refused 61 TornManifest B`, as `clean` says, unless
---accept-rest is said. Each run begins a new manifest, and first removes those
-that CURRENT does not name. Run this after an `ingest` that is `refused 40
-LevelZeroFull`.
+program that has DIR open is `refused 52 Locked`, a manifest whose last B bytes
+are no whole record `refused 61 TornManifest B`, and one beside a later one
+`refused 62 LaterManifest N`, as `clean` says, unless --accept-rest is said. Each
+run begins a new manifest, and first removes those that CURRENT does not name.
+Run this after an `ingest` that is `refused 40 LevelZeroFull`.
 
 Exit status: 0 done, 1 refused, 2 bad command line. After a refusal what was
 installed before it stands, and no table was removed, but by a removal that then
@@ -608,7 +611,9 @@ Where the last B bytes of the manifest are no whole record, it is `refused 61
 TornManifest B`, and nothing is removed: was the manifest cut behind a change
 that had been answered, it named tables that would go. Such bytes are left by a
 program or a machine that was stopped within a change, and then there is nothing
-to lose: --accept-rest goes on all the same.
+to lose: --accept-rest goes on all the same. So it is with a manifest N that is
+later than the one that CURRENT names, `refused 62 LaterManifest N`: a copy leaves
+it that was made beside a program, or a program that was stopped.
 
 Exit status: 0 done, 1 refused: what was printed before it is removed, 2 bad
 command line.",

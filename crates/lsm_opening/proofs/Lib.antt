@@ -2,6 +2,7 @@ mod NameKindLaws
 mod NameLaws
 mod Looked
 mod TidyLaws
+mod LaterLaws
 mod PartsLaws
 mod StartLaws
 mod QuickLaws

@@ -4,6 +4,8 @@ pub mod CompactFault
 pub mod Parts
 pub mod Names
 pub mod Tidying
+pub mod Later
+pub mod Holding
 pub mod Preparing
 pub mod Starting
 pub mod Quick

@@ -8,8 +8,8 @@ use Rattle.lsm_codec.specs.Entries.{Entry, internal_key}
 use Rattle.lsm_codec.specs.Keys.{IsKey}
 use Rattle.lsm_codec.specs.Lists.{Has}
 use Rattle.lsm_codec.proofs.CallerLemmas.{flat_has, has_flat, internal_of}
-use Rattle.lsm_shelf.specs.Asked.{Asked}
-use Rattle.lsm_shelf.specs.Told.{Becomes, Told, listing}
+use Rattle.lsm_shelf.specs.Asked.{Asked, Put}
+use Rattle.lsm_shelf.specs.Told.{Becomes, Told, listing, putting}
 use Rattle.lsm_shelf.specs.declared.shelf_fault.ShelfFault.{ShelfFault}
 use Rattle.lsm_table.specs.HeldTable.{entries_in}
 use Rattle.lsm_table.specs.Registry.{Table}
@@ -22,14 +22,15 @@ use Rattle.lsm_manifest.specs.Shape.{IsReplayed, IsShape}
 use Rattle.lsm_manifest.specs.WholeEdit.{FitsShape}
 use Rattle.lsm_model.specs.Files.{File, Fits, IsLawful, Shallower}
 use Rattle.lsm_version.specs.Versions.{IsSound, IsWhole, file_of, level_in}
-use Rattle.lsm_import.specs.Copies.{OnlyPuts}
-use Rattle.lsm_repair.specs.Mending.{IsMended, IsTakenIn, IsUnput, edit_of, file_at, levels_of}
-use Rattle.lsm_repair.specs.Mending.{manifest_of, shape_of}
+use Rattle.lsm_repair.specs.Mending.{ChangesNothing, IsMended, IsTakenIn, IsUnput, PutsAtMost}
+use Rattle.lsm_repair.specs.Mending.{edit_of, file_at, levels_of, manifest_of, shape_of}
 use Rattle.lsm_repair.specs.Mending as mending
 use Rattle.lsm_repair.specs.Merging.{IsMerged}
 use Rattle.lsm_repair.specs.declared.left_out.LeftOut.{LeftOut}
 use Rattle.lsm_repair.specs.declared.mend_fault.MendFault.{MendFault}
 use Rattle.lsm_repair.specs.declared.mend_fault.MendFault.TheVariants.{OutOfMemory, TooLarge}
+use Rattle.lsm_repair.specs.OldManifest.{IsOld}
+use Rattle.lsm_repair.specs.declared.old_logs.OldLogs.{OldLogs}
 use Rattle.lsm_repair.specs.Reading.{Held, TableRead, held_at, held_of}
 
 one_of : {X : Type 0} (x y : X) → Has (x ∷ []) y → x ≡ y
@@ -61,8 +62,9 @@ ordered_level f (suc (suc (suc (suc (suc zero))))) = tt
 ordered_level f (suc (suc (suc (suc (suc (suc zero)))))) = (tt, tt)
 ordered_level f (suc (suc (suc (suc (suc (suc (suc n))))))) = tt
 
-pub is_shape : (number : ℕ) (image : Imaged) (last : ℕ) → IsShape (shape_of number image last)
-is_shape number image last =
+pub is_shape : (number : ℕ) (image : Imaged) (logs : OldLogs) (last : ℕ)
+    → IsShape (shape_of number image logs last)
+is_shape number image logs last =
     let f = file_at number image in
     record {
       seven = refl;
@@ -89,10 +91,11 @@ none_at (suc (suc (suc (suc (suc (suc (suc n))))))) = refl
 fits_key : (s : List ℕ) (e : Entry) → IsKey s (internal_key e) → length s < 2 ^ 32 → FitsKey s
 fits_key s e is short = record { short = short; internal = internal_of s (internal_key e) is }
 
-pub fits_shape : (number : ℕ) (image : Imaged) (last : ℕ) → mending.IsTable image
+pub fits_shape : (number : ℕ) (image : Imaged) (logs : OldLogs) (last : ℕ)
+    → mending.IsTable image
     → length image.smallest < 2 ^ 32 → length image.largest < 2 ^ 32
-    → FitsShape (shape_of number image last)
-fits_shape number image last (made, i) low high =
+    → FitsShape (shape_of number image logs last)
+fits_shape number image logs last (made, i) low high =
     let f = file_at number image in
     record {
       files = λ level g low_level has.
@@ -192,13 +195,40 @@ has_held reads held is h has =
 
 -- ---- steps
 
-pub listed_puts : (numbers : List ℕ) (a b c : Told) → Becomes (listing numbers a) b → Becomes b c
-    → OnlyPuts a c
-listed_puts numbers a b c p q = record {
+-- tables were listed, and read
+pub listed_same : (numbers : List ℕ) (a b c : Told) → Becomes (listing numbers a) b → Becomes b c
+    → ChangesNothing a c
+listed_same numbers a b c p q = record { place = q.place ∙ p.place; made = q.made ∙ p.made }
+
+pub unlisted_same : (a b : Told) → Becomes a b → ChangesNothing a b
+unlisted_same a b p = record { place = p.place; made = p.made }
+
+-- a table was put
+pub puts_one : (number : ℕ) (image : List ℕ) (a b : Told) → Becomes (putting number image a) b
+    → PutsAtMost number a b
+puts_one number image a b p = record { place = p.place; made = inr (image, p.made) }
+
+pub puts_none : (number : ℕ) (a b : Told) → ChangesNothing a b → PutsAtMost number a b
+puts_none number a b p = record { place = p.place; made = inl p.made }
+
+pub puts_same : (number : ℕ) (a b : Told) → Becomes a b → PutsAtMost number a b
+puts_same number a b p = record { place = p.place; made = inl p.made }
+
+pub same_then : (a b c : Told) → ChangesNothing a b → ChangesNothing b c → ChangesNothing a c
+same_then a b c p q = record { place = q.place ∙ p.place; made = q.made ∙ p.made }
+
+made_then : (number : ℕ) (a b c : Told) → b.made ≡ a.made
+    → (c.made ≡ b.made) ⊎ ((image : List ℕ) × (c.made ≡ Put number image ∷ b.made))
+    → (c.made ≡ a.made) ⊎ ((image : List ℕ) × (c.made ≡ Put number image ∷ a.made))
+made_then number a b c p (inl q) = inl (q ∙ p)
+made_then number a b c p (inr (image, q)) =
+    inr (image, q ∙ ap (λ (calls : List Asked). Put number image ∷ calls) p)
+
+pub puts_later : (number : ℕ) (a b c : Told) → ChangesNothing a b → PutsAtMost number b c
+    → PutsAtMost number a c
+puts_later number a b c p q = record {
   place = q.place ∙ p.place;
-  gone = q.gone ∙ p.gone;
-  starts = q.starts ∙ p.starts;
-  written = q.written ∙ p.written;
+  made = made_then number a b c p.made q.made;
 }
 
 pub file_from : (r : Result TableFile MendFault) (number size : ℕ) (s l : List ℕ) (image : Imaged)
@@ -233,9 +263,9 @@ unput_from Denied (Err e) number s l image (inr (large, inr second)) b c =
 -- ---- all
 
 abbrev pub Replays : Type 0
-Replays = (number last : ℕ) (image : Imaged)
-    → IsReplayed (edit_of (file_at number image) (number + 2) last ∷ [])
-    (shape_of number image last)
+Replays = (number last : ℕ) (logs : OldLogs) (image : Imaged)
+    → IsReplayed (edit_of (file_at number image) logs (number + 2) last ∷ [])
+    (shape_of number image logs last)
 
 abbrev pub Sounds : Type 0
 Sounds = (number last : ℕ) (made : List Entry) (image : Imaged)
@@ -243,17 +273,20 @@ Sounds = (number last : ℕ) (made : List Entry) (image : Imaged)
     → ((e : Entry) → Has made e → e.seq ≤ last) → IsSound (levels_of number image last)
 
 pub mended : Replays → Sounds → (Given : ℕ → List ℕ → Type 0) (Denied : Asked → ShelfFault → Type 0)
-    (number : ℕ) (manifest : List ℕ) (whole count : ℕ) (left : List LeftOut) (was mid is : Told)
-    (held : List Held) (image : Imaged) (last : ℕ)
-    → IsTakenIn Given Denied held left whole was mid → IsMerged held last count image
-    → manifest ≡ manifest_of number image last
-    → IsManifest (manifest_of number image last)
-    (edit_of (file_at number image) (number + 2) last ∷ []) 0
-    → Given number image.bytes → IsMended Given Denied number manifest whole count left was is
-mended replays sounds Given Denied number manifest whole count left was mid is held image last t m
-    named spelled put =
+    (number : ℕ) (manifest : List ℕ) (logs : OldLogs) (whole count : ℕ) (left : List LeftOut)
+    (was begun mid is : Told) (held : List Held) (image : Imaged) (last : ℕ)
+    → IsOld Denied logs was begun → IsTakenIn Given held left whole begun mid
+    → IsMerged held last count image → manifest ≡ manifest_of number image logs last
+    → IsManifest (manifest_of number image logs last)
+    (edit_of (file_at number image) logs (number + 2) last ∷ []) 0
+    → Given number image.bytes → Becomes (putting number image.bytes mid) is
+    → IsMended Given Denied number manifest logs whole count left was is
+mended replays sounds Given Denied number manifest logs whole count left was begun mid is held image
+    last old t m named spelled put put_last =
     let r = t.read in
     record {
+      begun = begun;
+      old = old;
       numbers = t.numbers;
       mid = mid;
       listed = t.listed;
@@ -272,11 +305,12 @@ mended replays sounds Given Denied number manifest whole count left was mid is h
       image = image;
       table = m.table;
       put = put;
+      put_last = put_last;
       last = last;
       reached = m.union.reached;
       one = m.union.one;
       manifest_is = named;
       spelled = spelled;
-      replayed = replays number last image;
+      replayed = replays number last logs image;
       sound = sounds number last m.made image m.table m.union.reached;
     }

@@ -1,16 +1,16 @@
 -- Tables that are read one after another.
-use Rattle.std.proofs.Common.{◌≡◌, ℕ, suc, ◌+◌, ◌<◌, ◌≤◌, List, [], ◌∷◌, ◌++◌, length, get_or}
+use Rattle.std.proofs.Common.{◌≡◌, ℕ, zero, suc, ◌+◌, ◌<◌, ◌≤◌, List, [], ◌∷◌, ◌++◌, length, get_or}
 use Rattle.std.proofs.Common.{take, refl, sym, ap, ◌∙◌, subst, inl, inr, arith}
-use Rattle.std.specs.Prelude.{Err, OnOk, Ok, Result}
+use Rattle.std.specs.Prelude.{Err, IfErr, OnOk, Ok, Result}
 use Rattle.std.specs.List.{flat_map}
 use Rattle.std.proofs.lemmas.Grind.{flat_map-append}
 use Rattle.std.proofs.lemmas.List.{append-nil, map-append, take_all}
 use Rattle.std.proofs.lemmas.List.Elements.{All-append, All-cons, All-nil}
 use Rattle.std.proofs.Math.Seq.{take-suc}
 use Rattle.lsm_codec.specs.Entries.{Entry}
-use Rattle.lsm_shelf.specs.Asked.{Asked, Load}
+use Rattle.lsm_codec.specs.Lists.{Has}
+use Rattle.lsm_shelf.specs.Asked.{Asked}
 use Rattle.lsm_shelf.specs.declared.shelf_fault.ShelfFault.{ShelfFault}
-use Rattle.lsm_shelf.specs.declared.shelf_fault.ShelfFault.TheVariants as shelf
 use Rattle.lsm_table.proofs.CallerLemmas.{memory_only}
 use Rattle.lsm_table.specs.Reading as table
 use Rattle.lsm_table.specs.Table.{IsImage, IsTable}
@@ -20,26 +20,29 @@ use Rattle.lsm_inflate.specs.PackedTable.{IsPackedTable}
 use Rattle.lsm_inflate.specs.Reading.{Fails}
 use Rattle.lsm_inflate.specs.declared.inflate_fault.InflateFault.{InflateFault}
 use Rattle.lsm_inflate.specs.declared.inflate_fault.InflateFault.TheVariants.{Table}
-use Rattle.lsm_repair.specs.Reading.{AreRead, Held, IsTableRead, ReadsImage, ReadsNext, TableRead}
-use Rattle.lsm_repair.specs.Reading.{held_of}
+use Rattle.lsm_repair.specs.Reading.{AreRead, AreUnread, Held, IsTableRead, IsUnread, ReadsImage}
+use Rattle.lsm_repair.specs.Reading.{ReadsNext, TableRead, held_of}
 use Rattle.lsm_repair.specs.declared.left_out.LeftOut.{LeftOut}
-use Rattle.lsm_repair.specs.declared.left_out.LeftOut.TheVariants.{Broken, Unread}
 use Rattle.lsm_repair.specs.declared.mend_fault.MendFault.{MendFault}
+use Rattle.lsm_repair.specs.declared.mend_fault.MendFault.TheVariants.{OutOfMemory}
 
-module _ (Given : ℕ → List ℕ → Type 0) (Denied : Asked → ShelfFault → Type 0) where
-  pub read_none : AreRead Given Denied [] [] []
+abbrev broken : ℕ → InflateFault → LeftOut
+broken number fault = record { file = number; fault = fault }
+
+module _ (Given : ℕ → List ℕ → Type 0) where
+  pub read_none : AreRead Given [] [] []
   read_none = record {
     reads = [];
     numbered = refl;
-    each = All-nil (IsTableRead Given Denied);
+    each = All-nil (IsTableRead Given);
     entries_are = refl;
     left_are = refl;
   }
 
   read_snoc : (numbers : List ℕ) (n : ℕ) (entries more : List Held) (left later : List LeftOut)
-      → AreRead Given Denied numbers entries left
-      → ReadsNext Given Denied n entries more left later
-      → AreRead Given Denied (numbers ++ n ∷ []) more later
+      → AreRead Given numbers entries left
+      → ReadsNext Given n entries more left later
+      → AreRead Given (numbers ++ n ∷ []) more later
   read_snoc numbers n entries more left later r x =
       let one = x.read ∷ [] in
       record {
@@ -47,9 +50,9 @@ module _ (Given : ℕ → List ℕ → Type 0) (Denied : Asked → ShelfFault �
         numbered = map-append (λ (t : TableRead). t.number) r.reads one
             ∙ ap (λ (ns : List ℕ). ns ++ x.read.number ∷ []) r.numbered
             ∙ ap (λ (k : ℕ). numbers ++ k ∷ []) x.numbered;
-        each = All-append (IsTableRead Given Denied) r.reads one r.each
-            (All-cons (IsTableRead Given Denied) x.read [] x.is
-            (All-nil (IsTableRead Given Denied)));
+        each = All-append (IsTableRead Given) r.reads one r.each
+            (All-cons (IsTableRead Given) x.read [] x.is
+            (All-nil (IsTableRead Given)));
         entries_are =
             x.added ∙ ap (λ (es : List Held). es ++ held_of x.read) r.entries_are
             ∙ sym (flat_map-append held_of r.reads one
@@ -63,27 +66,27 @@ module _ (Given : ℕ → List ℕ → Type 0) (Denied : Asked → ShelfFault �
       }
 
   pub read_more : (numbers : List ℕ) (i : ℕ) (entries more : List Held) (left later : List LeftOut)
-      → i < length numbers → AreRead Given Denied (take i numbers) entries left
-      → ReadsNext Given Denied (get_or numbers i 0) entries more left later
-      → AreRead Given Denied (take (i + 1) numbers) more later
+      → i < length numbers → AreRead Given (take i numbers) entries left
+      → ReadsNext Given (get_or numbers i 0) entries more left later
+      → AreRead Given (take (i + 1) numbers) more later
   read_more numbers i entries more left later lt r x =
       let s : i + 1 ≡ suc i = omega arith in
       let front : take (i + 1) numbers ≡ take i numbers ++ get_or numbers i 0 ∷ [] =
       rw s (take-suc numbers i 0 lt) in
-      subst (λ (ns : List ℕ). AreRead Given Denied ns more later) (sym front)
+      subst (λ (ns : List ℕ). AreRead Given ns more later) (sym front)
       (read_snoc (take i numbers) (get_or numbers i 0) entries more left later r x)
 
   pub read_all : (numbers : List ℕ) (i : ℕ) (entries : List Held) (left : List LeftOut)
-      → length numbers ≤ i → AreRead Given Denied (take i numbers) entries left
-      → AreRead Given Denied numbers entries left
+      → length numbers ≤ i → AreRead Given (take i numbers) entries left
+      → AreRead Given numbers entries left
   read_all numbers i entries left done r =
-      subst (λ (ns : List ℕ). AreRead Given Denied ns entries left) (take_all i numbers done) r
+      subst (λ (ns : List ℕ). AreRead Given ns entries left) (take_all i numbers done) r
 
   -- an image that the shelf gave was read
   pub next_read : (number : ℕ) (image : List ℕ) (entries more : List Held)
       (left later : List LeftOut) → Given number image
       → ReadsImage number image entries more left later
-      → ReadsNext Given Denied number entries more left later
+      → ReadsNext Given number entries more left later
   next_read number image entries more left later given (inl (es, spelled, added, same)) = record {
     read = record { number = number; entries = es; left = [] };
     numbered = refl;
@@ -93,9 +96,22 @@ module _ (Given : ℕ → List ℕ → Type 0) (Denied : Asked → ShelfFault �
   }
   next_read number image entries more left later given (inr (fault, bad, no_want, same, added)) =
       record {
-        read = record { number = number; entries = []; left = Broken number fault ∷ [] };
+        read = record { number = number; entries = []; left = broken number fault ∷ [] };
         numbered = refl;
-        is = inr (refl, (Broken number fault, refl, (refl, (image, given, bad), no_want)));
+        is = inr (
+          refl,
+          (
+            broken number fault,
+            refl,
+            record {
+              named = refl;
+              image = image;
+              given = given;
+              broken = bad;
+              no_want = no_want;
+            },
+          ),
+        );
         added = same ∙ sym (append-nil entries);
         left_too = added;
       }
@@ -103,24 +119,28 @@ module _ (Given : ℕ → List ℕ → Type 0) (Denied : Asked → ShelfFault �
   pub next_on : {X : Type 0} (r : Result X MendFault) (number : ℕ) (image other : List ℕ)
       (entries more : List Held) (left later : List LeftOut) → Given number image → other ≡ image
       → OnOk r (ReadsImage number other entries more left later)
-      → OnOk r (ReadsNext Given Denied number entries more left later)
+      → OnOk r (ReadsNext Given number entries more left later)
   next_on (Ok x) number image other entries more left later given same read =
       next_read number image entries more left later given
       (subst (λ (i : List ℕ). ReadsImage number i entries more left later) same read)
   next_on (Err e) number image other entries more left later given same read = tt
 
-  -- the shelf did not give it
-  pub unread_next : (number : ℕ) (fault : ShelfFault) (l : LeftOut) (entries : List Held)
-      (left later : List LeftOut) → Denied (Load number) fault → (fault ≡ shelf.OutOfMemory → ⊥)
-      → l ≡ Unread number fault → later ≡ left ++ l ∷ []
-      → ReadsNext Given Denied number entries entries left later
-  unread_next number fault l entries left later denied no_want is added = record {
-    read = record { number = number; entries = []; left = Unread number fault ∷ [] };
-    numbered = refl;
-    is = inr (refl, (Unread number fault, refl, (refl, denied, no_want)));
-    added = sym (append-nil entries);
-    left_too = added ∙ ap (λ (x : LeftOut). left ++ x ∷ []) is;
-  }
+-- ---- one that is not read
+
+has_at : (xs : List ℕ) (i : ℕ) → i < length xs → Has xs (get_or xs i 0)
+has_at [] i lt = absurd (omega (arith, lt))
+has_at (x ∷ xs) zero lt = inl refl
+has_at (x ∷ xs) (suc i) lt = inr (has_at xs i (omega (arith, lt)))
+
+pub unread_memory : {X : Type 0} (Denied : Asked → ShelfFault → Type 0) (number : ℕ)
+    (r : Result X MendFault) → IfErr r (λ e. e ≡ OutOfMemory) → IfErr r (IsUnread Denied number)
+unread_memory Denied number (Ok x) want = tt
+unread_memory Denied number (Err e) want = inl want
+
+pub unread_among : (Denied : Asked → ShelfFault → Type 0) (numbers : List ℕ) (i : ℕ)
+    (fault : MendFault) → i < length numbers → IsUnread Denied (get_or numbers i 0) fault
+    → AreUnread Denied numbers fault
+unread_among Denied numbers i fault lt why = inr (get_or numbers i 0, has_at numbers i lt, why)
 
 -- ---- the table of an image
 

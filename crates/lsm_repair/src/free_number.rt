@@ -1,17 +1,17 @@
 //! A file number that no file of a folder has.
 
-ghost use Rattle.std.specs.Prelude.{◌≡◌, ◌≢◌, ◌-◌, ◌^◌, ◌<◌, ◌≤◌, ℕ, IfNone, IfSome, map};
-ghost use Rattle.std.specs.Prelude.{string_bytes};
+ghost use Rattle.std.specs.Prelude.{◌≡◌, ◌≢◌, ◌++◌, ◌∷◌, [], ◌-◌, ◌^◌, ◌<◌, ℕ, List, IfNone};
+ghost use Rattle.std.specs.Prelude.{IfSome, map, string_bytes};
 ghost use Rattle.lsm_directory.specs.FileNames.{IsFileName};
 ghost use Rattle.lsm_directory.specs.declared.folder.file_kind.FileKind.{FileKind};
 ghost use Rattle.lsm_directory.specs.declared.folder.file_kind.FileKind.TheVariants.{Other};
-ghost use Rattle.lsm_opening.specs.Names.{Among, IsNumbered};
-ghost use Rattle.lsm_repair.specs.FreeNumber.{IsAboveAll, IsAboveName, IsHigh};
+ghost use Rattle.lsm_opening.specs.Names.{Among, IsLeastUnused, IsNumbered};
+ghost use Rattle.lsm_repair.specs.FreeNumber.{IsHigh};
 
 use lsm_directory::FileKind;
 
 /// The file of a database that this name is of.
-fn kind_of(name: &str) -> FileKind
+pub(crate) fn kind_of(name: &str) -> FileKind
     ensures known { result ≢ Other → IsFileName name.now result }
     ensures found { (kind : FileKind) → IsFileName name.now kind → result ≡ kind }
 {
@@ -26,13 +26,13 @@ fn number_in(name: &str) -> Option<u64>
     kind_of(name).number()
 }
 
-/// The greater one of this number and the one above the name's; none where the name's leaves no two
-/// numbers.
-fn above_name(from: u64, name: &str) -> Option<u64>
-    requires few { from < 2 ^ 64 - 2 }
-    ensures from { IfSome result (λ n. from ≤ n) }
+/// The least number that is unused where a file of this name is added to those among which this one
+/// is it; none where the name's leaves no two numbers.
+fn next_above(next: u64, name: &str) -> Option<u64>
+    requires few { next < 2 ^ 64 - 2 }
+    ensures some { (front : List (List ℕ)) → IsLeastUnused front next
+        → IfSome result (IsLeastUnused (front ++ name.now ∷ [])) }
     ensures few { IfSome result (λ n. n < 2 ^ 64 - 2) }
-    ensures above { IfSome result (IsAboveName name.now) }
     ensures none { IfNone result (IsHigh name.now) }
 {
     match number_in(name) {
@@ -40,22 +40,22 @@ fn above_name(from: u64, name: &str) -> Option<u64>
             if number >= u64::MAX - 2 {
                 return None;
             }
-            Some(from.max(number + 1))
+            Some(next.max(number + 1))
         }
-        None => Some(from),
+        None => Some(next),
     }
 }
 
-/// A number, from 1 on, that is above those of all files of these names, and behind which there is
-/// one more; none where one of theirs is too high for that.
+/// The least number, from 1 on, that is above those of all files of these names, where there is one
+/// more behind it; none where one of theirs is too high for that.
 pub(crate) fn free_number(names: &[String]) -> Option<u64>
-    ensures above { IfSome result (IsAboveAll (map string_bytes names.now)) }
+    ensures least { IfSome result (IsLeastUnused (map string_bytes names.now)) }
     ensures few { IfSome result (λ n. n < 2 ^ 64 - 2) }
     ensures none { IfNone result (Among (map string_bytes names.now) IsHigh) }
 {
     let mut next = 1u64;
     for name in names {
-        next = above_name(next, name.as_str())?;
+        next = next_above(next, name.as_str())?;
     }
     Some(next)
 }

@@ -11,6 +11,10 @@
 mod left_out;
 mod mend_fault;
 
+// The manifest that is replaced.
+mod old_logs;
+mod old_manifest;
+
 // The entries of the tables, in memory.
 mod kept_entry;
 mod reading;
@@ -20,11 +24,13 @@ mod laws;
 mod mending;
 mod merging;
 
-// A folder: a free number, its shelf, its manifest.
+// A folder: a free number, its shelf, its manifest, and its logs.
 mod beginning;
 mod free_number;
 mod repairing;
+mod unsure_logs;
 
 pub use left_out::LeftOut;
 pub use mend_fault::MendFault;
+pub use old_logs::OldLogs;
 pub use repairing::{Repaired, repair_on};

@@ -15,12 +15,21 @@ pub enum MendFault {
     /// A growth of memory was refused.
     #[error("OutOfMemory")]
     OutOfMemory,
+    /// The manifest that is to be replaced is there, and was not read.
+    #[error("{0}")]
+    UnreadManifest(ShelfFault),
+    /// It names a comparator other than `leveldb.BytewiseComparator`.
+    #[error("OtherComparator")]
+    OtherComparator,
     /// The names in the folder, or its tables, were not listed.
     #[error("{0}")]
     Unlisted(ShelfFault),
     /// No file number is left for a table and a manifest.
     #[error("NumbersSpent")]
     NumbersSpent,
+    /// The table of this number was not read.
+    #[error("{1}")]
+    Unread(u64, ShelfFault),
     /// No table that is whole has an entry.
     #[error("NothingWhole")]
     NothingWhole,
@@ -42,7 +51,11 @@ impl MendFault {
     {
         match self {
             MendFault::OutOfMemory => 1,
-            MendFault::Unlisted(fault) | MendFault::Unwritten(fault) => fault.number(),
+            MendFault::UnreadManifest(fault)
+            | MendFault::Unlisted(fault)
+            | MendFault::Unread(_, fault)
+            | MendFault::Unwritten(fault) => fault.number(),
+            MendFault::OtherComparator => 29,
             MendFault::NumbersSpent => 46,
             MendFault::NothingWhole => 64,
             MendFault::TwoValues(_, _) => 65,
@@ -56,7 +69,11 @@ impl MendFault {
     {
         match self {
             MendFault::OutOfMemory => "OutOfMemory",
-            MendFault::Unlisted(fault) | MendFault::Unwritten(fault) => fault.name(),
+            MendFault::UnreadManifest(fault)
+            | MendFault::Unlisted(fault)
+            | MendFault::Unread(_, fault)
+            | MendFault::Unwritten(fault) => fault.name(),
+            MendFault::OtherComparator => "OtherComparator",
             MendFault::NumbersSpent => "NumbersSpent",
             MendFault::NothingWhole => "NothingWhole",
             MendFault::TwoValues(_, _) => "TwoValues",

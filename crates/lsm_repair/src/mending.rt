@@ -3,19 +3,22 @@
 ghost use Rattle.std.specs.Prelude.{◌≡◌, ◌∷◌, [], ◌⊎◌, ◌+◌, ◌-◌, ◌<◌, ◌≤◌, ◌^◌, length, IfErr};
 ghost use Rattle.std.specs.Prelude.{IfOk, MatchBool, OnOk};
 ghost use Rattle.lsm_shelf.specs.Stored.{Stored};
+ghost use Rattle.lsm_shelf.specs.Told.{Becomes, putting};
 ghost use Rattle.lsm_manifest.specs.EditFit.{IsFit};
 ghost use Rattle.lsm_manifest.specs.EditWriting.{edit_text};
 ghost use Rattle.lsm_manifest.specs.LogWriting.{record_text};
 ghost use Rattle.lsm_manifest.specs.Manifest.{IsManifest};
-ghost use Rattle.lsm_import.specs.Copies.{OnlyPuts};
-ghost use Rattle.lsm_repair.specs.Mending.{IsMended, IsTable, IsTakenIn, IsUnmended, IsUnput};
-ghost use Rattle.lsm_repair.specs.Mending.{IsUntaken, edit_of, file_at, manifest_of};
+ghost use Rattle.lsm_repair.specs.Mending.{ChangesNothing, IsMended, IsTable, IsTakenIn};
+ghost use Rattle.lsm_repair.specs.Mending.{IsUnmended, IsUnput, IsUntaken, PutsAtMost, edit_of};
+ghost use Rattle.lsm_repair.specs.Mending.{file_at, manifest_of};
 ghost use Rattle.lsm_repair.specs.declared.mend_fault.MendFault.TheVariants.{OutOfMemory, TooLarge};
 
 use crate::laws::mended_is_sound;
 use crate::left_out::LeftOut;
 use crate::mend_fault::MendFault;
 use crate::merging::{Merged, merge};
+use crate::old_logs::OldLogs;
+use crate::old_manifest::read_old;
 use crate::reading::{Found, read_tables};
 use lsm_codec::{Bytes, List};
 use lsm_manifest::{AddedFile, Edit, FileMeta, LogWriter, manifest_grows, whole_edit_replays};
@@ -34,6 +37,8 @@ pub(crate) struct Mended {
     pub(crate) entries: u64,
     /// The tables that are left out.
     pub(crate) left: Vec<LeftOut>,
+    /// The logs of the manifest that is replaced.
+    pub(crate) logs: OldLogs,
 }
 
 /// Whether the length of a key fits 32 bits.
@@ -87,7 +92,8 @@ fn put<N: Naming, S: Shelf, R: Wait>(
         number image.bytes) }
     ensures short { OnOk result
         ((length image.smallest < 2 ^ 32) × (length image.largest < 2 ^ 32)) }
-    ensures puts { OnlyPuts shelf.old shelf.new }
+    ensures told { OnOk result (Becomes (putting number image.bytes shelf.old) shelf.new) }
+    ensures at_most { PutsAtMost number shelf.old shelf.new }
     ensures refused { IfErr result (IsUnput (S.refuses N.place) number image) }
 {
     let table = match image.put_alone(rt, alloc, shelf, number) {
@@ -97,17 +103,23 @@ fn put<N: Naming, S: Shelf, R: Wait>(
     file_of(alloc, number, &table)
 }
 
-/// The edit that names one table, at level 6, and reads each log.
-fn edit_of(alloc: Global, file: FileMeta, next: u64, last: u64) -> Result<Edit, AllocError>
-    ensures { IfOk result (λ e. e ≡ edit_of file next last) }
+/// The edit that names one table, at level 6, and these logs.
+fn edit_of(
+    alloc: Global,
+    file: FileMeta,
+    logs: OldLogs,
+    next: u64,
+    last: u64,
+) -> Result<Edit, AllocError>
+    ensures { IfOk result (λ e. e ≡ edit_of file logs next last) }
 {
     let name = Vec::from_slice(alloc, b"leveldb.BytewiseComparator".as_slice())?;
     let mut added = Vec::new(alloc);
     added.push(AddedFile { level: 6, file })?;
     Ok(Edit {
         comparator: Some(Bytes::of(name)),
-        log: Some(0),
-        prev_log: Some(0),
+        log: Some(logs.log),
+        prev_log: Some(logs.prev_log),
         next: Some(next),
         last: Some(last),
         pointers: List::of(Vec::new(alloc)),
@@ -140,9 +152,9 @@ fn take_in<N: Naming, S: Shelf, R: Wait>(
     shelf: &mut NamedShelf<N, S>,
 ) -> Result<(Found, u64), MendFault>
     ensures taken { IfOk result (λ r. IsTakenIn
-        (Stored S.Receipt (S.is_of N.place) S.Receipt.number S.Receipt.image) (S.refuses N.place)
+        (Stored S.Receipt (S.is_of N.place) S.Receipt.number S.Receipt.image)
         r.0.entries.items r.0.left.items r.1 shelf.old shelf.new) }
-    ensures puts { OnlyPuts shelf.old shelf.new }
+    ensures same { ChangesNothing shelf.old shelf.new }
     ensures refused { IfErr result (IsUntaken (S.refuses N.place)) }
 {
     let numbers = match shelf.list(rt, alloc) {
@@ -161,21 +173,23 @@ fn name_table<N: Naming, S: Shelf, R: Wait>(
     shelf: &mut NamedShelf<N, S>,
     image: TableImage,
     number: u64,
+    logs: OldLogs,
     last: u64,
 ) -> Result<Vec<u8>, MendFault>
     requires number { number < 2 ^ 64 - 2 }
     requires table { IsTable image }
-    ensures manifest { IfOk result (λ v. v.items ≡ manifest_of number image last) }
-    ensures spelled { OnOk result (IsManifest (manifest_of number image last)
-        (edit_of (file_at number image) (number + 2) last ∷ []) 0) }
+    ensures manifest { IfOk result (λ v. v.items ≡ manifest_of number image logs last) }
+    ensures spelled { OnOk result (IsManifest (manifest_of number image logs last)
+        (edit_of (file_at number image) logs (number + 2) last ∷ []) 0) }
     ensures put { OnOk result (Stored S.Receipt (S.is_of N.place) S.Receipt.number S.Receipt.image
         number image.bytes) }
-    ensures puts { OnlyPuts shelf.old shelf.new }
+    ensures told { OnOk result (Becomes (putting number image.bytes shelf.old) shelf.new) }
+    ensures at_most { PutsAtMost number shelf.old shelf.new }
     ensures refused { IfErr result (IsUnput (S.refuses N.place) number image) }
 {
     whole_edit_replays();
     let file = put(rt, alloc, shelf, image, number)?;
-    let edit = edit_of(alloc, file, number + 2, last)?;
+    let edit = edit_of(alloc, file, logs, number + 2, last)?;
     let manifest = manifest_bytes(alloc, &edit)?;
     Ok(manifest)
 }
@@ -183,11 +197,13 @@ fn name_table<N: Naming, S: Shelf, R: Wait>(
 /// Makes one table, of this number, of all whole tables that a shelf lists, and the manifest that
 /// names just it, which is to have the next number.
 ///
-/// Each entry of each whole table is in the new one, once, and nothing else. What is read is held
-/// in memory, and the new table too.
+/// Each entry of each whole table is in the new one, once, and nothing else. Its logs are those of
+/// the manifest that is there, as far as that can be read. What is read is held in memory, and the
+/// new table too.
 ///
 /// # Errors
-/// `Unlisted`; `NothingWhole`; `TwoValues`; `TooLarge`; `Unwritten`; `OutOfMemory` on the way.
+/// `UnreadManifest`; `OtherComparator`; `Unlisted`; `Unread`; `NothingWhole`; `TwoValues`;
+/// `TooLarge`; `Unwritten`; `OutOfMemory` on the way.
 pub(crate) fn mend<N: Naming, S: Shelf, R: Wait>(
     rt: &R,
     alloc: Global,
@@ -197,22 +213,24 @@ pub(crate) fn mend<N: Naming, S: Shelf, R: Wait>(
     requires number { number < 2 ^ 64 - 2 }
     ensures mended { IfOk result (λ m. IsMended
         (Stored S.Receipt (S.is_of N.place) S.Receipt.number S.Receipt.image) (S.refuses N.place)
-        number m.manifest.items m.tables m.entries m.left.items shelf.old shelf.new) }
-    ensures puts { OnlyPuts shelf.old shelf.new }
+        number m.manifest.items m.logs m.tables m.entries m.left.items shelf.old shelf.new) }
+    ensures at_most { PutsAtMost number shelf.old shelf.new }
     ensures refused { IfErr result (IsUnmended
         (Stored S.Receipt (S.is_of N.place) S.Receipt.number S.Receipt.image) (S.refuses N.place)
         number shelf.old) }
 {
     mended_is_sound();
+    let logs = read_old(rt, alloc, shelf)?;
     let (found, tables) = take_in(rt, alloc, shelf)?;
     let Found { entries, left } = found;
     let merged = merge(alloc, TableOptions::usual(), entries)?;
     let Merged { image, last, count } = merged;
-    let manifest = name_table(rt, alloc, shelf, image, number, last)?;
+    let manifest = name_table(rt, alloc, shelf, image, number, logs, last)?;
     Ok(Mended {
         manifest,
         tables,
         entries: count,
         left,
+        logs,
     })
 }

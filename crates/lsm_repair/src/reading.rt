@@ -4,23 +4,20 @@ ghost use Rattle.std.specs.Prelude.{◌≡◌, ◌++◌, [], map, IfErr, IfOk, M
 ghost use Rattle.std.specs.Option.{option_map};
 ghost use Rattle.lsm_shelf.specs.Stored.{Stored};
 ghost use Rattle.lsm_shelf.specs.Told.{Becomes};
-ghost use Rattle.lsm_shelf.specs.declared.shelf_fault.ShelfFault.TheVariants as shelf;
 ghost use Rattle.lsm_table.specs.HeldTable.{Steps};
 ghost use Rattle.lsm_inflate.specs.PackedReading.{inflated_at};
 ghost use Rattle.lsm_inflate.specs.PackedTable.{IsPackedTable};
 ghost use Rattle.lsm_inflate.specs.Reading.{Fails, is_memory};
 ghost use Rattle.lsm_import.specs.Copied.{usual};
-ghost use Rattle.lsm_repair.specs.Reading.{AreRead, ReadsImage, ReadsNext, held_at};
-ghost use Rattle.lsm_repair.specs.declared.left_out.LeftOut.TheVariants.{Unread};
+ghost use Rattle.lsm_repair.specs.Reading.{AreRead, AreUnread, IsUnread, ReadsImage, ReadsNext};
+ghost use Rattle.lsm_repair.specs.Reading.{held_at};
 ghost use Rattle.lsm_repair.specs.declared.mend_fault.MendFault.TheVariants.{OutOfMemory};
 
 use crate::kept_entry::KeptEntry;
 use crate::left_out::LeftOut;
 use crate::mend_fault::MendFault;
 use lsm_inflate::{InflateFault, inflate};
-use lsm_table::{
-    NamedShelf, Naming, Shelf, ShelfFault, Table, TableFault, TableIter, TableOptions,
-};
+use lsm_table::{NamedShelf, Naming, Shelf, Table, TableFault, TableIter, TableOptions};
 use std::alloc::{AllocError, Global};
 use std::sync::Wait;
 
@@ -77,18 +74,6 @@ fn table_of(alloc: Global, packed: &[u8]) -> Result<Option<Table>, InflateFault>
     }
 }
 
-/// A table that the shelf did not give, unless memory ran out.
-fn unread(number: u64, fault: ShelfFault) -> Result<LeftOut, MendFault>
-    ensures left { IfOk result (λ l. l ≡ Unread number fault) }
-    ensures other { OnOk result (fault ≡ shelf.OutOfMemory → ⊥) }
-    ensures memory { IfErr result (λ e. e ≡ OutOfMemory) }
-{
-    match fault {
-        ShelfFault::OutOfMemory => Err(MendFault::OutOfMemory),
-        _ => Ok(LeftOut::Unread(number, fault)),
-    }
-}
-
 /// Whether memory ran out.
 fn is_memory(fault: InflateFault) -> bool
     ensures { result ≡ is_memory fault }
@@ -122,7 +107,10 @@ fn read_image(
             if is_memory(fault) {
                 return Err(MendFault::OutOfMemory);
             }
-            left.push(LeftOut::Broken(number, fault))?;
+            left.push(LeftOut {
+                file: number,
+                fault,
+            })?;
             Ok(())
         }
     }
@@ -130,6 +118,8 @@ fn read_image(
 
 /// Reads the table of this number from a shelf, and adds its entries, or it to those that are left
 /// out.
+///
+/// `Unread` where the shelf does not give it; `OutOfMemory`.
 fn read_table<N: Naming, S: Shelf, R: Wait>(
     rt: &R,
     alloc: Global,
@@ -139,17 +129,14 @@ fn read_table<N: Naming, S: Shelf, R: Wait>(
     left: &mut Vec<LeftOut>,
 ) -> Result<(), MendFault>
     ensures read { OnOk result (ReadsNext
-        (Stored S.Receipt (S.is_of N.place) S.Receipt.number S.Receipt.image) (S.refuses N.place)
+        (Stored S.Receipt (S.is_of N.place) S.Receipt.number S.Receipt.image)
         number entries.old.items entries.new.items left.old.items left.new.items) }
-    ensures memory { IfErr result (λ e. e ≡ OutOfMemory) }
+    ensures refused { IfErr result (IsUnread (S.refuses N.place) number) }
     ensures told { Becomes shelf.old shelf.new }
 {
     match shelf.load(rt, alloc, number) {
         Ok((_receipt, packed)) => read_image(alloc, number, &packed, entries, left),
-        Err(fault) => {
-            left.push(unread(number, fault)?)?;
-            Ok(())
-        }
+        Err(fault) => Err(MendFault::Unread(number, fault)),
     }
 }
 
@@ -161,9 +148,9 @@ pub(crate) fn read_tables<N: Naming, S: Shelf, R: Wait>(
     numbers: &[u64],
 ) -> Result<Found, MendFault>
     ensures read { IfOk result (λ f. AreRead
-        (Stored S.Receipt (S.is_of N.place) S.Receipt.number S.Receipt.image) (S.refuses N.place)
+        (Stored S.Receipt (S.is_of N.place) S.Receipt.number S.Receipt.image)
         numbers.now f.entries.items f.left.items) }
-    ensures memory { IfErr result (λ e. e ≡ OutOfMemory) }
+    ensures refused { IfErr result (AreUnread (S.refuses N.place) numbers.now) }
     ensures told { Becomes shelf.old shelf.new }
 {
     let mut entries: Vec<KeptEntry> = Vec::new(alloc);

@@ -16,7 +16,7 @@ use lsm_verify::CheckFault;
 fn damaged() -> &'static str
     ensures { result.now ≡ damaged }
 {
-    "in the manifest that CURRENT names; LevelDB's RepairDB makes a new one\n"
+    "in the manifest that CURRENT names; lsm repair DIR, or RepairDB, makes a new one\n"
 }
 
 /// Of a shelf that does not give its manifest.
@@ -25,7 +25,7 @@ fn of_shelf(fault: ShelfFault) -> &'static str
 {
     match fault {
         ShelfFault::Missing => {
-            "CURRENT has to name a manifest that is there: echo MANIFEST-N > DIR/CURRENT\n"
+            "lsm repair DIR makes a manifest; to name one: echo MANIFEST-N > DIR/CURRENT\n"
         }
         ShelfFault::OutOfMemory | ShelfFault::Device | ShelfFault::Taken(_) => "",
     }
@@ -64,7 +64,7 @@ fn of_replay(fault: ReplayFault) -> &'static str
             "in the manifest that CURRENT names; lsm manifest prints which comparator it has\n"
         }
         ReplayFault::DoubleFile(_) => {
-            "in the manifest that CURRENT names; open it in LevelDB once more, without a write\n"
+            "in the manifest that CURRENT names; lsm repair DIR, or open it in LevelDB once more\n"
         }
         ReplayFault::NoNextFile | ReplayFault::NoLogNumber | ReplayFault::NoLastSequence => {
             damaged()
@@ -116,13 +116,13 @@ pub fn check_meaning(fault: &CheckFault) -> &'static str
     match fault {
         CheckFault::Read(_, fault) => of_read(*fault),
         CheckFault::Overlap(_) => {
-            "two tables of the level overlap; LevelDB's RepairDB puts all tables at level 0\n"
+            "two tables of the level overlap; lsm repair DIR, or LevelDB's RepairDB, orders them\n"
         }
         CheckFault::WrongRange(_) => {
-            "not the table of which the manifest tells: put that back, or run LevelDB's RepairDB\n"
+            "not the table that the manifest tells of: put that back, lsm repair DIR, or RepairDB\n"
         }
         CheckFault::AgeOrder(_) => {
-            "an older entry lies above a newer one of that key; a compaction in LevelDB orders them\n"
+            "an older entry lies above a newer one: lsm repair DIR, or a compaction in LevelDB\n"
         }
         CheckFault::DoubleFile(_) => "",
     }
@@ -144,7 +144,7 @@ pub(crate) fn meaning_of(fault: &DirectoryFault) -> &'static str
             "the manifest's cut end may name tables; --accept-rest, or no --strict, lets them go\n"
         }
         DirectoryFault::LaterManifest(_) => {
-            "the later manifest may name other tables; no --strict reads what CURRENT names\n"
+            "a later manifest may name other tables; --accept-rest, or no --strict, lets them go\n"
         }
         DirectoryFault::RocksDbFiles => {
             "what RocksDB has in its logs is not read; no --strict reads the tables\n"

@@ -105,11 +105,11 @@ fn write_cure<E: Write>(err: &mut E, highest: Option<u64>) -> io::Result<()> {
     match highest {
         Some(number) => writeln!(
             err,
-            "no CURRENT is there, but MANIFEST-{number:06} is the last manifest: printf 'MANIFEST-{number:06}\\n' > DIR/CURRENT names it again; --begin begins a new database"
+            "no CURRENT is there, but MANIFEST-{number:06} is the last manifest: printf 'MANIFEST-{number:06}\\n' > DIR/CURRENT names it again, lsm repair DIR makes another of the tables; --begin begins a new database"
         ),
         None => writeln!(
             err,
-            "neither CURRENT nor a manifest is there, but tables are: --begin begins a new database"
+            "neither CURRENT nor a manifest is there, but tables are: lsm repair DIR makes one of them, --begin begins a new database"
         ),
     }
 }

@@ -1,9 +1,6 @@
-use Rattle.std.proofs.Common.{List, inl, inr, refl, subst}
-use Rattle.std.specs.Io.KnownBytes.{Appends}
+use Rattle.std.proofs.Common.{inl, inr, refl}
 use Rattle.std.proofs.lemmas.Result.{err_from_is_err_and}
 use Rattle.lsm_directory.proofs.CallerLemmas.{keeps_same}
-use Rattle.lsm_repair.specs.declared.left_out.LeftOut.{LeftOut}
-use Rattle.lsm_cmd_repair.specs.Repaired.{repaired_text}
 use Rattle.lsm_cmd_repair.proofs.program.repair_at.Goals as goal
 
 pub returns-in_err-folder-clause-refused : goal.returns-in_err-folder-clause-refused
@@ -36,6 +33,7 @@ returns-clause-refused g c = inr (
     c.in-Ok.repaired.tables,
     c.in-Ok.repaired.entries,
     c.in-Ok.repaired.left.items,
+    c.in-Ok.repaired.unsure.items,
     record {
       folder = c.in_ok-folder.folder;
       last = c.repair_on.new.folder;
@@ -45,19 +43,19 @@ returns-clause-refused g c = inr (
   ),
 )
 
-pub returns-in-Ok-reply-clause-done : goal.returns-in-Ok-reply-clause-done
-returns-in-Ok-reply-clause-done g c =
+pub returns-in-Ok-tell-clause-done : goal.returns-in-Ok-tell-clause-done
+returns-in-Ok-tell-clause-done g c =
     let r = c.in-Ok.repaired in (
       r.tables,
       r.entries,
       r.left.items,
+      r.unsure.items,
       record {
         folder = c.in_ok-folder.folder;
         last = c.repair_on.new.folder;
         opened = c.in_ok-folder.ensures.opened;
         repaired = c.in-Ok.ensures.done;
       },
-      subst (λ (l : List LeftOut). Appends (g.O.Write.contents c.args.out.now)
-          (g.O.Write.contents c.reply.new.out) (repaired_text r.tables r.entries l))
-          c.deref.ensures.value c.in-Ok-reply.ensures,
+      c.in-Ok-tell.ensures.lines,
+      c.in-Ok-tell.ensures.notes,
     )

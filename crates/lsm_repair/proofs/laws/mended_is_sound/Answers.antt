@@ -5,8 +5,9 @@ use Rattle.lsm_repair.proofs.MendLaws.{is_shape, sound_one}
 use Rattle.lsm_repair.proofs.laws.mended_is_sound.Goals as goal
 
 pub returns-clause-replayed : goal.returns-clause-replayed
-returns-clause-replayed c = λ number last image.
-    c.whole_edit_replays.ensures.replays (shape_of number image last) (is_shape number image last)
+returns-clause-replayed c = λ number last logs image.
+    c.whole_edit_replays.ensures.replays (shape_of number image logs last)
+    (is_shape number image logs last)
 
 pub returns-clause-sound : goal.returns-clause-sound
 returns-clause-sound c = λ number last made image i reached.

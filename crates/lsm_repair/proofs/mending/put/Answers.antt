@@ -1,5 +1,5 @@
 use Rattle.std.proofs.Common.{ap, length}
-use Rattle.lsm_repair.proofs.MendLaws.{file_from, short_from, unput_from}
+use Rattle.lsm_repair.proofs.MendLaws.{file_from, puts_one, puts_same, short_from, unput_from}
 use Rattle.lsm_repair.proofs.mending.put.Goals as goal
 
 pub returns-clause-file : goal.returns-clause-file
@@ -18,3 +18,12 @@ returns-clause-refused g c =
     unput_from (g.S.Shelf.refuses g.N.Naming.place) c.file_of.result c.args.number
     c.in-Ok.table.smallest c.in-Ok.table.largest c.args.image c.file_of.ensures.long
     c.in-Ok.ensures.smallest c.in-Ok.ensures.largest
+
+pub returns-clause-at_most : goal.returns-clause-at_most
+returns-clause-at_most g c =
+    puts_one c.args.number c.args.image.bytes c.args.shelf.now c.put_alone.new.shelf
+    c.in-Ok.ensures.ok
+
+pub returns-in-Err-clause-at_most : goal.returns-in-Err-clause-at_most
+returns-in-Err-clause-at_most g c =
+    puts_same c.args.number c.args.shelf.now c.put_alone.new.shelf c.in-Err.ensures.err

@@ -9,7 +9,7 @@ abbrev pub invariant-loop-number : goal.invariant-loop-number
 invariant-loop-number g l = record {
   read : AreRead (Stored g.row.S-Receipt.Denot (g.S.Shelf.is_of g.N.Naming.place)
       g.S.Receipt.TableReceipt.number g.S.Receipt.TableReceipt.image)
-      (g.S.Shelf.refuses g.N.Naming.place) (take l.number-index l.numbers)
+      (take l.number-index l.numbers)
       l.entries.items l.left.items;
   told : Becomes l.fn.shelf l.shelf;
 }
