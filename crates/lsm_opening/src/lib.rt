@@ -24,6 +24,9 @@ mod quick;
 mod reading;
 mod starting;
 
+// What holds of it.
+mod laws;
+
 // What is removed behind workers.
 mod sweeping;
 
@@ -33,6 +36,7 @@ mod faults;
 pub use faults::compact_fault::CompactFault;
 pub use faults::writer_fault::WriterFault;
 pub use holding::held_shelf;
+pub use laws::quick_openings_are_whole;
 pub use names::{is_temporary, manifest_in, table_in};
 pub use obsolete::is_obsolete;
 pub use parts::NewParts;
