@@ -3,3 +3,4 @@ mod Numbers
 mod SpareFiles
 mod SpareLaws
 mod RunLaws
+mod QuickOutcomes

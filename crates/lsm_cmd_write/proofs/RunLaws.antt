@@ -14,9 +14,9 @@ use Rattle.lsm_requests.specs.declared.clean_options.CleanOptions.{CleanOptions}
 use Rattle.lsm_requests.specs.declared.ingest_options.IngestOptions.{IngestOptions}
 use Rattle.lsm_cmd_write.specs.Cleaning.{HasNone, IsCleaned, IsKept, IsUncleaned, IsUnkept, Needs}
 use Rattle.lsm_directory.specs.Folders.{IsShelfAt, stored_at, told_by}
-use Rattle.lsm_cmd_write.specs.Ingesting.{IsBroughtIn, IsIngestFault}
+use Rattle.lsm_cmd_write.specs.Ingesting.{BringsIn, KeepsOut}
 use Rattle.lsm_opening.specs.Preparing.{IsPrepared}
-use Rattle.lsm_cmd_write.specs.Ingested.{ComesInAt, FailsToBringIn}
+use Rattle.lsm_cmd_write.specs.Ingested.{ComesInAt, FailsToBringIn, kept_at}
 use Rattle.lsm_cmd_write.specs.Cleaned.{FailsToClean, IsCleanedAt}
 use Rattle.lsm_cmd_write.specs.declared.cleaning.kept.Kept.{Kept}
 use Rattle.lsm_opening.specs.declared.faults.writer_fault.WriterFault.{WriterFault}
@@ -27,11 +27,16 @@ use Rattle.lsm_opening.specs.declared.prepared.Start.{Start}
 module _ {C M : Type 0} (folders : Ghosts C M) where
   -- ---- what was done on it
 
-  pub comes_in_at : {T F : Type 0} (r : Result T F) (path : List ℕ) (options : IngestOptions) (ws : List Write) (start : Start) (logs : List FolderFile) (begun ended : FileShelf C M)
+  pub comes_in_at : {T F : Type 0} (r : Result T F)
+      (holds : Place → (name image : List ℕ) → Type 0) (path : List ℕ) (options : IngestOptions)
+      (ws : List Write) (start : Start) (logs : List FolderFile) (begun ended : FileShelf C M)
       (old new : Option (List ℕ)) → IsShelfAt folders path (IsPrepared options start logs) begun
-      → OnOk r (IsBroughtIn (AreHonest folders.calls) start logs ws (told_by folders begun) (told_by folders ended) old new) → OnOk r (ComesInAt folders path options ws old new)
-  comes_in_at (Ok x) path options ws start logs begun ended old new on done = record { start = start; logs = logs; begun = begun; on = on; ended = ended; done = done }
-  comes_in_at (Err e) path options ws start logs begun ended old new on done = tt
+      → OnOk r (BringsIn start options.quick (kept_at holds (told_by folders begun).place)
+      (AreHonest folders.calls) logs ws (told_by folders begun) (told_by folders ended) old new)
+      → OnOk r (ComesInAt folders holds path options ws old new)
+  comes_in_at (Ok x) holds path options ws start logs begun ended old new on done =
+      record { start = start; logs = logs; begun = begun; on = on; ended = ended; done = done }
+  comes_in_at (Err e) holds path options ws start logs begun ended old new on done = tt
 
   pub cleans_at : {T F : Type 0} (r : Result T F) (path : List ℕ) (options : CleanOptions) (begun ended : C) (old new : Option (List ℕ)) → IsAtPath path (folders.place begun)
       → folders.calls begun ≡ opened ∷ [] → folders.place ended ≡ folders.place begun
@@ -55,13 +60,29 @@ module _ {C M : Type 0} (folders : Ghosts C M) (marks : mark.Ghosts M) where
   has_none (Err e) place was shelf new unkept =
       inr (shelf, subst (λ (t : Told). IsUnkept (stored_at folders marks t.place) MayRefuse (AreHonest folders.calls) e t (told_by folders shelf)) new unkept)
 
-  pub fails_to_bring_in : {T : Type 0} (r : Result T WriterFault) (path : List ℕ) (options : IngestOptions) (ws : List Write) (start : Start) (logs : List FolderFile)
-      (begun ended : FileShelf C M) (old new : Option (List ℕ)) → IsShelfAt folders path (IsPrepared options start logs) begun
-      → IfErr r (λ e. IsIngestFault (stored_at folders marks (told_by folders begun).place) MayRefuse (AreHonest folders.calls) start logs ws e (told_by folders begun) (told_by folders ended))
-      → IfErr r (λ e. e ≢ WriteFault → Keeps old new) → OnErr r (FailsToBringIn folders marks path options ws old new)
-  fails_to_bring_in (Ok x) path options ws start logs begun ended old new on says left = tt
-  fails_to_bring_in (Err e) path options ws start logs begun ended old new on says left =
-      inr (e, record { start = start; logs = logs; begun = begun; on = on; ended = ended; refused = record { says = says; left = left } })
+  pub fails_to_bring_in : {T : Type 0} (r : Result T WriterFault)
+      (holds : Place → (name image : List ℕ) → Type 0) (path : List ℕ) (options : IngestOptions)
+      (ws : List Write) (start : Start) (logs : List FolderFile) (begun ended : FileShelf C M)
+      (old new : Option (List ℕ)) → IsShelfAt folders path (IsPrepared options start logs) begun
+      → IfErr r (λ e. KeepsOut start options.quick (kept_at holds (told_by folders begun).place)
+      (stored_at folders marks (told_by folders begun).place) MayRefuse (AreHonest folders.calls)
+      logs ws e (told_by folders begun) (told_by folders ended))
+      → IfErr r (λ e. e ≢ WriteFault → Keeps old new)
+      → OnErr r (FailsToBringIn folders marks holds path options ws old new)
+  fails_to_bring_in (Ok x) holds path options ws start logs begun ended old new on says left = tt
+  fails_to_bring_in (Err e) holds path options ws start logs begun ended old new on says left =
+      inr (
+        e,
+        record {
+          start = start;
+          logs = logs;
+          begun = begun;
+          on = on;
+          ended = ended;
+          says = says;
+          left = left;
+        },
+      )
 
   pub fails_to_clean : {T : Type 0} (r : Result T WriterFault) (path : List ℕ) (options : CleanOptions) (begun ended : C) (old new : Option (List ℕ)) → IsAtPath path (folders.place begun)
       → folders.calls begun ≡ opened ∷ [] → folders.place ended ≡ folders.place begun

@@ -3,11 +3,13 @@
 pub(crate) mod batch_input;
 pub(crate) mod one_write;
 pub(crate) mod program;
+pub(crate) mod quick;
 
 ghost use Rattle.std.specs.Prelude.{◌≡◌, ◌≢◌, IfErr, OnOk};
 ghost use Rattle.std.specs.Io.KnownBytes.{Appends, Keeps};
 ghost use Rattle.lsm_shelf.specs.Stored.{Stored};
-ghost use Rattle.lsm_cmd_write.specs.Ingesting.{IsBroughtIn, IsIngestFault, ingest_text};
+ghost use Rattle.lsm_cmd_write.specs.Ingesting.{IsBroughtBehind, IsBroughtIn, IsFaultBehind};
+ghost use Rattle.lsm_cmd_write.specs.Ingesting.{IsIngestFault, ingest_text};
 ghost use Rattle.lsm_opening.specs.Parts.{AreOf, usual};
 ghost use Rattle.lsm_opening.specs.declared.faults.writer_fault.WriterFault.TheVariants.{Write as WriteFault};
 
@@ -31,6 +33,30 @@ fn reply<O: Write>(out: &mut O, ingested: Ingested) -> io::Result<()>
     out.flush()
 }
 
+/// Brings a batch into the database of this state, and writes the reply.
+pub(crate) fn bring_in_opened<N: Boarded, S: Shelf, R: Wait, O: Write>(
+    rt: &R,
+    alloc: Global,
+    shelf: &mut NamedShelf<N, S>,
+    state: State<N, S>,
+    batch: &Batch,
+    out: &mut O,
+) -> Result<(), WriterFault>
+    ensures done { OnOk result (IsBroughtBehind state batch.now shelf.old shelf.new
+        (O.contents out.old) (O.contents out.new)) }
+    ensures fault { IfErr result (λ e.
+        IsFaultBehind (S.refuses N.place) state batch.now e shelf.old shelf.new) }
+    ensures left { IfErr result (λ e. e ≢ WriteFault
+        → Keeps (O.contents out.old) (O.contents out.new)) }
+{
+    let mut state = state;
+    let ingested = state.ingest(rt, alloc, shelf, batch)?;
+    match reply(out, ingested) {
+        Ok(()) => Ok(()),
+        Err(_) => Err(WriterFault::Write),
+    }
+}
+
 /// Begins or opens the directory of a shelf, brings a batch in, and writes the reply.
 fn bring_in_named<N: Boarded, S: Shelf, R: Wait, O: Write>(
     rt: &R,
@@ -50,12 +76,8 @@ fn bring_in_named<N: Boarded, S: Shelf, R: Wait, O: Write>(
     ensures left { IfErr result (λ e. e ≢ WriteFault
         → Keeps (O.contents out.old) (O.contents out.new)) }
 {
-    let mut state: State<N, S> = start(rt, alloc, shelf, prepared, parts)?;
-    let ingested = state.ingest(rt, alloc, shelf, batch)?;
-    match reply(out, ingested) {
-        Ok(()) => Ok(()),
-        Err(_) => Err(WriterFault::Write),
-    }
+    let state: State<N, S> = start(rt, alloc, shelf, prepared, parts)?;
+    bring_in_opened(rt, alloc, shelf, state, batch, out)
 }
 
 /// The same under the name that was picked for the parts and the shelf, which is given back.

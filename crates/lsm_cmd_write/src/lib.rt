@@ -10,6 +10,10 @@
 mod cleaning;
 mod ingesting;
 
+// What holds of them.
+mod laws;
+
 pub use cleaning::program::{clean, run_clean};
 pub use ingesting::batch_input::read_batch;
 pub use ingesting::program::{ingest, run_ingest, run_write};
+pub use laws::quick_batches_are_whole;

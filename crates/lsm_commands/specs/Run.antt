@@ -81,18 +81,20 @@ module _ {C M : Type 0} (folders : Ghosts C M) (marks : mark.Ghosts M) where
   StaysBefore (Some (path, begins)) = (fault : BringFault)
       × FailsFirst folders marks false begins path fault
 
-module _ {C M : Type 0} (folders : Ghosts C M) where
+-- `holds` says of a folder's place which bytes a file of a name holds there.
+module _ {C M : Type 0} (folders : Ghosts C M)
+    (holds : Place → (name image : List ℕ) → Type 0) where
   -- ---- ingest, put, delete, clean
 
   -- a batch came in, that of one write too; or the folder was cleaned
   abbrev pub IsWritten : (Input → Option (List ℕ)) → List ℕ → WritingCommand
       → (old new : Option (List ℕ)) → Type 0
   IsWritten text path (Ingest input options) old new =
-      IsIngested folders path options (text input) old new
-  IsWritten text path (WriteKey w options) old new = ComesInAt folders path options (w ∷ []) old new
+      IsIngested folders holds path options (text input) old new
+  IsWritten text path (WriteKey w options) old new =
+      ComesInAt folders holds path options (w ∷ []) old new
   IsWritten text path (Clean options) old new = IsCleanedAt folders path options old new
 
--- `holds` says of a folder's place which bytes a file of a name holds there.
 module _ {C M : Type 0} (folders : Ghosts C M) (marks : mark.Ghosts M)
     (holds : Place → (name image : List ℕ) → Type 0) where
   -- ---- what status 0 means
@@ -107,7 +109,7 @@ module _ {C M : Type 0} (folders : Ghosts C M) (marks : mark.Ghosts M)
   IsDone text (Levels line) old new said_old said_new =
       LaysOutAt folders line old new said_old said_new
   IsDone text (WriteFolder line) old new said_old said_new =
-      IsWritten folders text line.path.now line.command old new × Keeps said_old said_new
+      IsWritten folders holds text line.path.now line.command old new × Keeps said_old said_new
   IsDone text (Load line) old new said_old said_new =
       LoadsAt folders line.path.now line.options (text line.input) old new
       × (IsFalse line.options.progress → Keeps said_old said_new)
@@ -157,14 +159,15 @@ AreHelped words old new said_old said_new =
 
 -- ---- what status 1 means
 
-module _ {C M : Type 0} (folders : Ghosts C M) (marks : mark.Ghosts M) where
+module _ {C M : Type 0} (folders : Ghosts C M) (marks : mark.Ghosts M)
+    (holds : Place → (name image : List ℕ) → Type 0) where
   -- neither a batch came in, and was told, nor was the folder cleaned
   abbrev pub IsUnwritten : (Input → Option (List ℕ)) → List ℕ → WritingCommand
       → (old new : Option (List ℕ)) → Type 0
   IsUnwritten text path (Ingest input options) old new =
-      IsUningested folders marks path options (text input) old new
+      IsUningested folders marks holds path options (text input) old new
   IsUnwritten text path (WriteKey w options) old new =
-      FailsToBringIn folders marks path options (w ∷ []) old new
+      FailsToBringIn folders marks holds path options (w ∷ []) old new
   IsUnwritten text path (Clean options) old new =
       (fault : WriterFault) × FailsToClean folders marks path options fault old new
 
@@ -178,7 +181,7 @@ module _ {C M : Type 0} (folders : Ghosts C M) (marks : mark.Ghosts M)
   IsUndone text (Levels line) old new =
       (fault : DirectoryFault) × FailsToLayOut folders line fault old new
   IsUndone text (WriteFolder line) old new =
-      IsUnwritten folders marks text line.path.now line.command old new
+      IsUnwritten folders marks holds text line.path.now line.command old new
   IsUndone text (Load line) old new =
       FailsToLoad folders marks line.path.now line.options (text line.input) old new
   IsUndone text (Import line) old new =

@@ -82,17 +82,17 @@ fn run_writing<C, P, R, I, O, E>(
     err: &mut E,
 ) -> u8
 where
-    C: FolderCalls + Send + Sync,
+    C: FindingCalls + Send + Sync,
     C::Mark: Send + Sync,
     P: Paths<C>,
     R: Wait,
     I: Read,
     O: Write,
     E: Write,
-    ensures done { result ≡ 0 → IsWritten C.FolderCalls
+    ensures done { result ≡ 0 → IsWritten C.FolderCalls C.holds
         (text_in (I.remaining input.old) (P.text paths.now)) line.now.path.now line.now.command
         (O.contents out.old) (O.contents out.new) }
-    ensures refused { result ≢ 0 → (result ≡ 1) × IsUnwritten C.FolderCalls C.Mark.Mark
+    ensures refused { result ≢ 0 → (result ≡ 1) × IsUnwritten C.FolderCalls C.Mark.Mark C.holds
         (text_in (I.remaining input.old) (P.text paths.now)) line.now.path.now line.now.command
         (O.contents out.old) (O.contents out.new) }
     ensures quiet { result ≡ 0 → Keeps (E.contents err.old) (E.contents err.new) }

@@ -190,17 +190,17 @@ scan =
 
 unfoldable pub ingest : App
 ingest = command (codes "ingest")
-    (folder ∷ word (codes "FILE") ∷ text ∷ begin ∷ beside_log ∷ recovers ∷ strict ∷ compare ∷ wait
-    ∷ [])
+    (folder ∷ word (codes "FILE") ∷ text ∷ begin ∷ beside_log ∷ recovers ∷ quick ∷ strict
+    ∷ compare ∷ wait ∷ [])
 
 unfoldable pub put : App
 put = command (codes "put")
-    (folder ∷ key ∷ word (codes "VALUE") ∷ text ∷ begin ∷ beside_log ∷ recovers ∷ strict ∷ compare
-    ∷ wait ∷ [])
+    (folder ∷ key ∷ word (codes "VALUE") ∷ text ∷ begin ∷ beside_log ∷ recovers ∷ quick ∷ strict
+    ∷ compare ∷ wait ∷ [])
 
 unfoldable pub delete : App
 delete = command (codes "delete")
-    (folder ∷ key ∷ text ∷ begin ∷ beside_log ∷ recovers ∷ strict ∷ compare ∷ wait ∷ [])
+    (folder ∷ key ∷ text ∷ begin ∷ beside_log ∷ recovers ∷ quick ∷ strict ∷ compare ∷ wait ∷ [])
 
 unfoldable pub load : App
 load = command (codes "load") (folder ∷ file ∷ text ∷ begin ∷ beside_log ∷ recovers ∷ workers

@@ -308,6 +308,7 @@ abbrev pub AreIngestOptions : List Row → IngestOptions → Type 0
 AreIngestOptions rows options =
     (options.form ≡ form_in rows) × (options.begins ≡ is_set (codes "begin") rows)
     × (options.beside_log ≡ is_set (codes "beside-log") rows)
+    × (options.quick ≡ is_set (codes "quick") rows)
 
 abbrev pub AreLoadOptions : List Row → LoadOptions → Type 0
 AreLoadOptions rows options =

@@ -82,6 +82,7 @@ fn ingest_options_in(found: &ArgMatches<'_>) -> IngestOptions
         form: form_in(found),
         begins: is_set(found, "begin"),
         beside_log: is_set(found, "beside-log"),
+        quick: is_set(found, "quick"),
     }
 }
 

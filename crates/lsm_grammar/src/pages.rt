@@ -303,7 +303,7 @@ before it stand, 2 bad command line.",
 const INGEST: Page = Page {
     name: "ingest",
     arguments: &[
-        FOLDER, BATCH, TEXT, BEGIN, BESIDE_LOG, RECOVERS, NO_NOTES, COMPARE, WAIT,
+        FOLDER, BATCH, TEXT, BEGIN, BESIDE_LOG, RECOVERS, QUICK, NO_NOTES, COMPARE, WAIT,
     ],
     about: "Brings keys into a folder, or begins a database there",
     text: "Brings the keys of FILE into the LevelDB folder DIR, as one table at level 0,
@@ -338,6 +338,9 @@ then done whatever comes of the batch. With --beside-log the batch comes in all
 the same; what stands in the log may then win over it in LevelDB, and be newer
 or older than it.
 
+With --quick no table is verified first: of each its end alone is read. Where one
+is damaged the batch comes in all the same, and `check` tells of the damage.
+
 Another program that has DIR open is `refused 52 Locked`. Each run that opens or
 begins a database begins a new manifest, also where the batch is then refused,
 and first removes those that CURRENT does not name. At 12 tables in level 0 the
@@ -351,7 +354,7 @@ fault` the batch is in; after `refused 9 Device` it may be.",
 const PUT: Page = Page {
     name: "put",
     arguments: &[
-        FOLDER, KEY, VALUE, TEXT, BEGIN, BESIDE_LOG, RECOVERS, NO_NOTES, COMPARE, WAIT,
+        FOLDER, KEY, VALUE, TEXT, BEGIN, BESIDE_LOG, RECOVERS, QUICK, NO_NOTES, COMPARE, WAIT,
     ],
     about: "Gives a key of a folder a value",
     text: "Gives KEY the value VALUE in the LevelDB folder DIR, as one table at level 0, and
@@ -379,7 +382,7 @@ Exit status: 0 the key has the value, 1 refused, 2 bad command line. After a
 const DELETE: Page = Page {
     name: "delete",
     arguments: &[
-        FOLDER, KEY, TEXT, BEGIN, BESIDE_LOG, RECOVERS, NO_NOTES, COMPARE, WAIT,
+        FOLDER, KEY, TEXT, BEGIN, BESIDE_LOG, RECOVERS, QUICK, NO_NOTES, COMPARE, WAIT,
     ],
     about: "Deletes a key of a folder",
     text: "Deletes KEY in the LevelDB folder DIR, whether it has a value or not, by one

@@ -24,14 +24,14 @@ fn usage(name: CommandName) -> &'static str {
              [--keys] [--json] [--count] [--logs] [--inflate] [--quick] [--strict] [--compare] \
              [--progress] [--wait <SECONDS>]",
         CommandName::Ingest =>
-            "lsm ingest <DIR> <FILE> [--text] [--begin] [--beside-log] [--recover] [--strict] \
-             [--compare] [--wait <SECONDS>]",
+            "lsm ingest <DIR> <FILE> [--text] [--begin] [--beside-log] [--recover] [--quick] \
+             [--strict] [--compare] [--wait <SECONDS>]",
         CommandName::Put =>
-            "lsm put <DIR> <KEY> <VALUE> [--text] [--begin] [--beside-log] [--recover] [--strict] \
-             [--compare] [--wait <SECONDS>]",
+            "lsm put <DIR> <KEY> <VALUE> [--text] [--begin] [--beside-log] [--recover] [--quick] \
+             [--strict] [--compare] [--wait <SECONDS>]",
         CommandName::Delete =>
-            "lsm delete <DIR> <KEY> [--text] [--begin] [--beside-log] [--recover] [--strict] \
-             [--compare] [--wait <SECONDS>]",
+            "lsm delete <DIR> <KEY> [--text] [--begin] [--beside-log] [--recover] [--quick] \
+             [--strict] [--compare] [--wait <SECONDS>]",
         CommandName::Load =>
             "lsm load <DIR> [FILE] [--text] [--begin] [--beside-log] [--recover] [--workers <N>] \
              [--from-line <I>] [--last-line] [--json] [--strict] [--compare] [--progress] \

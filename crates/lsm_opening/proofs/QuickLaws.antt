@@ -1,10 +1,12 @@
 -- States whose databases are opened quickly.
-use Rattle.std.proofs.Common.{◌≡◌, ℕ, List, inr, subst}
+use Rattle.std.proofs.Common.{◌≡◌, ◌∙◌, ℕ, List, ap, inr, subst, sym}
 use Rattle.std.specs.Prelude.{Result, Ok, Err, IfOk, IfErr}
 use Rattle.lsm_shelf.specs.Asked.{Asked}
 use Rattle.lsm_shelf.specs.declared.shelf_fault.ShelfFault.{ShelfFault}
-use Rattle.lsm_shelf.specs.Told.{Told}
+use Rattle.lsm_shelf.specs.Told.{Told, finding}
+use Rattle.lsm_table.proofs.CallerLemmas.{becomes_same}
 use Rattle.lsm_manifest.specs.Shape.{Form}
+use Rattle.lsm_journal.specs.HeldManifest.{HeldManifest}
 use Rattle.lsm_journal.specs.declared.open_fault.OpenFault.{OpenFault}
 use Rattle.lsm_admission.specs.Indexes.{HaveIndexes, all_tables}
 use Rattle.lsm_state.specs.Held.{Held}
@@ -14,7 +16,7 @@ use Rattle.lsm_state.specs.declared.options.Options.{Options}
 use Rattle.lsm_directory.specs.Logs.{NoneUnread}
 use Rattle.lsm_directory.specs.declared.folder.folder_file.FolderFile.{FolderFile}
 use Rattle.lsm_opening.specs.Quick.{IsNotOpenedQuickly, IsOpenedWith, OpensQuickly}
-use Rattle.lsm_opening.specs.Starting.{IsReopenedWith}
+use Rattle.lsm_opening.specs.Starting.{IsReopenedWith, OpensWith}
 use Rattle.lsm_opening.specs.WriterFault.{of_open}
 use Rattle.lsm_opening.specs.declared.faults.writer_fault.WriterFault.{WriterFault}
 
@@ -51,3 +53,60 @@ refused_quickly (Err e) Keeps Refused Honest p o shape logs was is same (fault, 
       subst (λ (q : Options). IsUnjudgedRefusal Keeps Refused Honest shape (limit_of q) fault was
           is) same why,
     ))
+
+-- ---- where the tables are kept
+
+pub opens_whole : (Keeps : ℕ → List ℕ → Type 0) (Honest Kept : Type 0) (o : Options) (shape : Form)
+    (logs : List FolderFile) (h : Held) (was is : Told) → Honest → Kept
+    → OpensQuickly Keeps Honest Kept o shape logs h was is
+    → OpensWith (Honest × Kept) o logs h was is
+opens_whole Keeps Honest Kept o shape logs h was is honest kept q =
+    let w = q.judged honest kept in
+    let b = w.begun in
+    let f = b.found in
+    let a = q.begun in
+    let x = a.anew.rolls in
+    let y = b.rolls in
+    let log : shape.log ≡ f.shape.log = sym a.admitted.recovered.log
+    ∙ (sym (ap (λ (m : HeldManifest). m.log) x.held) ∙ ap (λ (m : HeldManifest). m.log) y.held)
+    ∙ f.loaded.recovered.log in
+    let prev : shape.prev_log ≡ f.shape.prev_log = sym a.admitted.recovered.prev_log
+    ∙ (sym (ap (λ (m : HeldManifest). m.prev_log) x.held)
+    ∙ ap (λ (m : HeldManifest). m.prev_log) y.held)
+    ∙ f.loaded.recovered.prev_log in
+    let mid : Told = finding b.before.number b.before.bytes was in
+    record {
+      mid = mid;
+      found = record {
+        held = b.before;
+        shape = f.shape;
+        rest = b.rest;
+        recovered = f.loaded.recovered;
+        told = becomes_same mid;
+        holds = subst (λ (n : ℕ). NoneUnread n f.shape.prev_log logs) log
+            (subst (λ (n : ℕ). NoneUnread shape.log n logs) prev q.flushed);
+      };
+      opened = record {
+        publisher = w.publisher;
+        pinners = w.pinners;
+        state = w.state;
+        begun = record {
+          before = b.before;
+          rest = b.rest;
+          number = b.number;
+          read = b.read;
+          found = record {
+            shape = f.shape;
+            listed = f.listed;
+            loaded = f.loaded;
+            limit_is = f.limit_is;
+            least = f.least;
+            fits = f.fits;
+            told = f.told;
+          };
+          rolls = b.rolls;
+          after = b.after;
+          fits = b.fits;
+        };
+      };
+    }

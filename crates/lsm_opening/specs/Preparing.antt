@@ -25,7 +25,7 @@ use Rattle.lsm_opening.specs.declared.faults.writer_fault.WriterFault.TheVariant
 
 -- a database is begun only where no file of one is, and logs are looked at
 abbrev pub plainly : IngestOptions
-plainly = record { form = Hex; begins = false; beside_log = false }
+plainly = record { form = Hex; begins = false; beside_log = false; quick = false }
 
 -- At which logs is looked, by their sizes: where it may not be begun or opened beside a log, at all
 -- that these names name; and else at none.

@@ -25,6 +25,9 @@ mod quick;
 mod reading;
 mod starting;
 
+// What holds of it.
+mod laws;
+
 // What is removed behind workers.
 mod sweeping;
 
@@ -35,6 +38,7 @@ pub use faults::compact_fault::CompactFault;
 pub use faults::writer_fault::WriterFault;
 pub use holding::held_shelf;
 pub use later::refuse_later;
+pub use laws::quick_openings_are_whole;
 pub use names::{is_temporary, manifest_in, table_in};
 pub use obsolete::is_obsolete;
 pub use parts::NewParts;

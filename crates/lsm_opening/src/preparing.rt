@@ -20,7 +20,7 @@ use std::alloc::Global;
 use std::sync::Wait;
 
 /// How a folder is looked at that is no word's: a database is begun only where no file of one is,
-/// and logs are looked at.
+/// logs are looked at, and tables are judged.
 pub fn plainly() -> IngestOptions
     ensures { result ≡ plainly }
 {
@@ -28,6 +28,7 @@ pub fn plainly() -> IngestOptions
         form: Form::Hex,
         begins: false,
         beside_log: false,
+        quick: false,
     }
 }
 

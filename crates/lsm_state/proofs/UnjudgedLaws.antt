@@ -48,14 +48,6 @@ own_version (Ok t) o publisher pinners v e = e
     (sym (ap (λ (x : Held). x.slots.version) e))
 own_version (Err x) o publisher pinners v e = tt
 
--- what holds of its version
-pub of_version : {E : Type 0} (P : Levels → Type 0) (r : Result Held E) (o : Options)
-    (publisher : Known) (pinners : List Known) (v : Levels)
-    → IfOk r (λ t. t ≡ opened_state o publisher pinners v t.journal t.next false) → P v
-    → IfOk r (λ t. P t.slots.version)
-of_version P (Ok t) o publisher pinners v e p = subst P (sym (ap (λ (x : Held). x.slots.version) e)) p
-of_version P (Err x) o publisher pinners v e p = tt
-
 -- a refusal to begin is one of what it began with
 pub refused_of : {T : Type 0} (r : Result T OpenFault) (P Q : OpenFault → Type 0)
     → ((e : OpenFault) → P e → Q e) → IfErr r P → IfErr r Q

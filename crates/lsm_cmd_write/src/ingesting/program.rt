@@ -11,9 +11,10 @@ ghost use Rattle.lsm_opening.specs.declared.faults.writer_fault.WriterFault.{Wri
 use crate::ingesting::batch_input::read_batch;
 use crate::ingesting::bring_in;
 use crate::ingesting::one_write::batch_of;
+use crate::ingesting::quick::bring_in_as_said;
 use lsm_batch::{Batch, Write as KeyWrite};
 use lsm_directory::{Known, Paths, Unopened, open_at, refuse, status_of};
-use lsm_folder::{FolderCalls, Reasons};
+use lsm_folder::{FindingCalls, Reasons};
 use lsm_opening::{Prepared, WriterFault, prepare};
 use lsm_requests::{IngestOptions, Input};
 use lsm_storage::FileShelf;
@@ -57,7 +58,7 @@ pub fn ingest<S: Shelf, R: Wait, O: Write, E: Write>(
 }
 
 /// Brings a batch into the folder at a path.
-fn ingest_at<C: FolderCalls + Send + Sync, P: Paths<C>, R: Wait, O: Write>(
+fn ingest_at<C: FindingCalls + Send + Sync, P: Paths<C>, R: Wait, O: Write>(
     rt: &R,
     paths: &P,
     path: &str,
@@ -68,15 +69,23 @@ fn ingest_at<C: FolderCalls + Send + Sync, P: Paths<C>, R: Wait, O: Write>(
 ) -> Result<(), WriterFault>
 where
     C::Mark: Send + Sync,
-    ensures done { OnOk result (ComesInAt C.FolderCalls path.now options batch.now
+    ensures done { OnOk result (ComesInAt C.FolderCalls C.holds path.now options batch.now
         (O.contents out.old) (O.contents out.new)) }
-    ensures refused { OnErr result (FailsToBringIn C.FolderCalls C.Mark.Mark path.now options
-        batch.now (O.contents out.old) (O.contents out.new)) }
+    ensures refused { OnErr result (FailsToBringIn C.FolderCalls C.Mark.Mark C.holds path.now
+        options batch.now (O.contents out.old) (O.contents out.new)) }
 {
     let mut folder = open_at(paths, path, reasons)?;
     let prepared = prepare(rt, paths.alloc(), &mut folder, options)?;
     let shelf = FileShelf::over(folder);
-    let (done, _shelf) = bring_in(rt, paths.alloc(), shelf, &prepared, batch, out);
+    let (done, _shelf) = bring_in_as_said(
+        rt,
+        paths.alloc(),
+        shelf,
+        &prepared,
+        options.quick,
+        batch,
+        out,
+    );
     done
 }
 
@@ -92,16 +101,16 @@ pub fn run_write<C, P, R, O, E>(
     err: &mut E,
 ) -> u8
 where
-    C: FolderCalls + Send + Sync,
+    C: FindingCalls + Send + Sync,
     C::Mark: Send + Sync,
     P: Paths<C>,
     R: Wait,
     O: Write,
     E: Write,
-    ensures done { result ≡ 0 → ComesInAt C.FolderCalls path.now options (write.now ∷ [])
+    ensures done { result ≡ 0 → ComesInAt C.FolderCalls C.holds path.now options (write.now ∷ [])
         (O.contents out.old) (O.contents out.new) }
     ensures refused { result ≢ 0 → (result ≡ 1) × FailsToBringIn C.FolderCalls C.Mark.Mark
-        path.now options (write.now ∷ []) (O.contents out.old) (O.contents out.new) }
+        C.holds path.now options (write.now ∷ []) (O.contents out.old) (O.contents out.new) }
     ensures quiet { result ≡ 0 → Keeps (E.contents err.old) (E.contents err.new) }
 {
     let reasons = match Reasons::new(paths.alloc()) {
@@ -132,17 +141,17 @@ fn ingest_from<C, P, R, I, O, E>(
     err: &mut E,
 ) -> u8
 where
-    C: FolderCalls + Send + Sync,
+    C: FindingCalls + Send + Sync,
     C::Mark: Send + Sync,
     P: Paths<C>,
     R: Wait,
     I: Read,
     O: Write,
     E: Write,
-    ensures done { result ≡ 0 → IsIngested C.FolderCalls path.now options
+    ensures done { result ≡ 0 → IsIngested C.FolderCalls C.holds path.now options
         (I.remaining input.old) (O.contents out.old) (O.contents out.new) }
     ensures refused { result ≢ 0 → (result ≡ 1) × IsUningested C.FolderCalls C.Mark.Mark
-        path.now options (I.remaining input.old) (O.contents out.old) (O.contents out.new) }
+        C.holds path.now options (I.remaining input.old) (O.contents out.old) (O.contents out.new) }
     ensures quiet { result ≡ 0 → Keeps (E.contents err.old) (E.contents err.new) }
 {
     let reasons = match Reasons::new(paths.alloc()) {
@@ -174,19 +183,20 @@ pub fn run_ingest<C, P, R, I, O, E>(
     err: &mut E,
 ) -> u8
 where
-    C: FolderCalls + Send + Sync,
+    C: FindingCalls + Send + Sync,
     C::Mark: Send + Sync,
     P: Paths<C>,
     R: Wait,
     I: Read,
     O: Write,
     E: Write,
-    ensures done { result ≡ 0 → IsIngested C.FolderCalls path.now options
+    ensures done { result ≡ 0 → IsIngested C.FolderCalls C.holds path.now options
         (text_in (I.remaining standard.old) (P.text paths.now) found.entry)
         (O.contents out.old) (O.contents out.new) }
     ensures refused { result ≢ 0 → (result ≡ 1) × IsUningested C.FolderCalls C.Mark.Mark
-        path.now options (text_in (I.remaining standard.old) (P.text paths.now) found.entry)
-        (O.contents out.old) (O.contents out.new) }
+        C.holds path.now options
+        (text_in (I.remaining standard.old) (P.text paths.now) found.entry) (O.contents out.old)
+        (O.contents out.new) }
     ensures quiet { result ≡ 0 → Keeps (E.contents err.old) (E.contents err.new) }
 {
     let file = match found {

@@ -1,39 +1,12 @@
-use Rattle.std.proofs.Common.{inl, inr, refl}
-use Rattle.std.proofs.lemmas.Result.{err_from_is_err_and}
-use Rattle.lsm_cmd_write.proofs.WritingOutcomes.{all_keep}
+use Rattle.lsm_cmd_write.proofs.QuickOutcomes.{behind_done, behind_fault}
 use Rattle.lsm_cmd_write.proofs.ingesting.bring_in_named.Goals as goal
 
+pub returns-clause-done : goal.returns-clause-done
+returns-clause-done g c =
+    behind_done c.bring_in_opened.result g.S.Shelf.honest _ _ _ c.in_ok-state.state _ _ _ _ _
+    c.in_ok-state.ensures.started c.bring_in_opened.ensures.done
+
 pub returns-clause-fault : goal.returns-clause-fault
-returns-clause-fault g c = inr (inr (inr (
-  refl,
-  (
-    c.in_ok-ingested.ingested,
-    record {
-      before = _;
-      after = _;
-      mid = _;
-      started = c.in_ok-state.ensures.started;
-      ingested = c.in_ok-ingested.ensures.ok;
-    },
-  ),
-)))
-
-pub returns-in_err-ingested-clause-fault : goal.returns-in_err-ingested-clause-fault
-returns-in_err-ingested-clause-fault g c =
-    let p = err_from_is_err_and c.from_residual-in_err-ingested.result c.from_residual-in_err-ingested.ensures.1 in
-    let fault = c.in_err-ingested.field-0.0 in
-    rw (p.1, p.2) (inr (inr (inl (
-      fault,
-      refl,
-      record {
-        before = _;
-        after = _;
-        mid = _;
-        started = c.in_ok-state.ensures.started;
-        refused = c.in_err-ingested.ensures.refused;
-        asked = c.in_err-ingested.ensures.asked;
-      },
-    ))))
-
-pub returns-in_err-ingested-clause-left : goal.returns-in_err-ingested-clause-left
-returns-in_err-ingested-clause-left g c = all_keep c.from_residual-in_err-ingested.result (g.O.Write.contents c.args.out.now)
+returns-clause-fault g c =
+    behind_fault c.bring_in_opened.result _ (g.S.Shelf.refuses g.N.Naming.place) g.S.Shelf.honest _
+    _ _ c.in_ok-state.state _ _ _ c.in_ok-state.ensures.started c.bring_in_opened.ensures.fault

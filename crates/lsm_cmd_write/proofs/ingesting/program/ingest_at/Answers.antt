@@ -5,18 +5,26 @@ use Rattle.lsm_cmd_write.proofs.ingesting.program.ingest_at.Goals as goal
 
 pub returns-clause-done : goal.returns-clause-done
 returns-clause-done g c =
-    comes_in_at g.C.FolderCalls c.bring_in-done.result.0 c.args.path.now c.args.options c.args.batch.now c.in_ok-prepared.prepared.start c.in_ok-prepared.prepared.logs.items
-    c.over-shelf.result c.bring_in-done.result.1 _ _
-    (shelf_over g.C.FolderCalls c.args.path.now (IsPrepared c.args.options c.in_ok-prepared.prepared.start c.in_ok-prepared.prepared.logs.items) c.in_ok-folder.folder c.prepare.new.folder
-    c.over-shelf.result c.in_ok-folder.ensures.place c.in_ok-folder.ensures.calls c.in_ok-prepared.ensures.prepared c.prepare.ensures.place c.over-shelf.ensures.folder
-    c.over-shelf.ensures.fresh)
-    c.bring_in-done.ensures.done
+    let start = c.in_ok-prepared.prepared.start in
+    let logs = c.in_ok-prepared.prepared.logs.items in
+    comes_in_at g.C.FolderCalls c.bring_in_as_said-done.result.0 g.C.FindingCalls.holds
+    c.args.path.now c.args.options c.args.batch.now start logs c.over-shelf.result
+    c.bring_in_as_said-done.result.1 _ _
+    (shelf_over g.C.FolderCalls c.args.path.now (IsPrepared c.args.options start logs)
+    c.in_ok-folder.folder c.prepare.new.folder c.over-shelf.result c.in_ok-folder.ensures.place
+    c.in_ok-folder.ensures.calls c.in_ok-prepared.ensures.prepared c.prepare.ensures.place
+    c.over-shelf.ensures.folder c.over-shelf.ensures.fresh)
+    c.bring_in_as_said-done.ensures.done
 
 pub returns-clause-refused : goal.returns-clause-refused
 returns-clause-refused g c =
-    fails_to_bring_in g.C.FolderCalls g.C.Mark.Mark c.bring_in-done.result.0 c.args.path.now c.args.options c.args.batch.now c.in_ok-prepared.prepared.start
-    c.in_ok-prepared.prepared.logs.items c.over-shelf.result c.bring_in-done.result.1 _ _
-    (shelf_over g.C.FolderCalls c.args.path.now (IsPrepared c.args.options c.in_ok-prepared.prepared.start c.in_ok-prepared.prepared.logs.items) c.in_ok-folder.folder c.prepare.new.folder
-    c.over-shelf.result c.in_ok-folder.ensures.place c.in_ok-folder.ensures.calls c.in_ok-prepared.ensures.prepared c.prepare.ensures.place c.over-shelf.ensures.folder
-    c.over-shelf.ensures.fresh)
-    c.bring_in-done.ensures.fault c.bring_in-done.ensures.left
+    let start = c.in_ok-prepared.prepared.start in
+    let logs = c.in_ok-prepared.prepared.logs.items in
+    fails_to_bring_in g.C.FolderCalls g.C.Mark.Mark c.bring_in_as_said-done.result.0
+    g.C.FindingCalls.holds c.args.path.now c.args.options c.args.batch.now start logs
+    c.over-shelf.result c.bring_in_as_said-done.result.1 _ _
+    (shelf_over g.C.FolderCalls c.args.path.now (IsPrepared c.args.options start logs)
+    c.in_ok-folder.folder c.prepare.new.folder c.over-shelf.result c.in_ok-folder.ensures.place
+    c.in_ok-folder.ensures.calls c.in_ok-prepared.ensures.prepared c.prepare.ensures.place
+    c.over-shelf.ensures.folder c.over-shelf.ensures.fresh)
+    c.bring_in_as_said-done.ensures.fault c.bring_in_as_said-done.ensures.left
