@@ -195,7 +195,7 @@ table_meaning table_faults.BadHandle = []
 table_meaning (table_faults.BadChecksum offset) =
     codes "the block is damaged: put a copy back, or RepairDB with paranoid_checks leaves it out\n"
 table_meaning (table_faults.Compressed kind) =
-    codes "compressed tables are read by lsm import alone, which copies: lsm import DIR NEW\n"
+    codes "check, list, get and scan read it by --inflate; lsm import DIR NEW copies the folder\n"
 table_meaning (table_faults.BadBlockType kind) = []
 table_meaning table_faults.BadIndex = []
 
@@ -224,7 +224,7 @@ meaning_of (Read fault) = read_meaning fault
 meaning_of NumbersSpent = []
 meaning_of Locked = codes "another program has the folder open\n"
 meaning_of (UnflushedLog number) =
-    codes "lsm recover DIR brings the log in; lsm import DIR NEW copies the folder with it\n"
+    codes "--logs reads it, lsm recover DIR brings it in, lsm import DIR NEW copies DIR with it\n"
 meaning_of (TornManifest rest) =
     codes "the manifest's cut end may name tables; --accept-rest, or no --strict, lets them go\n"
 meaning_of (LaterManifest number) =

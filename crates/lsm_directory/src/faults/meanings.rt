@@ -90,7 +90,7 @@ pub(crate) fn of_table(fault: TableFault) -> &'static str
 {
     match fault {
         TableFault::Compressed(_) => {
-            "compressed tables are read by lsm import alone, which copies: lsm import DIR NEW\n"
+            "check, list, get and scan read it by --inflate; lsm import DIR NEW copies the folder\n"
         }
         TableFault::BadChecksum(_) => {
             "the block is damaged: put a copy back, or RepairDB with paranoid_checks leaves it out\n"
@@ -138,7 +138,7 @@ pub(crate) fn meaning_of(fault: &DirectoryFault) -> &'static str
         DirectoryFault::Read(fault) => of_read(*fault),
         DirectoryFault::Locked => "another program has the folder open\n",
         DirectoryFault::UnflushedLog(_) => {
-            "lsm recover DIR brings the log in; lsm import DIR NEW copies the folder with it\n"
+            "--logs reads it, lsm recover DIR brings it in, lsm import DIR NEW copies DIR with it\n"
         }
         DirectoryFault::TornManifest(_) => {
             "the manifest's cut end may name tables; --accept-rest, or no --strict, lets them go\n"
