@@ -28,8 +28,8 @@ module _ {C : Type 0} (receipts : Ghosts C) (Here : C → Type 0) (shown : Shown
         receipts.image r.receipt,
         (r.receipt, here, refl, refl),
         subst (λ b. CanBeShown b (receipts.image r.receipt)) (sym on) plain,
-        subst (λ b. plain_image (receipts.image r.receipt) ≡ shown_image b (receipts.image
-            r.receipt)) (sym on) refl,
+        subst (λ b. plain_image (receipts.image r.receipt)
+            ≡ shown_image b (receipts.image r.receipt)) (sym on) refl,
       )
   of_receipt (Made m) is = inl is
 
@@ -37,9 +37,8 @@ module _ {C : Type 0} (receipts : Ghosts C) (Here : C → Type 0) (shown : Shown
       → IsShown (Stored C Here receipts.number receipts.image) shown number image
   stored_shown number image (r, here, named, imaged) =
       subst (λ n. IsShown (Stored C Here receipts.number receipts.image) shown n image) named
-      (subst (λ i. IsShown (Stored C Here receipts.number receipts.image) shown (number_of receipts
-      r) i) imaged
-      (of_receipt r here))
+      (subst (λ i. IsShown (Stored C Here receipts.number receipts.image) shown
+      (number_of receipts r) i) imaged (of_receipt r here))
 
   -- a table below is stored as it is shown
   below_stored : (b : Bool) (number : ℕ) (image packed : List ℕ) (r : C) → length image ≤ 2 ^ 30
@@ -80,8 +79,7 @@ module _ {C : Type 0} (receipts : Ghosts C) (Here : C → Type 0) (shown : Shown
       (subst (λ n. IsBeside shown.made n) (sym named) beside) here named imaged can is
 
 -- the table that lies nowhere, under another name of its parts
-pub made_is : (made : Option (ℕ × List ℕ)) (m n : ℕ) (image bytes : List ℕ) → made ≡ Some (m, image)
-    → n ≡ m
-    → bytes ≡ image → made ≡ Some (n, bytes)
+pub made_is : (made : Option (ℕ × List ℕ)) (m n : ℕ) (image bytes : List ℕ)
+    → made ≡ Some (m, image) → n ≡ m → bytes ≡ image → made ≡ Some (n, bytes)
 made_is made m n image bytes is number same =
     subst (λ x. made ≡ Some (x, bytes)) (sym number) (subst (λ y. made ≡ Some (m, y)) (sym same) is)

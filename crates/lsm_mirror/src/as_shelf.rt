@@ -1,6 +1,9 @@
 //! A `Mirror` as a `Shelf`. (Its calls stand in it whole: the prover passes no bound that is `Send`
 //! on from an `impl` of a trait.)
 
+ghost use Rattle.std.specs.Prelude.{◌≡◌, Err, IfErr};
+ghost use Rattle.lsm_shelf.specs.Told.{Becomes, Counted, CountedBy, NotTaken, TakenIs};
+
 use crate::counts::Counts;
 use crate::held_table::{HeldTable, hold};
 use crate::made_receipt::load_made;
@@ -38,7 +41,12 @@ impl<V: Mirroring, S: Shelf> Shelf for Mirror<V, S> {
         _alloc: Global,
         _number: u64,
         _image: &[u8],
-    ) -> Result<MirrorReceipt<S::Receipt>, ShelfFault> {
+    ) -> Result<MirrorReceipt<S::Receipt>, ShelfFault>
+        ensures denied { result ≡ Err ShelfFault.Device }
+        ensures told { Becomes self.old self.new }
+        ensures cause { IfErr result (λ e. TakenIs _number e × Counted e self.old self.new) }
+        ensures counts { CountedBy result self.old self.new }
+    {
         self.counts.count(Err(ShelfFault::Device))
     }
 
@@ -65,9 +73,10 @@ impl<V: Mirroring, S: Shelf> Shelf for Mirror<V, S> {
         };
         let mut held = None;
         for table in &self.held {
-            if self.shelf.same(&table.receipt, packed) {
-                held = Some(part_of(&table.image, alloc, offset, len));
+            if !self.shelf.same(&table.receipt, packed) {
+                continue;
             }
+            held = Some(part_of(&table.image, alloc, offset, len));
         }
         if let Some(part) = held {
             return self.counts.count(part);
@@ -106,7 +115,12 @@ impl<V: Mirroring, S: Shelf> Shelf for Mirror<V, S> {
     }
 
     /// `OutOfMemory`, by which a shelf says that nothing was asked of the device.
-    fn remove<R: Wait>(&mut self, _rt: &R, _number: u64) -> Result<(), ShelfFault> {
+    fn remove<R: Wait>(&mut self, _rt: &R, _number: u64) -> Result<(), ShelfFault>
+        ensures denied { result ≡ Err ShelfFault.OutOfMemory }
+        ensures told { Becomes self.old self.new }
+        ensures cause { IfErr result (λ e. NotTaken e × Counted e self.old self.new) }
+        ensures counts { CountedBy result self.old self.new }
+    {
         Err(ShelfFault::OutOfMemory)
     }
 
@@ -133,11 +147,21 @@ impl<V: Mirroring, S: Shelf> Shelf for Mirror<V, S> {
         _alloc: Global,
         _number: u64,
         _bytes: &[u8],
-    ) -> Result<(), ShelfFault> {
+    ) -> Result<(), ShelfFault>
+        ensures denied { result ≡ Err ShelfFault.Device }
+        ensures told { Becomes self.old self.new }
+        ensures cause { IfErr result (λ e. TakenIs _number e × Counted e self.old self.new) }
+        ensures counts { CountedBy result self.old self.new }
+    {
         self.counts.count(Err(ShelfFault::Device))
     }
 
-    fn append_manifest<R: Wait>(&mut self, _rt: &R, _bytes: &[u8]) -> Result<(), ShelfFault> {
+    fn append_manifest<R: Wait>(&mut self, _rt: &R, _bytes: &[u8]) -> Result<(), ShelfFault>
+        ensures denied { result ≡ Err ShelfFault.Device }
+        ensures told { Becomes self.old self.new }
+        ensures cause { IfErr result (λ e. NotTaken e × Counted e self.old self.new) }
+        ensures counts { CountedBy result self.old self.new }
+    {
         self.counts.count(Err(ShelfFault::Device))
     }
 

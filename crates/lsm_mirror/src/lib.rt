@@ -2,8 +2,8 @@
 //! tables as plain ones.
 //!
 //! Stands on `lsm_inflate` for the plain tables, on `lsm_shelf` for shelves, and on `boxcar` for
-//! bytes that only contracts read. Its contract: what a mirror stores is just what its view shows of
-//! the shelf below, and nothing is written there.
+//! bytes that only contracts read. Its contract: a mirror stores just what its view shows of the
+//! shelf below, and nothing is written there.
 #![tactic(auto)]
 
 // What is shown.

@@ -28,20 +28,22 @@ returns-in-Made-clause-counts g c =
     c.self.view_is
     refl c.count-in-Made.result c.count-in-Made.ensures.counts
 
-pub returns-in-Some-clause-cause : goal.returns-in-Some-clause-cause
-returns-in-Some-clause-cause g c =
-    let kept = rw c.in-Some.is at c.loop-table.invariant in
-    caused g.V.Mirroring.shown c.self.inside.counts c.self.inside.counts c.count-in-Some.new.self
+pub returns-in-Some-held-clause-cause : goal.returns-in-Some-held-clause-cause
+returns-in-Some-held-clause-cause g c =
+    let kept = rw c.in-Some-held.is at c.loop-table.invariant in
+    caused g.V.Mirroring.shown c.self.inside.counts c.self.inside.counts
+    c.count-in-Some-held.new.self
     (g.S.Shelf.told c.self.inside.shelf) (g.S.Shelf.told c.self.inside.shelf) c.args.self.now
-    c.self.view_is refl NotTaken c.count-in-Some.result (rw c.count-in-Some.ensures.same
-    (IfErr-weaker c.in-Some.part _ NotTaken (λ e why. kind_of _ e why) kept.1))
-    c.count-in-Some.ensures.counts
+    c.self.view_is refl NotTaken c.count-in-Some-held.result (rw c.count-in-Some-held.ensures.same
+    (IfErr-weaker c.in-Some-held.part _ NotTaken (λ e why. kind_of _ e why) kept.1))
+    c.count-in-Some-held.ensures.counts
 
-pub returns-in-Some-clause-counts : goal.returns-in-Some-clause-counts
-returns-in-Some-clause-counts g c =
-    counted g.V.Mirroring.shown c.self.inside.counts c.self.inside.counts c.count-in-Some.new.self
+pub returns-in-Some-held-clause-counts : goal.returns-in-Some-held-clause-counts
+returns-in-Some-held-clause-counts g c =
+    counted g.V.Mirroring.shown c.self.inside.counts c.self.inside.counts
+    c.count-in-Some-held.new.self
     (g.S.Shelf.told c.self.inside.shelf) (g.S.Shelf.told c.self.inside.shelf) c.args.self.now
-    c.self.view_is refl c.count-in-Some.result c.count-in-Some.ensures.counts
+    c.self.view_is refl c.count-in-Some-held.result c.count-in-Some-held.ensures.counts
 
 pub returns-in_err-bytes-clause-cause : goal.returns-in_err-bytes-clause-cause
 returns-in_err-bytes-clause-cause g c =
