@@ -173,7 +173,7 @@ links() {
     ln -s CURRENT "db/$number.dbtmp"
     [[ -e db/MANIFEST-$number ]] || ln -s "$table" "db/MANIFEST-$number"
   done
-  is_done_beside MANIFEST-000020 compact db --accept-rest
+  is_done_beside MANIFEST-000020 compact db
   is_done scan db
   cmp -s list out || stop "other content"
 }
@@ -237,14 +237,7 @@ clean() {
   touch db/{000050.ldb,000051.ldb,000060.dbtmp,000007.log,000052.sst,other,MANIFEST-000099,CURRENT.bak}
   (cd db && { ls -- MANIFEST-* | grep -v -x "$name"; ls 000050.ldb 000051.ldb 000060.dbtmp; } | LC_ALL=C sort) > removed
   (cd db && ls | grep -v -x -F -f ../removed) > left
-  # beside a later manifest nothing is removed unasked
-  cp -r db db.later
-  for name in "clean db" "compact db"; do
-    lsm $name
-    [[ $status == 1 && ! -s out && $(tail -n 2 err) == "refused 62 LaterManifest 99"* ]] || stop "$name is not refused"
-    is_same db.later db
-  done
-  is_done_beside MANIFEST-000099 clean db --accept-rest
+  is_done_beside MANIFEST-000099 clean db
   cmp -s removed out || stop "it prints other names"
   # the lock file may be new
   (cd db && ls | grep -v -x LOCK) | cmp -s - <(grep -v -x LOCK left) || stop "other files are left"

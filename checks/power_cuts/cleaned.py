@@ -1,6 +1,6 @@
 #!/usr/bin/env python3
 """Power cuts behind `lsm clean`, in a folder whose last program was killed: `lsm compact` is stopped right behind each append to the
-manifest and behind each rename, before it synced them, while the system goes on; `lsm clean --accept-rest` runs; and then power is cut.
+manifest and behind each rename, before it synced them, while the system goes on; `lsm clean` runs; and then power is cut.
 
   cleaned.py LSM FOLDER CRASHES SEED
 
@@ -69,8 +69,7 @@ class Cleaner:
     def cleaned(self, killed):
         """The disk after `clean`, which goes on where a program was killed."""
         self.put(killed.shown(), self.db)
-        # (a roll-over that was stopped leaves a later manifest, beside which nothing is removed unasked)
-        self.done("clean", self.db, "--accept-rest", trace=f"{self.folder}/clean")
+        self.done("clean", self.db, trace=f"{self.folder}/clean")
         left = killed.copy()
         clean = disk.Run(f"{self.folder}/clean", self.db, {}, "none")
         for kind, number in clean.steps:

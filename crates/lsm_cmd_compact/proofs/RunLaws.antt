@@ -11,7 +11,7 @@ use Rattle.lsm_requests.specs.declared.compact_line.CompactLine.{CompactLine}
 use Rattle.lsm_cmd_compact.specs.Compacting.{IsCompactFault, IsCompacted}
 use Rattle.lsm_directory.specs.Folders.{IsShelfAt, stored_at, told_by}
 use Rattle.lsm_cmd_compact.specs.Compacted.{IsCompactedAt, IsUncompacted}
-use Rattle.lsm_opening.specs.Holding.{IsHeldTidy}
+use Rattle.lsm_opening.specs.Tidying.{IsHeldTidy}
 use Rattle.lsm_opening.specs.declared.faults.compact_fault.CompactFault.{CompactFault}
 use Rattle.lsm_opening.specs.declared.faults.compact_fault.CompactFault.TheVariants.{Writer}
 use Rattle.lsm_opening.specs.declared.faults.writer_fault.WriterFault.TheVariants.{Write as WriteFault}
@@ -22,17 +22,13 @@ done_by (Ok x) status err done zero = done
 done_by (Err e) status err done zero = absurd (omega (arith, err, zero))
 
 module _ {C M : Type 0} (folders : Ghosts C M) where
-  pub compacts_at : {T F : Type 0} (r : Result T F) (line : CompactLine)
-      (begun ended : FileShelf C M) (old new : Option (List ℕ))
-      → IsShelfAt folders line.path.now (IsHeldTidy line.options.accepts_rest) begun
+  pub compacts_at : {T F : Type 0} (r : Result T F) (line : CompactLine) (begun ended : FileShelf C M) (old new : Option (List ℕ)) → IsShelfAt folders line.path.now IsHeldTidy begun
       → OnOk r (IsCompacted MayRefuse (AreHonest folders.calls) line.options (told_by folders begun) (told_by folders ended) old new) → OnOk r (IsCompactedAt folders line old new)
   compacts_at (Ok x) line begun ended old new on done = record { begun = begun; on = on; ended = ended; done = done }
   compacts_at (Err e) line begun ended old new on done = tt
 
 module _ {C M : Type 0} (folders : Ghosts C M) (marks : mark.Ghosts M) where
-  pub uncompacted : {T : Type 0} (r : Result T CompactFault) (line : CompactLine)
-      (begun ended : FileShelf C M) (old new : Option (List ℕ))
-      → IsShelfAt folders line.path.now (IsHeldTidy line.options.accepts_rest) begun
+  pub uncompacted : {T : Type 0} (r : Result T CompactFault) (line : CompactLine) (begun ended : FileShelf C M) (old new : Option (List ℕ)) → IsShelfAt folders line.path.now IsHeldTidy begun
       → IfErr r (λ e. IsCompactFault (stored_at folders marks (told_by folders begun).place) MayRefuse (AreHonest folders.calls) line.options e (told_by folders begun) (told_by folders ended))
       → IfErr r (λ e. e ≢ Writer WriteFault → Keeps old new) → OnErr r (IsUncompacted folders marks line old new)
   uncompacted (Ok x) line begun ended old new on says left = tt

@@ -37,8 +37,6 @@ use Rattle.lsm_directory.specs.declared.folder.file_kind.FileKind.TheVariants.{T
 use Rattle.lsm_directory.specs.declared.folder.file_kind.FileKind.TheVariants.{Manifest, Temporary}
 use Rattle.lsm_directory.specs.declared.folder.file_kind.FileKind.TheVariants.{Log, Current, Lock}
 use Rattle.lsm_directory.specs.declared.folder.file_kind.FileKind.TheVariants.{Other}
-use Rattle.lsm_opening.specs.Later.{AcceptsLater, RefusesLater}
-use Rattle.lsm_opening.specs.Tidying.{OnlyReads}
 use Rattle.lsm_opening.specs.WriterFault.{of_open, of_shelf}
 use Rattle.lsm_opening.specs.declared.faults.writer_fault.WriterFault.{WriterFault}
 use Rattle.lsm_opening.specs.declared.faults.writer_fault.WriterFault.TheVariants.{OutOfMemory}
@@ -217,12 +215,11 @@ module _ {C M : Type 0} (folders : Ghosts C M) where
       (manifest : HeldManifest) × (rest : ℕ) × (tables : List ℕ) × Needs place manifest rest tables
       × IsAccepted options rest × IsCleared manifest tables old new before after
 
-  -- The lock was held, no later manifest was there, unless any is accepted, and then this was done.
+  -- The lock was held, and then this was done.
   abbrev pub IsCleaned : CleanOptions → Place → List Call → List Call → Option (List ℕ)
       → Option (List ℕ) → Type 0
   IsCleaned options place old new before after = (held : List Call) × IsHeld Exclusive old held
-      × ((looked : List Call) × AcceptsLater options.accepts_rest held looked
-      × AreSparesGone options place looked new before after)
+      × AreSparesGone options place held new before after
 
 module _ {C M : Type 0} (folders : Ghosts C M) (marks : mark.Ghosts M) where
   -- Memory ran out; or on a shelf of the folder of this place there was no database to be found.
@@ -251,17 +248,6 @@ module _ {C M : Type 0} (folders : Ghosts C M) (marks : mark.Ghosts M) where
       × Needs folders place manifest rest tables
       × StopsClearing options manifest rest tables e old new before after)
 
-  -- Under the lock: a later manifest is there, or was not looked for, and nothing was removed; or
-  -- none is, and this stopped it.
-  abbrev pub StopsUnderLock : CleanOptions → Place → WriterFault → List Call → List Call
-      → Option (List ℕ) → Option (List ℕ) → Type 0
-  StopsUnderLock options place e held new before after =
-      ((fault : DirectoryFault) × (e ≡ Directory fault)
-      × RefusesLater options.accepts_rest fault held new × OnlyReads held new
-      × Keeps before after)
-      ⊎ ((looked : List Call) × AcceptsLater options.accepts_rest held looked
-      × StopsCleaning options place e looked new before after)
-
   -- Why a folder is not cleaned: its lock was not held; or what follows.
   abbrev pub IsUncleaned : CleanOptions → Place → WriterFault → List Call → List Call
       → Option (List ℕ) → Option (List ℕ) → Type 0
@@ -269,4 +255,4 @@ module _ {C M : Type 0} (folders : Ghosts C M) (marks : mark.Ghosts M) where
       ((fault : DirectoryFault) × (e ≡ Directory fault) × IsUnheld Exclusive fault old new
       × Keeps before after)
       ⊎ ((held : List Call) × IsHeld Exclusive old held
-      × StopsUnderLock options place e held new before after)
+      × StopsCleaning options place e held new before after)

@@ -20,7 +20,7 @@ use crate::cleaning::durable::make_durable;
 use crate::cleaning::kept::{Kept, kept_in};
 use lsm_directory::{DirectoryFault, folder_names, hold};
 use lsm_folder::{FolderCalls, FolderFault, LockKind};
-use lsm_opening::{WriterFault, refuse_later};
+use lsm_opening::WriterFault;
 use lsm_requests::CleanOptions;
 use lsm_table::ShelfFault;
 use std::alloc::Global;
@@ -198,7 +198,7 @@ where
 }
 
 /// Takes the lock of a folder, opens its database to read, removes the files that this does not
-/// need, and writes a line for each; nothing beside a later manifest, unless any is accepted.
+/// need, and writes a line for each.
 pub(crate) fn clean_folder<C: FolderCalls + Send + Sync, R: Wait, O: Write>(
     rt: &R,
     alloc: Global,
@@ -216,7 +216,6 @@ where
     ensures place { C.place folder.new ≡ C.place folder.old }
 {
     hold(rt, folder, LockKind::Exclusive)?;
-    refuse_later(rt, alloc, folder, options.accepts_rest)?;
     match clean_held(rt, alloc, folder, options, out) {
         Ok(()) => Ok(()),
         Err(fault) => Err(fault),

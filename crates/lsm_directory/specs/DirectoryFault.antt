@@ -228,7 +228,7 @@ meaning_of (UnflushedLog number) =
 meaning_of (TornManifest rest) =
     codes "the manifest's cut end may name tables; --accept-rest, or no --strict, lets them go\n"
 meaning_of (LaterManifest number) =
-    codes "a later manifest may name other tables; --accept-rest, or no --strict, lets them go\n"
+    codes "the later manifest may name other tables; no --strict reads what CURRENT names\n"
 meaning_of RocksDbFiles =
     codes "what RocksDB has in its logs is not read; no --strict reads the tables\n"
 meaning_of Absent = []

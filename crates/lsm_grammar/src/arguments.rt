@@ -79,10 +79,10 @@ pub(crate) const COMPARE: Argument = Argument::Flag(
     "Keep tables in memory, and compare each read",
 );
 
-/// Files are removed also where the manifest's end is no whole record, and beside a later one.
+/// Files are removed also where the manifest's end is no whole record.
 pub(crate) const ACCEPT_REST: Argument = Argument::Flag(
     "accept-rest",
-    "Go on also beside a later manifest, or where its last record is cut",
+    "Go on also where the manifest's last record is not whole",
 );
 
 /// What is not read is no note.

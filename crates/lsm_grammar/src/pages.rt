@@ -581,11 +581,11 @@ bytes.
 --workers is how many threads compact at a time, 1 to 8; 2 if it is not said.
 
 What stands in a write-ahead log (`N.log`) is not read, and stays there. Another
-program that has DIR open is `refused 52 Locked`, a manifest whose last B bytes
-are no whole record `refused 61 TornManifest B`, and one beside a later one
-`refused 62 LaterManifest N`, as `clean` says, unless --accept-rest is said. Each
-run begins a new manifest, and first removes those that CURRENT does not name.
-Run this after an `ingest` that is `refused 40 LevelZeroFull`.
+program that has DIR open is `refused 52 Locked`, and a manifest whose last B
+bytes are no whole record `refused 61 TornManifest B`, as `clean` says, unless
+--accept-rest is said. Each run begins a new manifest, and first removes those
+that CURRENT does not name. Run this after an `ingest` that is `refused 40
+LevelZeroFull`.
 
 Exit status: 0 done, 1 refused, 2 bad command line. After a refusal what was
 installed before it stands, and no table was removed, but by a removal that then
@@ -614,9 +614,7 @@ Where the last B bytes of the manifest are no whole record, it is `refused 61
 TornManifest B`, and nothing is removed: was the manifest cut behind a change
 that had been answered, it named tables that would go. Such bytes are left by a
 program or a machine that was stopped within a change, and then there is nothing
-to lose: --accept-rest goes on all the same. So it is with a manifest N that is
-later than the one that CURRENT names, `refused 62 LaterManifest N`: a copy leaves
-it that was made beside a program, or a program that was stopped.
+to lose: --accept-rest goes on all the same.
 
 Exit status: 0 done, 1 refused: what was printed before it is removed, 2 bad
 command line.",

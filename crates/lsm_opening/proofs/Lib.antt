@@ -2,7 +2,6 @@ mod NameKindLaws
 mod NameLaws
 mod Looked
 mod TidyLaws
-mod LaterLaws
 mod PartsLaws
 mod StartLaws
 mod QuickLaws

@@ -4,8 +4,6 @@ pub mod CompactFault
 pub mod Parts
 pub mod Names
 pub mod Tidying
-pub mod Later
-pub mod Holding
 pub mod Preparing
 pub mod Starting
 pub mod Quick

@@ -11,11 +11,17 @@ use Rattle.lsm_folder.specs.Calls.{Answer, Call, opened, made, wrote, appended, 
 use Rattle.lsm_folder.specs.Calls.{folder_synced, renamed, removed, measured, read, loaded, listed}
 use Rattle.lsm_folder.specs.Calls.{locked}
 use Rattle.lsm_folder.specs.declared.folder_fault.FolderFault.{FolderFault}
+use Rattle.lsm_folder.specs.declared.lock_kind.LockKind.TheVariants.{Exclusive}
 use Rattle.lsm_manifest.specs.Log.{IsLog}
+use Rattle.lsm_shelf.specs.declared.shelf_fault.ShelfFault.{ShelfFault}
 use Rattle.lsm_storage.specs.FileNames.{current_text, manifest_name}
 use Rattle.lsm_storage.specs.Plans.{Refused, current_read, done, durable_plan}
 use Rattle.lsm_directory.specs.FileNames.{IsFileName}
+use Rattle.lsm_directory.specs.Holding.{IsHeld, IsUnheld}
 use Rattle.lsm_directory.specs.Logs.{AreThose}
+use Rattle.lsm_directory.specs.Looking.{LooksStopped}
+use Rattle.lsm_directory.specs.declared.faults.directory_fault.DirectoryFault.{DirectoryFault}
+use Rattle.lsm_directory.specs.declared.faults.directory_fault.DirectoryFault.TheVariants.{Shelf}
 use Rattle.lsm_directory.specs.declared.folder.file_kind.FileKind.TheVariants.{Manifest, Temporary}
 use Rattle.lsm_opening.specs.Names.{Among, IsManifestName, IsNumbered}
 
@@ -143,3 +149,17 @@ IsReading (locked name kind answer) = ⊥
 abbrev pub OnlyReads : List Call → List Call → Type 0
 OnlyReads old new = (calls : List Call) × (new ≡ calls ++ old)
     × ((call : Call) → Has calls call → IsReading call)
+
+-- ---- under the lock
+
+-- The lock was held, and then the folder was tidied.
+abbrev pub IsHeldTidy : List Call → List Call → Type 0
+IsHeldTidy old new = (held : List Call) × IsHeld Exclusive old held × IsTidied held new
+
+-- The lock was not held; or it was, and memory was refused or a look, and nothing was removed.
+abbrev pub IsUntidy : DirectoryFault → List Call → List Call → Type 0
+IsUntidy e old new =
+    IsUnheld Exclusive e old new
+    ⊎ ((held : List Call) × IsHeld Exclusive old held
+    × ((fault : ShelfFault) × (e ≡ Shelf fault) × LooksStopped fault held new
+    × OnlyReads held new))

@@ -13,7 +13,6 @@ mod parts;
 // A folder is held and looked at: to which database its names lead, and which logs are beside it;
 // and what the last openings left behind is removed.
 mod holding;
-mod later;
 mod names;
 mod obsolete;
 mod prepared;
@@ -37,7 +36,6 @@ mod faults;
 pub use faults::compact_fault::CompactFault;
 pub use faults::writer_fault::WriterFault;
 pub use holding::held_shelf;
-pub use later::refuse_later;
 pub use laws::quick_openings_are_whole;
 pub use names::{is_temporary, manifest_in, table_in};
 pub use obsolete::is_obsolete;

@@ -7,8 +7,6 @@ ghost use Rattle.lsm_directory.specs.FileNames.{IsFileName};
 ghost use Rattle.lsm_directory.specs.declared.folder.file_kind.FileKind.{FileKind};
 ghost use Rattle.lsm_directory.specs.declared.folder.file_kind.FileKind.TheVariants.{Other, Table};
 ghost use Rattle.lsm_directory.specs.declared.folder.file_kind.FileKind.TheVariants.{Temporary};
-ghost use Rattle.lsm_directory.specs.Beside.{later_than};
-ghost use Rattle.lsm_opening.specs.Later.{IsLaterAmong};
 ghost use Rattle.lsm_opening.specs.Names.{Among, HasCurrent, IsHighestManifest, IsLeastUnused};
 ghost use Rattle.lsm_opening.specs.Names.{IsManifestName, IsNumbered, IsOfDatabase, Leads};
 ghost use Rattle.lsm_opening.specs.Names.{LeadsNowhere};
@@ -184,24 +182,6 @@ fn highest_manifest(names: &[String]) -> Option<u64>
         highest = highest_with(highest, name.as_str());
     }
     highest
-}
-
-/// The highest manifest, if it is later than the one of this number.
-fn later_than(number: u64, highest: Option<u64>) -> Option<u64>
-    ensures { result ≡ later_than number highest }
-{
-    match highest {
-        Some(highest) if number < highest => Some(highest),
-        _ => None,
-    }
-}
-
-/// The highest manifest among these files, if it is later than the one of this number.
-pub(crate) fn later_among(names: &[String], number: u64) -> Option<u64>
-    ensures { IsLaterAmong (map string_bytes names.now) number result }
-{
-    let highest = highest_manifest(names);
-    later_than(number, highest)
 }
 
 /// What names lead to: a database that is there is opened; else one is begun, where it is to be

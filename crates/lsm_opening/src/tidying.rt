@@ -30,7 +30,7 @@ const LONGEST_CURRENT: usize = 30;
 
 /// The number of the manifest among these files that `CURRENT` names; none where it names none of
 /// them, or can't be read.
-pub(crate) fn current_in<C: FolderCalls, R: Wait>(
+fn current_in<C: FolderCalls, R: Wait>(
     rt: &R,
     alloc: Global,
     folder: &mut C,

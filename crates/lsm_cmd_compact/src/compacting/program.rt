@@ -81,14 +81,13 @@ where
         → Keeps (E.contents err.old) (E.contents err.new) }
 {
     let folder = open_at(paths, line.path, reasons)?;
-    let shelf = held_shelf(rt, folder, line.options.accepts_rest)?;
+    let shelf = held_shelf(rt, folder)?;
     let (done, _shelf) = compact_to(rt, paths.alloc(), shelf, &line.options, out, err);
     done
 }
 
 /// Does what a line asks of the folder at its path, and answers the exit status. `Locked` where
-/// another program has the folder open; `LaterManifest` where a manifest is there that is later
-/// than the one that `CURRENT` names, unless that is accepted, and then nothing is removed.
+/// another program has the folder open.
 #[tactic(auto, using(crate::proofs::Quiet::quietly))]
 pub fn run_compact<C, P, R, O, E>(
     rt: &R,

@@ -21,10 +21,9 @@ use std::sync::Wait;
 /// folder. The name of each is written as a line, in the order of names. A fault is one line on
 /// `err`, and may have more behind it.
 ///
-/// `Locked` where another program has the folder open; the refusals of opening it; and, unless that
-/// is accepted, `LaterManifest` where a manifest is there that is later than the one that `CURRENT`
-/// names, and `TornManifest` where that ends with bytes that hold no whole record: then nothing is
-/// removed. A removal that the folder refuses is the last one.
+/// `Locked` where another program has the folder open; the refusals of opening it, and
+/// `TornManifest` where the manifest ends with bytes that hold no whole record, unless that is
+/// accepted, and then nothing is removed; a removal that the folder refuses is the last one.
 pub fn clean<C: FolderCalls + Send + Sync, R: Wait, O: Write, E: Write>(
     rt: &R,
     alloc: Global,

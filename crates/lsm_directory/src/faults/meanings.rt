@@ -144,7 +144,7 @@ pub(crate) fn meaning_of(fault: &DirectoryFault) -> &'static str
             "the manifest's cut end may name tables; --accept-rest, or no --strict, lets them go\n"
         }
         DirectoryFault::LaterManifest(_) => {
-            "a later manifest may name other tables; --accept-rest, or no --strict, lets them go\n"
+            "the later manifest may name other tables; no --strict reads what CURRENT names\n"
         }
         DirectoryFault::RocksDbFiles => {
             "what RocksDB has in its logs is not read; no --strict reads the tables\n"
