@@ -110,6 +110,8 @@ def tables_alone(maker, folder, kind):
     """With --inflate alone the logs are not read, and noted. Of a copy without them a maker may say
     nothing."""
     wanted = pairs_by(maker, folder, but=["*.log"])
+    if wanted is None and maker == LEVELDB:
+        sys.exit(f"{kind}: LevelDB does not read it without its logs")
     done = scanned(folder, "--inflate")
     logs = sum(path.stat().st_size > 0 for path in folder.glob("*.log"))
     notes = [line for line in errors_of(done) if line.endswith(" bytes are not read")]

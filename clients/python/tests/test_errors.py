@@ -79,7 +79,7 @@ def test_manifest_that_is_not_there(folder):
     error = raised(tiswenor.DB, folder)
     assert type(error) is tiswenor.CorruptionError
     assert (error.call, error.file) == ("read", str(folder / "MANIFEST-999999"))
-    where = "CURRENT has to name a manifest that is there"
+    where = "to name a manifest: echo MANIFEST-N > DIR/CURRENT; where none is whole: lsm repair DIR"
     assert str(error).startswith(f"10 Missing: {folder}: {where}")
 
 

@@ -61,9 +61,10 @@ pub fn quick_lines_are_whole<C: FindingCalls>()
 {}
 
 /// A law: of a line that sees logs or compressed tables, where the folder is honest, the version
-/// that was looked into answers of each key what LevelDB reads there. Of its tables those that lie
-/// in the folder have these entries, none of them above the last sequence of the manifest that was
-/// read; it answers the last write of the logs, if they are seen, or what these tables have.
+/// that was looked into answers of each key what the tables with the logs have. Of its tables those
+/// that lie in the folder have these entries, as they are shown, none of them above the last
+/// sequence of the manifest that was read; it answers the last write of the logs, if they are seen,
+/// or what these tables have. (Over tables that were written beside a log LevelDB may read others.)
 pub fn seen_lines_answer<C: FolderCalls + Send + Sync>()
 where
     C::Mark: Send + Sync,

@@ -145,7 +145,7 @@ damaged = codes "in the manifest that CURRENT names; lsm repair DIR, or RepairDB
 -- of a manifest that is not there, or that CURRENT does not name in its form
 abbrev pub unnamed : List ℕ
 unnamed =
-    codes "lsm repair DIR makes a manifest; to name one: echo MANIFEST-N > DIR/CURRENT\n"
+    codes "to name a manifest: echo MANIFEST-N > DIR/CURRENT; where none is whole: lsm repair DIR\n"
 
 abbrev pub shelf_meaning : ShelfFault → List ℕ
 shelf_meaning shelf_faults.OutOfMemory = []
@@ -176,7 +176,7 @@ replay_meaning replay_faults.NoLastSequence = damaged
 replay_meaning replay_faults.OtherComparator =
     codes "in the manifest that CURRENT names; lsm manifest prints which comparator it has\n"
 replay_meaning (replay_faults.DoubleFile number) =
-    codes "in the manifest that CURRENT names; lsm repair DIR, or open it in LevelDB once more\n"
+    codes "in the manifest that CURRENT names; lsm repair DIR, or LevelDB without a write\n"
 
 abbrev pub recover_meaning : RecoverFault → List ℕ
 recover_meaning (recover_faults.Shelf fault) = shelf_meaning fault
@@ -226,7 +226,7 @@ meaning_of Locked = codes "another program has the folder open\n"
 meaning_of (UnflushedLog number) =
     codes "--logs reads it, lsm recover DIR brings it in, lsm import DIR NEW copies DIR with it\n"
 meaning_of (TornManifest rest) =
-    codes "the manifest's cut end may name tables; --accept-rest, or no --strict, lets them go\n"
+    codes "a cut end may name tables, or hold writes; --accept-rest, or no --strict, lets them go\n"
 meaning_of (LaterManifest number) =
     codes "the later manifest may name other tables; no --strict reads what CURRENT names\n"
 meaning_of RocksDbFiles =

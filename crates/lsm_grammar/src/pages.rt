@@ -138,6 +138,7 @@ is no fault. At the end comes `log NAME BYTES` for each write-ahead log
 With --logs what stands in those logs is read too: DIR is verified as `lsm
 recover` would leave it. With --inflate it is verified as if the tables that are
 compressed by Snappy were plain ones, which are else `refused 16 Compressed`.
+With either B is 0: a line on standard error counts the bytes left out.
 
 With --strict it is refused where such a line would come, `refused 51
 UnflushedLog N`, or where B is above 0, `refused 61 TornManifest B`.
@@ -274,7 +275,7 @@ in `{\"key\":\"apple\",\"value_base64\":\"/w==\"}`. Of these three --count rules
 says only how KEY is spelled on the command line.
 
 Every table is verified before the first line. Lines are printed as the folder
-is read, in memory that does not grow with it; what is before --from is read
+is read, in memory that grows with its logs alone; what is before --from is read
 too. Nothing is written in DIR. A line on standard error names each write-ahead
 log (`N.log`) that is not read: what was written last may stand there. With
 --logs it is read, and with --inflate so are tables that are compressed by

@@ -149,7 +149,7 @@ fn preview_as<C: FolderCalls, N: Naming, S: Shelf, R: Wait>(
 /// numbers of the manifest that was read. The tables are judged by who reads the view.
 ///
 /// # Errors
-/// `Unread` of the manifest or the first log at fault; then `Unlisted`; then `Unmade`: of the first
+/// `Unread` of the manifest or the first log at fault; then `Unlisted`; then `Unmade`: of a
 /// table that is not made plain (`Unread`, `Packed`, or `WrongRange` where its size or its keys are
 /// not those of the manifest), or of the table of the logs (`SequencesSpent`, `NumbersSpent`,
 /// `TooLarge`). `OutOfMemory` on the way.

@@ -25,7 +25,7 @@ fn of_shelf(fault: ShelfFault) -> &'static str
 {
     match fault {
         ShelfFault::Missing => {
-            "lsm repair DIR makes a manifest; to name one: echo MANIFEST-N > DIR/CURRENT\n"
+            "to name a manifest: echo MANIFEST-N > DIR/CURRENT; where none is whole: lsm repair DIR\n"
         }
         ShelfFault::OutOfMemory | ShelfFault::Device | ShelfFault::Taken(_) => "",
     }
@@ -64,7 +64,7 @@ fn of_replay(fault: ReplayFault) -> &'static str
             "in the manifest that CURRENT names; lsm manifest prints which comparator it has\n"
         }
         ReplayFault::DoubleFile(_) => {
-            "in the manifest that CURRENT names; lsm repair DIR, or open it in LevelDB once more\n"
+            "in the manifest that CURRENT names; lsm repair DIR, or LevelDB without a write\n"
         }
         ReplayFault::NoNextFile | ReplayFault::NoLogNumber | ReplayFault::NoLastSequence => {
             damaged()
@@ -141,7 +141,7 @@ pub(crate) fn meaning_of(fault: &DirectoryFault) -> &'static str
             "--logs reads it, lsm recover DIR brings it in, lsm import DIR NEW copies DIR with it\n"
         }
         DirectoryFault::TornManifest(_) => {
-            "the manifest's cut end may name tables; --accept-rest, or no --strict, lets them go\n"
+            "a cut end may name tables, or hold writes; --accept-rest, or no --strict, lets them go\n"
         }
         DirectoryFault::LaterManifest(_) => {
             "the later manifest may name other tables; no --strict reads what CURRENT names\n"
