@@ -339,8 +339,10 @@ then done whatever comes of the batch. With --beside-log the batch comes in all
 the same; what stands in the log may then win over it in LevelDB, and be newer
 or older than it.
 
-With --quick no table is verified first: of each its end alone is read. Where one
-is damaged the batch comes in all the same, and `check` tells of the damage.
+With --quick no table is verified first: of each its footer and its index are
+read. Where a data block is damaged the batch comes in all the same, and `check`
+tells of that. Entries above the manifest's last sequence are then found by
+nothing, and may be seen.
 
 Another program that has DIR open is `refused 52 Locked`. Each run that opens or
 begins a database begins a new manifest, also where the batch is then refused,
@@ -368,7 +370,7 @@ Limits: 4096 bytes of KEY, 1048576 bytes of VALUE; past them it is
 131071 bytes: `ingest` brings a longer VALUE in.
 
 Each run makes a table and a manifest, so `ingest` is better for many keys. Of
---begin, --beside-log and --recover, and of all that is refused, its page says
+--begin, --beside-log, --recover, --quick, and all that is refused, its page says
 more: where CURRENT was lost it is `refused 10 Missing`, beside a log that
 LevelDB has not flushed `refused 51 UnflushedLog N`, where another program has
 DIR open `refused 52 Locked`, and at 12 tables in level 0 `refused 40
@@ -394,7 +396,7 @@ hex, or text with --text, `.` for no bytes.
 Limit: 4096 bytes of KEY; past it it is `refused 39 TooLarge`.
 
 Each run makes a table and a manifest, so `ingest` is better for many keys. Of
---begin, --beside-log and --recover, and of all that is refused, its page says
+--begin, --beside-log, --recover, --quick, and all that is refused, its page says
 more: where CURRENT was lost it is `refused 10 Missing`, beside a log that
 LevelDB has not flushed `refused 51 UnflushedLog N`, where another program has
 DIR open `refused 52 Locked`, and at 12 tables in level 0 `refused 40

@@ -12,8 +12,9 @@ ghost use Rattle.std.specs.Prelude.{List};
 
 use lsm_finding::Finding;
 
-/// Where a shelf is honest and keeps the tables of the manifest that it gave, a quick opening is one
-/// that judges every table: the same state, beside logs that are flushed, and the same was told.
+/// Where a shelf is honest and keeps the tables of the manifest that it gave, a quick opening is
+/// one that judges every table: the same state, beside logs that are flushed, and the same was
+/// told.
 pub fn quick_openings_are_whole<S: Finding>()
     ensures { (place : Place) (o : Options) (shape : Form) (logs : List FolderFile) (h : Held)
         (was is : Told) → S.honest → KeepsTables (S.keeps place) shape

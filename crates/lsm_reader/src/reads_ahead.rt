@@ -74,13 +74,16 @@ impl<N: Naming, S: Shelf> ReadsAhead<N, S> for NamedShelf<N, S> {
         if most <= len {
             return;
         }
-        if let Ok(bytes) = self.shelf.read_at(alloc, receipt, offset, most) {
-            ahead.part = Some(Part {
-                receipt: self.shelf.copy_receipt(receipt),
-                offset,
-                bytes,
-                of: PhantomData,
-            });
+        match self.shelf.read_at(alloc, receipt, offset, most) {
+            Ok(bytes) => {
+                ahead.part = Some(Part {
+                    receipt: self.shelf.copy_receipt(receipt),
+                    offset,
+                    bytes,
+                    of: PhantomData,
+                });
+            }
+            Err(_) => ahead.window = 0,
         }
     }
 

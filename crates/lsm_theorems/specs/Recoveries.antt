@@ -27,8 +27,8 @@ Asks Into first (w ∷ ws) old new v os =
     × (os ≡ Put old.next put.image ∷ Start new.next (manifest_of new) v ∷ [])
 
 -- Logs came into the database that this world is, as the contract of `recover_on` says, and this
--- was asked of the folder. What it counts on are tables that the shelf listed. That the new manifest
--- has another number than the old one is what a shelf's `Taken` says.
+-- was asked of the folder. What it counts on are tables that the shelf listed. That the new
+-- manifest has another number than the old one is what a shelf's `Taken` says.
 pub record IsRecovery (Into : ℕ → List ℕ → Type 0) (Honest : Type 0) (files : List FolderFile)
     (batches : List WriteBatch) (w : World) (v : Version) (os : List Operation) : Type 0 where
   pub count : ℕ

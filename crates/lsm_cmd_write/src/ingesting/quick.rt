@@ -25,9 +25,8 @@ use std::io::Write;
 use std::marker::Brand;
 use std::sync::Wait;
 
-/// Opens the directory of which this manifest was read, brings a batch in, and writes the reply,
-/// under the name that was picked for the parts and the shelf, and under the premise that was picked
-/// for its tables. The shelf is given back.
+/// The same under the name that was picked for the parts and the shelf, and under the premise that
+/// was picked for its tables. The shelf is given back.
 fn bring_in_vouched<N: Boarded, V: Vouching, S: Finding, R: Wait, O: Write>(
     rt: &R,
     alloc: Global,
@@ -97,8 +96,8 @@ fn bring_in_recovered<S: Finding, R: Wait, O: Write>(
 }
 
 /// Reads the manifest that the directory of a shelf names, opens its database quickly, brings a
-/// batch in, and writes `file N first F last L`. It requires nothing of the shelf: whatever that is,
-/// it ends. The shelf is given back.
+/// batch in, and writes `file N first F last L`. It requires nothing of the shelf: whatever that
+/// is, it ends. The shelf is given back.
 fn bring_in_quickly<S: Finding, R: Wait, O: Write>(
     rt: &R,
     alloc: Global,
