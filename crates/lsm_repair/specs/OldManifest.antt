@@ -5,7 +5,7 @@ use Rattle.std.specs.Prelude.{◌≡◌, ◌≢◌, ◌⊎◌, ℕ, ◌==◌, �
 use Rattle.std.specs.Prelude.{length, take, Option, None, Some, Result, Ok, Err}
 use Rattle.lsm_codec.specs.Lists.{Has}
 use Rattle.lsm_shelf.specs.Asked.{Asked, ReadManifest}
-use Rattle.lsm_shelf.specs.Told.{Becomes, Told, finding}
+use Rattle.lsm_shelf.specs.Told.{Becomes, Counted, Told, finding}
 use Rattle.lsm_shelf.specs.declared.shelf_fault.ShelfFault.{ShelfFault}
 use Rattle.lsm_shelf.specs.declared.shelf_fault.ShelfFault.TheVariants as shelf
 use Rattle.lsm_manifest.specs.EditFit.{Change}
@@ -99,9 +99,10 @@ IsBytewise (Some bytes) = NamesAnother (edits_in bytes) → ⊥
 
 -- ---- from a shelf
 
--- The shelf gave its manifest, these bytes; or it has none.
+-- The shelf gave its manifest, these bytes; or it was asked, and has none.
 abbrev pub GivesManifest : (Asked → ShelfFault → Type 0) → Option (List ℕ) → Told → Told → Type 0
-GivesManifest Denied None was is = Becomes was is × Denied ReadManifest shelf.Missing
+GivesManifest Denied None was is =
+    Becomes was is × Denied ReadManifest shelf.Missing × Counted shelf.Missing was is
 GivesManifest Denied (Some bytes) was is = (number : ℕ) × Becomes (finding number bytes was) is
 
 -- So it did, the keys are in bytewise order, and these are the logs.
@@ -112,12 +113,12 @@ pub record IsOld (Denied : Asked → ShelfFault → Type 0) (logs : OldLogs) (wa
     pub bytewise : IsBytewise found
     pub says : logs ≡ logs_of found
 
--- Memory ran out; or the shelf has a manifest, and does not give it; or that names another
--- comparator.
+-- Memory ran out; or the shelf has a manifest, was asked, and did not give it; or that names
+-- another comparator.
 abbrev pub IsNotOld : (Asked → ShelfFault → Type 0) → MendFault → Told → Told → Type 0
 IsNotOld Denied fault was is =
     (fault ≡ OutOfMemory)
     ⊎ (((e : ShelfFault) × (fault ≡ UnreadManifest e) × (e ≢ shelf.Missing)
-    × Denied ReadManifest e)
+    × Denied ReadManifest e × Counted e was is)
     ⊎ ((bytes : List ℕ) × GivesManifest Denied (Some bytes) was is
     × NamesAnother (edits_in bytes) × (fault ≡ OtherComparator)))
