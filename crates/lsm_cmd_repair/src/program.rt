@@ -83,7 +83,8 @@ where
 ///
 /// Each file stays but `CURRENT`: old tables, those left out, the old manifest, and the logs, of
 /// which those are to be read that the old manifest had read; where that can't be read to its end,
-/// a note on `err` names each of them. What was read is held in memory.
+/// or is not the latest one there, a note on `err` names each of them. What was read is held in
+/// memory.
 ///
 /// `Locked` where another program has the folder open; the refusals of opening it, and those of
 /// `repair_on`.

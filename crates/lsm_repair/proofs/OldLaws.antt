@@ -2,7 +2,7 @@
 use Rattle.std.proofs.Common.{◌≡◌, ℕ, zero, suc, ◌+◌, ◌<◌, ◌≤◌, List, [], ◌∷◌, ◌++◌, length}
 use Rattle.std.proofs.Common.{get_or, take, drop, drop-cons, Option, None, Some, refl, sym, ap}
 use Rattle.std.proofs.Common.{◌∙◌, subst, inl, inr, arith}
-use Rattle.std.specs.Prelude.{◌⊎◌, Err, IfOk, MatchOption, Ok, OnOk, Result}
+use Rattle.std.specs.Prelude.{◌⊎◌, Err, IfErr, IfOk, MatchOption, Ok, OnOk, Result}
 use Rattle.std.specs.Option.{option_or}
 use Rattle.std.proofs.lemmas.List.{append-nil, append_assoc, take_all, take_more}
 use Rattle.lsm_codec.specs.Lists.{Has}
@@ -18,9 +18,11 @@ use Rattle.lsm_manifest.specs.declared.log_fault.LogFault.{LogFault}
 use Rattle.lsm_shelf.specs.Asked.{Asked}
 use Rattle.lsm_shelf.specs.Told.{Becomes, Told, finding}
 use Rattle.lsm_shelf.specs.declared.shelf_fault.ShelfFault.{ShelfFault}
-use Rattle.lsm_repair.specs.OldManifest.{IsOld, NamesAnother, edits_by, edits_in, first_edits}
-use Rattle.lsm_repair.specs.OldManifest.{first_records, front_by, logs_in, records_by}
+use Rattle.lsm_repair.specs.OldManifest.{IsNotOld, IsOld, NamesAnother, edits_by, edits_in}
+use Rattle.lsm_repair.specs.OldManifest.{first_edits, first_records, front_by, logs_in, records_by}
 use Rattle.lsm_repair.specs.declared.mend_fault.MendFault.{MendFault}
+use Rattle.lsm_repair.specs.declared.mend_fault.MendFault.TheVariants.{OtherComparator}
+use Rattle.lsm_repair.specs.declared.mend_fault.MendFault.TheVariants.{OutOfMemory}
 use Rattle.lsm_repair.specs.declared.old_logs.OldLogs.{OldLogs}
 
 -- ---- records
@@ -141,12 +143,28 @@ last_next pick xs i x lt is =
 
 pub old_from : (Denied : Asked → ShelfFault → Type 0) (r : Result OldLogs MendFault) (number : ℕ)
     (bytes given : List ℕ) (was is : Told) → given ≡ bytes → Becomes (finding number bytes was) is
-    → IfOk r (λ l. l ≡ logs_in given) → OnOk r (NamesAnother (edits_in given) → ⊥)
+    → IfOk r (λ l. l ≡ logs_in number given) → OnOk r (NamesAnother (edits_in given) → ⊥)
     → IfOk r (λ l. IsOld Denied l was is)
 old_from Denied (Ok l) number bytes given was is same told says bytewise = record {
-  found = Some bytes;
-  given = (number, told);
+  found = Some (number, bytes);
+  given = told;
   bytewise = subst (λ (b : List ℕ). NamesAnother (edits_in b) → ⊥) same bytewise;
-  says = says ∙ ap logs_in same;
+  says = says ∙ ap (logs_in number) same;
 }
 old_from Denied (Err e) number bytes given was is same told says bytewise = tt
+
+pub not_old_from : (Denied : Asked → ShelfFault → Type 0) (r : Result OldLogs MendFault)
+    (number : ℕ) (bytes given : List ℕ) (was is : Told) → given ≡ bytes
+    → Becomes (finding number bytes was) is
+    → IfErr r (λ e. (e ≡ OutOfMemory) ⊎ ((e ≡ OtherComparator) × NamesAnother (edits_in given)))
+    → IfErr r (λ e. IsNotOld Denied e was is)
+not_old_from Denied (Ok l) number bytes given was is same told why = tt
+not_old_from Denied (Err e) number bytes given was is same told (inl memory) = inl memory
+not_old_from Denied (Err e) number bytes given was is same told (inr (other, names)) =
+    inr (inr (
+      number,
+      bytes,
+      told,
+      subst (λ (b : List ℕ). NamesAnother (edits_in b)) same names,
+      other,
+    ))

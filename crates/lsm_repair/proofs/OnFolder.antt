@@ -90,7 +90,8 @@ module _ {C M : Type 0} (folders : Ghosts C M) (marks : mark.Ghosts M)
 
   pub unmended_on : (e : MendFault) (r : Result Mended MendFault) → r ≡ Err e
       → IfErr r (IsUnmended (stored_at folders marks (told_by folders begun).place) MayRefuse number
-      (told_by folders begun)) → PutsAtMost number (told_by folders begun) (told_by folders ended)
+      (told_by folders begun) (told_by folders ended))
+      → PutsAtMost number (told_by folders begun) (told_by folders ended)
       → FailsOn folders marks old looked e
   unmended_on e r is unmended puts = inr (inr record {
     names = names;
@@ -104,7 +105,7 @@ module _ {C M : Type 0} (folders : Ghosts C M) (marks : mark.Ghosts M)
     why = inl (
       subst (λ (x : Result Mended MendFault). IfErr x (IsUnmended
           (stored_at folders marks (told_by folders begun).place) MayRefuse number
-          (told_by folders begun))) is unmended,
+          (told_by folders begun) (told_by folders ended))) is unmended,
       refl,
     );
   })

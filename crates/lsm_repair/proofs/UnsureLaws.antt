@@ -1,13 +1,14 @@
 -- Which names are of logs that LevelDB reads.
 use Rattle.std.proofs.Common.{◌≡◌, ℕ, ◌+◌, ◌<◌, ◌≤◌, List, [], ◌∷◌, ◌++◌, length, get_or, take, map}
-use Rattle.std.proofs.Common.{refl, sym, ap, ◌∙◌, subst, inl, inr}
-use Rattle.std.specs.Prelude.{◌↔◌, ◌⊎◌}
+use Rattle.std.proofs.Common.{refl, sym, ap, ◌∙◌, subst, inl, inr, arith, Bool, true, false}
+use Rattle.std.specs.Prelude.{◌↔◌, ◌⊎◌, MatchBool}
 use Rattle.std.specs.List.Sorted.{IsStrictlyIncreasing}
 use Rattle.lsm_codec.specs.Lists.{Has}
 use Rattle.lsm_manifest.proofs.CallerLemmas.{has_snoc, snoc_has}
-use Rattle.lsm_opening.specs.Names.{Among}
+use Rattle.lsm_opening.specs.Names.{Among, IsManifestName}
 use Rattle.lsm_opening.proofs.CallerLemmas.{all_names, next_name}
-use Rattle.lsm_repair.specs.UnsureLogs.{AddsNumber, AreLogs, AreNumbers, IsLogToRead}
+use Rattle.lsm_repair.specs.UnsureLogs.{AddsNumber, AreLogs, AreNumbers, IsLater, IsLogToRead}
+use Rattle.lsm_repair.specs.UnsureLogs.{IsSure}
 use Rattle.lsm_repair.specs.declared.old_logs.OldLogs.{OldLogs}
 use Rattle.lsm_repair.proofs.FreeLaws.{among_front, among_last, among_split}
 
@@ -64,3 +65,35 @@ logs_are logs names ns ms up same are = record {
   ascending = up;
   all = λ n. ((λ h. (are n).0 ((same n).0 h)), (λ h. (same n).1 ((are n).1 h)));
 }
+
+-- ---- later manifests
+
+pub not_later : (number other : ℕ) (name : List ℕ) → other ≤ number
+    → ((n : ℕ) → IsManifestName n name → n ≡ other) → IsLater number name → ⊥
+not_later number other name low one (m, named, above) =
+    let same : m ≡ other = one m named in
+    absurd (omega (arith, low, above, same))
+
+pub none_more : {X : Type 0} (text : X → List ℕ) (P : List ℕ → Type 0) (xs : List X) (i : ℕ) (x : X)
+    (word : List ℕ) → i < length xs → x ≡ get_or xs i x → word ≡ text x
+    → (Among (map text (take i xs)) P → ⊥) → (P word → ⊥)
+    → Among (map text (take (i + 1) xs)) P → ⊥
+none_more text P xs i x word lt is spelled none this =
+    subst (λ (names : List (List ℕ)). Among names P → ⊥)
+    (next_name text xs i x word lt is spelled)
+    (λ h. elim (among_split (map text (take i xs)) word P h) [
+      | inl k ↦ none k
+      | inr k ↦ this k
+    ])
+
+pub none_all : {X : Type 0} (text : X → List ℕ) (P : List ℕ → Type 0) (xs : List X) (i : ℕ)
+    → length xs ≤ i → (Among (map text (take i xs)) P → ⊥) → Among (map text xs) P → ⊥
+none_all text P xs i done none =
+    subst (λ (names : List (List ℕ)). Among names P → ⊥) (all_names text xs i done) none
+
+pub sure_by : (whole : Bool) (logs : OldLogs) (names : List (List ℕ)) → logs.is_whole ≡ whole
+    → (Among names (IsLater logs.manifest) → ⊥)
+    → MatchBool whole (IsSure logs names) (IsSure logs names → ⊥)
+sure_by true logs names is none = record { whole = is; latest = none }
+sure_by false logs names is none = λ h.
+    (let e : false ≡ true = sym is ∙ h.whole in absurd cc)

@@ -163,28 +163,29 @@ IsUnput Denied number image fault =
     ⊎ ((fault ≡ TooLarge)
     × ((2 ^ 32 ≤ length image.smallest) ⊎ (2 ^ 32 ≤ length image.largest))))
 
--- The tables were read, and their table is not made, or not put.
+-- The tables that the shelf listed last were read, and their table is not made, or not put.
 pub record IsUnmade (Given : ℕ → List ℕ → Type 0) (Denied : Asked → ShelfFault → Type 0)
-    (number : ℕ) (fault : MendFault) (was : Told) : Type 0 where
+    (number : ℕ) (fault : MendFault) (was is : Told) : Type 0 where
   pub held : List Held
   pub left : List LeftOut
   pub whole : ℕ
   pub mid : Told
   pub taken : IsTakenIn Given held left whole was mid
+  pub same_list : is.listed ≡ mid.listed
   pub why : IsUnmerged usual held fault
       ⊎ ((last : ℕ) × (count : ℕ) × (image : Imaged) × IsMerged held last count image
       × IsUnput Denied number image fault)
 
 -- The old manifest was read, and tables were not, or no table came of them.
 pub record IsUnmendedBehind (Given : ℕ → List ℕ → Type 0) (Denied : Asked → ShelfFault → Type 0)
-    (number : ℕ) (fault : MendFault) (was : Told) : Type 0 where
+    (number : ℕ) (fault : MendFault) (was is : Told) : Type 0 where
   pub logs : OldLogs
   pub begun : Told
   pub old : IsOld Denied logs was begun
-  pub why : IsUntaken Denied fault ⊎ IsUnmade Given Denied number fault begun
+  pub why : IsUntaken Denied fault ⊎ IsUnmade Given Denied number fault begun is
 
 -- It was not read, or names another comparator; or so it was.
-abbrev pub IsUnmended : (ℕ → List ℕ → Type 0) → (Asked → ShelfFault → Type 0) → ℕ → Told
+abbrev pub IsUnmended : (ℕ → List ℕ → Type 0) → (Asked → ShelfFault → Type 0) → ℕ → Told → Told
     → MendFault → Type 0
-IsUnmended Given Denied number was fault =
-    ((is : Told) × IsNotOld Denied fault was is) ⊎ IsUnmendedBehind Given Denied number fault was
+IsUnmended Given Denied number was is fault =
+    IsNotOld Denied fault was is ⊎ IsUnmendedBehind Given Denied number fault was is

@@ -5,7 +5,7 @@ use Rattle.std.specs.Prelude.{◌≡◌, ◌≢◌, ◌⊎◌, ℕ, ◌==◌, �
 use Rattle.std.specs.Prelude.{length, take, Option, None, Some, Result, Ok, Err}
 use Rattle.lsm_codec.specs.Lists.{Has}
 use Rattle.lsm_shelf.specs.Asked.{Asked, ReadManifest}
-use Rattle.lsm_shelf.specs.Told.{Becomes, Told, finding}
+use Rattle.lsm_shelf.specs.Told.{Becomes, Counted, Told, finding}
 use Rattle.lsm_shelf.specs.declared.shelf_fault.ShelfFault.{ShelfFault}
 use Rattle.lsm_shelf.specs.declared.shelf_fault.ShelfFault.TheVariants as shelf
 use Rattle.lsm_manifest.specs.EditFit.{Change}
@@ -76,48 +76,51 @@ abbrev pub number_or_none : Option ℕ → ℕ
 number_or_none None = 0
 number_or_none (Some n) = n
 
--- the last log numbers that its edits have, 0 for one that none has
-abbrev pub logs_in : List ℕ → OldLogs
-logs_in bytes = record {
+-- the number of a manifest, and the last log numbers that its edits have, 0 for one that none has
+abbrev pub logs_in : ℕ → List ℕ → OldLogs
+logs_in number bytes = record {
+  manifest = number;
   log = number_or_none (last_log (edits_in bytes));
   prev_log = number_or_none (last_prev_log (edits_in bytes));
   is_whole = is_whole bytes;
 }
 
--- of no manifest: LevelDB reads each log
-abbrev pub logs_of : Option (List ℕ) → OldLogs
-logs_of None = record { log = 0; prev_log = 0; is_whole = false }
-logs_of (Some bytes) = logs_in bytes
+-- of a manifest of this number and these bytes; of none: LevelDB reads each log
+abbrev pub logs_of : Option (ℕ × List ℕ) → OldLogs
+logs_of None = record { manifest = 0; log = 0; prev_log = 0; is_whole = false }
+logs_of (Some found) = logs_in found.0 found.1
 
 -- one of these edits names a comparator other than LevelDB's own
 abbrev pub NamesAnother : List Change → Type 0
 NamesAnother edits = (edit : Change) × Has edits edit × NamesOther edit
 
-abbrev pub IsBytewise : Option (List ℕ) → Type 0
+abbrev pub IsBytewise : Option (ℕ × List ℕ) → Type 0
 IsBytewise None = Unit {0}
-IsBytewise (Some bytes) = NamesAnother (edits_in bytes) → ⊥
+IsBytewise (Some found) = NamesAnother (edits_in found.1) → ⊥
 
 -- ---- from a shelf
 
--- The shelf gave its manifest, these bytes; or it has none.
-abbrev pub GivesManifest : (Asked → ShelfFault → Type 0) → Option (List ℕ) → Told → Told → Type 0
-GivesManifest Denied None was is = Becomes was is × Denied ReadManifest shelf.Missing
-GivesManifest Denied (Some bytes) was is = (number : ℕ) × Becomes (finding number bytes was) is
+-- The shelf gave its manifest, of this number and these bytes; or it was asked, and has none.
+abbrev pub GivesManifest : (Asked → ShelfFault → Type 0) → Option (ℕ × List ℕ) → Told → Told
+    → Type 0
+GivesManifest Denied None was is =
+    Becomes was is × Denied ReadManifest shelf.Missing × Counted shelf.Missing was is
+GivesManifest Denied (Some found) was is = Becomes (finding found.0 found.1 was) is
 
 -- So it did, the keys are in bytewise order, and these are the logs.
 pub record IsOld (Denied : Asked → ShelfFault → Type 0) (logs : OldLogs) (was is : Told) : Type 0
   where
-    pub found : Option (List ℕ)
+    pub found : Option (ℕ × List ℕ)
     pub given : GivesManifest Denied found was is
     pub bytewise : IsBytewise found
     pub says : logs ≡ logs_of found
 
--- Memory ran out; or the shelf has a manifest, and does not give it; or that names another
--- comparator.
+-- Memory ran out; or the shelf has a manifest, was asked, and did not give it; or that names
+-- another comparator.
 abbrev pub IsNotOld : (Asked → ShelfFault → Type 0) → MendFault → Told → Told → Type 0
 IsNotOld Denied fault was is =
     (fault ≡ OutOfMemory)
     ⊎ (((e : ShelfFault) × (fault ≡ UnreadManifest e) × (e ≢ shelf.Missing)
-    × Denied ReadManifest e)
-    ⊎ ((bytes : List ℕ) × GivesManifest Denied (Some bytes) was is
+    × Denied ReadManifest e × Counted e was is)
+    ⊎ ((number : ℕ) × (bytes : List ℕ) × GivesManifest Denied (Some (number, bytes)) was is
     × NamesAnother (edits_in bytes) × (fault ≡ OtherComparator)))

@@ -67,7 +67,7 @@ module _ {C M : Type 0} (folders : Ghosts C M) (marks : mark.Ghosts M) where
       → Type 0
   IsUnnamed number looked last begun ended fault =
       (IsUnmended (stored_at folders marks (told_by folders begun).place) MayRefuse number
-      (told_by folders begun) fault × (last ≡ looked))
+      (told_by folders begun) (told_by folders ended) fault × (last ≡ looked))
       ⊎ ((manifest : List ℕ) × (logs : OldLogs) × (tables : ℕ) × (entries : ℕ)
       × (left : List LeftOut) × (e : ShelfFault) × (fault ≡ Unwritten e)
       × IsMended (stored_at folders marks (told_by folders begun).place) MayRefuse number manifest

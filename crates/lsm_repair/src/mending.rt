@@ -94,6 +94,7 @@ fn put<N: Naming, S: Shelf, R: Wait>(
         ((length image.smallest < 2 ^ 32) × (length image.largest < 2 ^ 32)) }
     ensures told { OnOk result (Becomes (putting number image.bytes shelf.old) shelf.new) }
     ensures at_most { PutsAtMost number shelf.old shelf.new }
+    ensures same_list { shelf.new.listed ≡ shelf.old.listed }
     ensures refused { IfErr result (IsUnput (S.refuses N.place) number image) }
 {
     let table = match image.put_alone(rt, alloc, shelf, number) {
@@ -185,6 +186,7 @@ fn name_table<N: Naming, S: Shelf, R: Wait>(
         number image.bytes) }
     ensures told { OnOk result (Becomes (putting number image.bytes shelf.old) shelf.new) }
     ensures at_most { PutsAtMost number shelf.old shelf.new }
+    ensures same_list { shelf.new.listed ≡ shelf.old.listed }
     ensures refused { IfErr result (IsUnput (S.refuses N.place) number image) }
 {
     whole_edit_replays();
@@ -217,7 +219,7 @@ pub(crate) fn mend<N: Naming, S: Shelf, R: Wait>(
     ensures at_most { PutsAtMost number shelf.old shelf.new }
     ensures refused { IfErr result (IsUnmended
         (Stored S.Receipt (S.is_of N.place) S.Receipt.number S.Receipt.image) (S.refuses N.place)
-        number shelf.old) }
+        number shelf.old shelf.new) }
 {
     mended_is_sound();
     let logs = read_old(rt, alloc, shelf)?;

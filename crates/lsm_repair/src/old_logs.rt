@@ -8,6 +8,8 @@ ghost use Rattle.lsm_repair.specs.OldManifest.{logs_of};
 /// then it reads each.
 #[derive(Clone, Copy, Debug)]
 pub struct OldLogs {
+    /// The number of that manifest, 0 where there is none.
+    pub manifest: u64,
     pub log: u64,
     pub prev_log: u64,
     /// Whether they are those of a manifest without a fault, to its last byte.
@@ -20,6 +22,7 @@ impl OldLogs {
         ensures { result ≡ logs_of None }
     {
         OldLogs {
+            manifest: 0,
             log: 0,
             prev_log: 0,
             is_whole: false,

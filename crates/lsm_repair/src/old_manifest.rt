@@ -160,9 +160,9 @@ fn has(number: Option<u64>) -> bool
     }
 }
 
-/// The logs of a manifest of these bytes.
-fn logs_in(alloc: Global, bytes: &[u8]) -> Result<OldLogs, MendFault>
-    ensures logs { IfOk result (λ logs. logs ≡ logs_in bytes.now) }
+/// The logs of a manifest of this number and these bytes.
+fn logs_in(alloc: Global, number: u64, bytes: &[u8]) -> Result<OldLogs, MendFault>
+    ensures logs { IfOk result (λ logs. logs ≡ logs_in number bytes.now) }
     ensures bytewise { OnOk result (NamesAnother (edits_in bytes.now) → ⊥) }
     ensures refused { IfErr result (λ e. (e ≡ OutOfMemory)
         ⊎ ((e ≡ OtherComparator) × NamesAnother (edits_in bytes.now))) }
@@ -176,6 +176,7 @@ fn logs_in(alloc: Global, bytes: &[u8]) -> Result<OldLogs, MendFault>
     let all = edits.len() == records.as_slice().len();
     let named = has(log);
     Ok(OldLogs {
+        manifest: number,
         log: or_none(log),
         prev_log: or_none(prev_log),
         is_whole: ends_whole && all && named,
@@ -196,7 +197,7 @@ pub(crate) fn read_old<N: Naming, S: Shelf, R: Wait>(
     ensures refused { IfErr result (λ e. IsNotOld (S.refuses N.place) e shelf.old shelf.new) }
 {
     match shelf.read_manifest(rt, alloc) {
-        Ok((_number, bytes)) => logs_in(alloc, &bytes),
+        Ok((number, bytes)) => logs_in(alloc, number, &bytes),
         Err(ShelfFault::Missing) => Ok(OldLogs::none()),
         Err(fault) => Err(MendFault::UnreadManifest(fault)),
     }

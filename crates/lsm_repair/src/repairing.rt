@@ -83,7 +83,7 @@ fn mend_as<N: Naming, S: Shelf, R: Wait>(
     ensures at_most { PutsAtMost number (S.told shelf) (S.told result.1) }
     ensures refused { IfErr result.0 (IsUnmended
         (Stored S.Receipt (S.is_of N.place) S.Receipt.number S.Receipt.image) (S.refuses N.place)
-        number (S.told shelf)) }
+        number (S.told shelf) (S.told result.1)) }
 {
     // The records give the shelf its name, and nothing is put into them.
     drop(records);
@@ -108,7 +108,7 @@ fn mend_shelf<S: Shelf, R: Wait>(
     ensures at_most { PutsAtMost number (S.told shelf) (S.told result.1) }
     ensures refused { IfErr result.0 (IsUnmended
         (Stored S.Receipt (S.is_of (S.told shelf).place) S.Receipt.number S.Receipt.image)
-        (S.refuses (S.told shelf).place) number (S.told shelf)) }
+        (S.refuses (S.told shelf).place) number (S.told shelf) (S.told result.1)) }
 {
     match Records::new(alloc) {
         Ok(records) => mend_as::<Brand, S, R>(rt, alloc, shelf, records, number),

@@ -5,7 +5,9 @@ ghost use Rattle.std.specs.Prelude.{map, string_bytes};
 ghost use Rattle.std.specs.List.Sorted.{IsStrictlyIncreasing};
 ghost use Rattle.lsm_codec.specs.Lists.{Has};
 ghost use Rattle.lsm_directory.specs.Logs.{IsLogName, IsReached};
-ghost use Rattle.lsm_repair.specs.UnsureLogs.{AddsNumber, AreNumbers, AreUnsure, IsLogToRead};
+ghost use Rattle.lsm_opening.specs.Names.{Among};
+ghost use Rattle.lsm_repair.specs.UnsureLogs.{AddsNumber, AreNumbers, AreUnsure, IsLater};
+ghost use Rattle.lsm_repair.specs.UnsureLogs.{IsLogToRead, IsSure};
 
 use crate::free_number::kind_of;
 use crate::old_logs::OldLogs;
@@ -81,8 +83,48 @@ fn ascending(mut numbers: Vec<u64>) -> Result<Vec<u64>, AllocError>
     Ok(numbers)
 }
 
+/// Whether the name is of a manifest of a higher number.
+fn is_later(name: &str, number: u64) -> bool
+    ensures { MatchBool result (IsLater number name.now) (IsLater number name.now → ⊥) }
+{
+    match kind_of(name) {
+        FileKind::Manifest(other) => {
+            if number < other {
+                return true;
+            }
+            false
+        }
+        _ => false,
+    }
+}
+
+/// Whether one of these names is.
+fn has_later(names: &[String], number: u64) -> bool
+    ensures { MatchBool result (Among (map string_bytes names.now) (IsLater number))
+        (Among (map string_bytes names.now) (IsLater number) → ⊥) }
+{
+    for name in names {
+        if is_later(name.as_str(), number) {
+            return true;
+        }
+    }
+    false
+}
+
+/// Whether the manifest that was read is whole, and none of a higher number is among the names.
+fn is_sure(names: &[String], logs: OldLogs) -> bool
+    ensures { MatchBool result (IsSure logs (map string_bytes names.now))
+        (IsSure logs (map string_bytes names.now) → ⊥) }
+{
+    if has_later(names, logs.manifest) {
+        return false;
+    }
+    logs.is_whole
+}
+
 /// The numbers of the logs among these names that may have come in before, and that the new
-/// manifest has one read, ascending: none where a whole manifest said which are to be read.
+/// manifest has one read, ascending: none where a whole manifest said which are to be read, beside
+/// which there is no later one.
 pub(crate) fn unsure_logs(
     alloc: Global,
     names: &[String],
@@ -90,7 +132,7 @@ pub(crate) fn unsure_logs(
 ) -> Result<Vec<u64>, AllocError>
     ensures { IfOk result (λ v. AreUnsure logs (map string_bytes names.now) v.items) }
 {
-    if logs.is_whole {
+    if is_sure(names, logs) {
         return Ok(Vec::new(alloc));
     }
     let numbers = numbers_to_read(alloc, names, logs)?;

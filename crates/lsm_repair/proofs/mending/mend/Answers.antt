@@ -1,4 +1,4 @@
-use Rattle.std.proofs.Common.{inl, inr}
+use Rattle.std.proofs.Common.{inl, inr, refl}
 use Rattle.std.proofs.lemmas.Result.{err_from_is_err_and}
 use Rattle.lsm_shelf.specs.Stored.{Stored}
 use Rattle.lsm_repair.proofs.MendLaws.{mended, puts_later, puts_none, same_then}
@@ -48,7 +48,7 @@ returns-in_err-manifest-clause-at_most g c =
 pub returns-in_err-logs-clause-refused : goal.returns-in_err-logs-clause-refused
 returns-in_err-logs-clause-refused g c =
     let p = err_from_is_err_and c.from_residual.result c.from_residual.ensures.1 in
-    rw (p.1, p.2) (inl (c.read_old.new.shelf, c.in_err-logs.ensures.refused))
+    rw (p.1, p.2) (inl c.in_err-logs.ensures.refused)
 
 pub returns-in_err-found-clause-refused : goal.returns-in_err-found-clause-refused
 returns-in_err-found-clause-refused g c =
@@ -75,6 +75,7 @@ returns-in_err-merged-clause-refused g c =
         whole = c.in_ok-found.tables;
         mid = c.take_in.new.shelf;
         taken = c.in_ok-found.ensures.taken;
+        same_list = refl;
         why = inl (rw c.usual.ensures at c.in_err-merged.ensures.refused);
       };
     })
@@ -93,6 +94,7 @@ returns-in_err-manifest-clause-refused g c =
         whole = c.in_ok-found.tables;
         mid = c.take_in.new.shelf;
         taken = c.in_ok-found.ensures.taken;
+        same_list = c.name_table.ensures.same_list;
         why = inr (
           c.in_ok-merged.merged.last,
           c.in_ok-merged.merged.count,

@@ -27,3 +27,9 @@ returns-clause-at_most g c =
 pub returns-in-Err-clause-at_most : goal.returns-in-Err-clause-at_most
 returns-in-Err-clause-at_most g c =
     puts_same c.args.number c.args.shelf.now c.put_alone.new.shelf c.in-Err.ensures.err
+
+pub returns-clause-same_list : goal.returns-clause-same_list
+returns-clause-same_list g c = c.in-Ok.ensures.ok.listed
+
+pub returns-in-Err-clause-same_list : goal.returns-in-Err-clause-same_list
+returns-in-Err-clause-same_list g c = c.in-Err.ensures.err.listed

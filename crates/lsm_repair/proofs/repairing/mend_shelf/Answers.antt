@@ -2,4 +2,4 @@ use Rattle.std.proofs.Common.{inl}
 use Rattle.lsm_repair.proofs.repairing.mend_shelf.Goals as goal
 
 pub returns-in-Err-clause-refused : goal.returns-in-Err-clause-refused
-returns-in-Err-clause-refused g c = inl (g.S.Shelf.told c.args.shelf, inl c.from.ensures)
+returns-in-Err-clause-refused g c = inl (inl c.from.ensures)
