@@ -76,6 +76,7 @@ class Killer:
         if words[0] in ("ingest", "compact"):
             err = plain.besides_crash(err)
         if program.returncode == -9 and kills:
+            err = re.sub(r"note: [^\n]*\Z", "", err)  # a note that was cut
             self.killed += 1
             self.counts["by call" if after is None else "by time"] += 1
             return None, out, err

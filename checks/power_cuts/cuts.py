@@ -162,6 +162,7 @@ class Cutter:
         named = words[0] if words[0] == "ingest" else f"compact by {words[3]}"
         self.what = f"database {self.counts['databases']}, lsm {named}"
         status, out, err = self.run(*words, traced=True)
+        err = plain.besides_crash(err)
         if status or err:
             self.stop(f"status {status}, says: {err[:300].strip()}", self.db)
         self.counts[f"runs {named}"] += 1
