@@ -73,8 +73,8 @@ fn open_levels<N: Naming, V: Vouching, S: Shelf>(
 /// Reads the footer and the index block of each table of a version, level by level, and in a level
 /// in its order: two reads a table. So a table whose footer or index is of another kind is found at
 /// once, where none was judged; not one of which the data blocks alone are compressed. It rests on
-/// the honesty of the shelf inside alone, not on what was supposed of its tables. The shelf is given
-/// back.
+/// the honesty of the shelf inside alone, not on what was supposed of its tables. The shelf is
+/// given back.
 ///
 /// The first refusal names its table: 12 to 17, and 6 to 8, of the footer or the index block; those
 /// of reading the table; `OutOfMemory`.

@@ -26,8 +26,8 @@ use std::sync::{Arc, Wait};
 impl<N: Boarded, S: Finding> State<N, S> {
     /// The state of the database of which this manifest was read, as `State::open` gives it, but
     /// its tables are found and measured, and of each its footer and its index block are read, and
-    /// no data block: it takes the time of the tables' number and their index blocks. A new manifest
-    /// begins. The shelf is given back.
+    /// no data block: it takes the time of the tables' number and their index blocks. A new
+    /// manifest begins. The shelf is given back.
     ///
     /// The premise, under an honest shelf and `V`, is that the shelf keeps the tables of this
     /// manifest (`KeepsTables`): then the state is one that `open` gives. Without it the state has
