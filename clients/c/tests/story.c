@@ -574,6 +574,28 @@ static void folder_moves(const char *folder) {
   free(all);
 }
 
+/* A table that is gone, as it is read and compacted: the text tells of the system's call. */
+static void lost_table(const char *folder) {
+  static const char gone[] = "No such file or directory (os error 2)";
+  char *error = NULL, lost[PATH_MAX + NAME_MAX] = "";
+  size_t length;
+  tiswenor_t *db = opened(folder, 2, 1);
+  put(db, "a", "1");
+  DIR *files = opendir(folder);
+  CHECK(files);
+  for (struct dirent *file; (file = readdir(files));)
+    if (strstr(file->d_name, ".ldb")) sprintf(lost, "%s/%s", folder, file->d_name);
+  closedir(files);
+  CHECK(!unlink(lost));
+  CHECK(!tiswenor_get(db, NULL, "a", 1, &length, &error));
+  CHECK(tiswenor_error_number(error) == 10);
+  tells(&error, "read", lost, gone);
+  tiswenor_compact_range(db, NULL, 0, NULL, 0, &error);
+  CHECK(tiswenor_error_number(error) == 35);
+  tells(&error, "read", lost, gone);
+  tiswenor_close(db);
+}
+
 static void several(const char *folder) {
   enum { COUNT = 4 };
   tiswenor_t *all[COUNT];
@@ -615,6 +637,8 @@ int main(int argc, char **argv) {
   snprintf(folder, sizeof folder, "%s/folder", argv[1]);
   folders(folder);
   folder_moves(argv[1]);
+  snprintf(folder, sizeof folder, "%s/lost", argv[1]);
+  lost_table(folder);
   several(argv[1]);
   puts("story: ok");
 }

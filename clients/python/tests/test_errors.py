@@ -4,6 +4,7 @@ import errno
 import mmap
 import os
 import pickle
+import shutil
 
 import pytest
 
@@ -110,6 +111,45 @@ def test_lock_that_is_no_file(folder):
     assert (error.call, error.file) == ("lock", str(folder / "LOCK"))
     assert error.errno is None
     assert str(error) == f"9 Device: {folder}: lock {folder}/LOCK: not a regular file"
+
+
+def test_table_that_goes(folder, db):
+    """What reads and compacts it tells of the system's call."""
+    db.put(b"a", b"1")
+    lost = next(path for path in folder.iterdir() if path.suffix == ".ldb")
+    lost.unlink()
+    for call, kind, name, number in (
+        (lambda: db.get(b"a"), tiswenor.CorruptionError, "Missing", None),
+        (lambda: list(db.iterator()), tiswenor.CorruptionError, "Missing", None),
+        (db.compact_range, tiswenor.IOError, "ReadFailed", errno.ENOENT),
+    ):
+        error = raised(call)
+        assert (type(error), error.name) == (kind, name)
+        assert (error.call, error.file) == ("read", str(lost))
+        assert error.reason == "No such file or directory (os error 2)"
+        assert getattr(error, "errno", None) == number
+
+
+def test_folder_that_goes(folder, db):
+    db.put(b"a", b"1")
+    shutil.rmtree(folder)
+    error = raised(db.put, b"a", b"2")
+    assert (type(error), error.name) == (tiswenor.IOError, "Device")
+    assert error.call == "make" and error.file.startswith(f"{folder}/")
+    assert error.reason == "No such file or directory (os error 2)"
+    assert error.errno == errno.ENOENT
+
+
+def test_full_level(folder):
+    """Without a worker nobody makes room."""
+    with tiswenor.DB(folder, create_if_missing=True, workers=0) as db:
+        for key in range(12):
+            db.put(b"%d" % key, b"")
+        error = raised(db.put, b"12", b"")
+    assert type(error) is tiswenor.Refused
+    assert (error.call, error.file, error.reason) == (None, None, None)
+    told = "level 0 has 12 tables: a compaction makes room"
+    assert str(error) == f"40 LevelZeroFull: {folder}: {told}"
 
 
 def test_name_alone():

@@ -26,7 +26,7 @@ use Rattle.lsm_channels.specs.Opening.{RefusedOn, SaysRefusal}
 use Rattle.lsm_channels.specs.Refusal.{AreOpened, IsFirst, IsSaidOn, KeepsLogsOut, none_said}
 use Rattle.lsm_channels.specs.Serving.{AreHandedBack, End, IsDatabaseServed, IsDatabaseUnserved, end, ends_from, opened_from}
 use Rattle.lsm_channels.specs.Starting.{options_for}
-use Rattle.lsm_channels.specs.Telling.{IsRefusalFrame}
+use Rattle.lsm_channels.specs.Telling.{IsOpeningRefused}
 use Rattle.lsm_channels.specs.declared.opening_fault.OpeningFault.{OpeningFault}
 use Rattle.lsm_channels.specs.declared.opening_fault.OpeningFault.TheVariants.{BadOpening, Folder}
 use Rattle.lsm_channels.specs.declared.opening_fault.OpeningFault.TheVariants.{IsThere, Logs}
@@ -36,7 +36,7 @@ use Rattle.lsm_channels.specs.declared.opening_fault.OpeningFault.TheVariants.{N
 
 -- it was said over a wire at which nothing had happened
 pub refusal_said : {V E : Type 0} (bytes : V → List ℕ) (e : OpeningFault) (first : ℕ)
-    (r : Result V E) (whole : Bool) (old w : End) → IfOk r (λ v. IsRefusalFrame e (bytes v))
+    (r : Result V E) (whole : Bool) (old w : End) → IfOk r (λ v. IsOpeningRefused e (bytes v))
     → w.descriptor ≡ old.descriptor
     → MatchResult r (λ v. IsWritten (bytes v) whole old.happened w.happened)
     (λ x. IsUnanswered whole old.happened w.happened)

@@ -1,16 +1,23 @@
 -- What a session is answered by what is read.
 use Rattle.std.proofs.Common.{◌≡◌, ℕ, List, Result, Ok, Err, IfErr, IfOk, OnErr, refl, subst, inl, inr}
-use Rattle.std.specs.Prelude.{◌⊎◌}
+use Rattle.std.specs.Prelude.{◌⊎◌, None, Some}
 use Rattle.lsm_codec.specs.Entries.{Entry}
 use Rattle.lsm_history.specs.History.{IsLater}
 use Rattle.lsm_shelf.specs.Told.{Told}
+use Rattle.lsm_state.specs.StateFault as state
 use Rattle.lsm_state.specs.declared.state_fault.StateFault.{StateFault}
 use Rattle.lsm_store.specs.Readers.{Learnt}
 use Rattle.lsm_frames.specs.Answers.{Done, Nothing}
+use Rattle.lsm_store.specs.WorkerFault as worker
 use Rattle.lsm_store.specs.declared.worker_fault.WorkerFault.{WorkerFault}
-use Rattle.lsm_channels.specs.Answered.{done_frame, refusal_frame, worker_refusal_frame}
+use Rattle.lsm_opening.specs.CompactFault.{table_file_of}
+use Rattle.lsm_opening.specs.declared.faults.compact_fault.CompactFault.TheVariants.{Worker}
+use Rattle.lsm_channels.specs.Answered.{done_frame}
 use Rattle.lsm_channels.specs.Answering.{Says, SaysWork}
 use Rattle.lsm_channels.specs.Served.{Served}
+use Rattle.lsm_channels.specs.Telling.{IsOfSystem, IsStateRefused, answer_limit, batch_limits}
+use Rattle.lsm_channels.specs.Telling.{cause_of_worker, meaning_of_state, meaning_of_worker}
+use Rattle.lsm_channels.proofs.TellingLaws.{none_of, refused_somehow}
 
 -- what is said of snapshots that were taken, of a reader before and after, and of what was known and is known
 abbrev pub Seeing : Type 0 → Type 1
@@ -22,9 +29,12 @@ session_of reader shelf known taken = record { reader = reader; shelf = shelf; k
 -- The frame says what was read, or the refusal of it. The shelf and the snapshots are as they were, and the reader learnt no earlier history.
 abbrev pub ReadsBy : Seeing (List ℕ) → Seeing StateFault → (before after : Served) → List ℕ → Type 0
 ReadsBy Done Fault before after frame =
-    (after.shelf ≡ before.shelf) × (after.taken ≡ before.taken) × IsLater after.reader.history before.reader.history
+    (after.shelf ≡ before.shelf) × (after.taken ≡ before.taken)
+    × IsLater after.reader.history before.reader.history
     × (Done before.taken before.reader after.reader before.known after.known frame
-    ⊎ ((e : StateFault) × Fault before.taken before.reader after.reader before.known after.known e × (frame ≡ refusal_frame e)))
+    ⊎ ((e : StateFault)
+    × Fault before.taken before.reader after.reader before.known after.known e
+    × IsStateRefused answer_limit e frame))
 
 -- what was read is answered
 pub says_read : {T : Type 0} (Done : Seeing (List ℕ)) (Fault : Seeing StateFault) (bytes : T → List ℕ) (session : Served) (b a : Learnt) (shelf : Told) (knew knows : List Entry)
@@ -35,23 +45,36 @@ says_read Done Fault bytes session b a shelf knew knows taken held done v view s
     subst (λ (s : Served). ReadsBy Done Fault s (session_of a shelf knows taken) (bytes v)) view (refl, refl, later, inl read)
 
 -- a refusal is answered
-pub says_refused : {T : Type 0} (Done : Seeing (List ℕ)) (Fault : Seeing StateFault) (frame : List ℕ) (session : Served) (b a : Learnt) (shelf : Told) (knew knows : List Entry)
-    (taken held : List (ℕ × ℕ)) (done : Result T StateFault) (e : StateFault) → session_of b shelf knew taken ≡ session → held ≡ taken → IsLater a.history b.history
-    → done ≡ Err e → IfErr done (λ f. Fault held b a knew knows f) → frame ≡ refusal_frame e → ReadsBy Done Fault session (session_of a shelf knows taken) frame
+pub says_refused : {T : Type 0} (Done : Seeing (List ℕ)) (Fault : Seeing StateFault)
+    (frame : List ℕ) (session : Served) (b a : Learnt) (shelf : Told) (knew knows : List Entry)
+    (taken held : List (ℕ × ℕ)) (done : Result T StateFault) (e : StateFault)
+    → session_of b shelf knew taken ≡ session → held ≡ taken → IsLater a.history b.history
+    → done ≡ Err e → IfErr done (λ f. Fault held b a knew knows f)
+    → IsStateRefused answer_limit e frame
+    → ReadsBy Done Fault session (session_of a shelf knows taken) frame
 says_refused Done Fault frame session b a shelf knew knows taken held done e view same later is refused said =
     let fault = subst (λ ts. Fault ts b a knew knows e) same (subst (λ r. IfErr r (λ f. Fault held b a knew knows f)) is refused) in
     subst (λ (s : Served). ReadsBy Done Fault s (session_of a shelf knows taken) frame) view (refl, refl, later, inr (e, fault, said))
 
 -- ---- answers for which there was no memory
 
+-- some frame refuses
+pub refused_state : (limits : List ℕ) (e : StateFault)
+    → (frame : List ℕ) × IsStateRefused limits e frame
+refused_state limits e = refused_somehow (state.number_of e) (state.name_of e) None
+    (meaning_of_state limits e) (IsOfSystem (Some (state.number_of e)))
+    (none_of (Some (state.number_of e)))
+
 -- some frame says what was done, or the refusal
 pub says_some : {A : Type 0} (done : A → Done) (r : Result A StateFault) → (frame : List ℕ) × Says done r frame
 says_some done (Ok x) = (done_frame (done x), refl)
-says_some done (Err e) = (refusal_frame e, refl)
+says_some done (Err e) = refused_state batch_limits e
 
 pub says_some_work : (r : Result (Unit {0}) WorkerFault) → (frame : List ℕ) × SaysWork r frame
 says_some_work (Ok x) = (done_frame Nothing, refl)
-says_some_work (Err e) = (worker_refusal_frame e, refl)
+says_some_work (Err e) = refused_somehow (worker.number_of e) (worker.name_of e)
+    (table_file_of (Worker e)) (meaning_of_worker e) (IsOfSystem (cause_of_worker e))
+    (none_of (cause_of_worker e))
 
 -- what would have been said, where there was no memory for it
 pub unsaid : {T E : Type 0} {P : Type 0} (r : Result T E) → P → OnErr r P

@@ -4,8 +4,6 @@ use Rattle.lsm_frames.specs.Answers.{Done, Answered, IsDone, IsRefused, answer_t
 use Rattle.lsm_frames.specs.Texts.{frame}
 use Rattle.lsm_state.specs.StateFault as state
 use Rattle.lsm_state.specs.declared.state_fault.StateFault.{StateFault}
-use Rattle.lsm_store.specs.WorkerFault as worker
-use Rattle.lsm_store.specs.declared.worker_fault.WorkerFault.{WorkerFault}
 
 abbrev pub answer_frame : Answered → List ℕ
 answer_frame answered = frame (answer_text answered)
@@ -13,10 +11,6 @@ answer_frame answered = frame (answer_text answered)
 abbrev pub done_frame : Done → List ℕ
 done_frame done = answer_frame (IsDone done)
 
--- a refusal by its number and its name in docs/FORMATS.md
+-- a refusal by its number and its name in docs/FORMATS.md alone
 abbrev pub refusal_frame : StateFault → List ℕ
 refusal_frame fault = answer_frame (IsRefused (state.number_of fault) (state.name_of fault))
-
-abbrev pub worker_refusal_frame : WorkerFault → List ℕ
-worker_refusal_frame fault = answer_frame
-    (IsRefused (worker.number_of fault) (worker.name_of fault))

@@ -18,7 +18,7 @@ use Rattle.lsm_model.specs.Plain.{without_snapshot}
 use Rattle.lsm_state.specs.declared.state_fault.StateFault.TheVariants.{OutOfMemory}
 use Rattle.lsm_store.specs.declared.picks.Picks.TheVariants.{Choice}
 use Rattle.lsm_store.specs.declared.worker_fault.WorkerFault.{WorkerFault}
-use Rattle.lsm_channels.specs.Answered.{done_frame, refusal_frame, worker_refusal_frame}
+use Rattle.lsm_channels.specs.Answered.{done_frame, refusal_frame}
 use Rattle.lsm_channels.specs.Collecting.{IsCollectFault, IsCollected}
 use Rattle.lsm_channels.specs.Compacting.{ClearsRange, IsCompactFault, IsCompacted}
 use Rattle.lsm_channels.specs.Compacting.{StopsRange, StopsWorking, Works}
@@ -27,16 +27,17 @@ use Rattle.lsm_channels.specs.Reading.{IsRead, IsReadFault}
 use Rattle.lsm_channels.specs.Scanning.{IsScanFault, IsScanned}
 use Rattle.lsm_channels.specs.Served.{Served}
 use Rattle.lsm_channels.specs.Snapshots.{IsReleased, IsTaken, IsUnreleased, IsUntaken}
+use Rattle.lsm_channels.specs.Telling.{IsStateRefused, IsWorkerRefused, answer_limit, batch_limits}
 use Rattle.lsm_channels.specs.Writing.{IsWriteFault, IsWritten}
 
 -- the answer says what was done, or the refusal
 abbrev pub Says : {A : Type 0} → (A → Done) → Result A StateFault → List ℕ → Type 0
 Says done (Ok x) frame = frame ≡ done_frame (done x)
-Says done (Err e) frame = frame ≡ refusal_frame e
+Says done (Err e) frame = IsStateRefused batch_limits e frame
 
 abbrev pub SaysWork : Result (Unit {0}) WorkerFault → List ℕ → Type 0
 SaysWork (Ok x) frame = frame ≡ done_frame Nothing
-SaysWork (Err e) frame = frame ≡ worker_refusal_frame e
+SaysWork (Err e) frame = IsWorkerRefused e frame
 
 -- ---- by the kind of the request
 
@@ -57,7 +58,7 @@ AnswersRead Honest keeps when keys before after frame =
     IsRead Honest keeps when keys before.taken before.reader after.reader before.known after.known
     frame
     ⊎ ((e : StateFault) × IsReadFault Honest keeps when keys before.taken before.reader after.reader
-    before.known after.known e × (frame ≡ refusal_frame e))
+    before.known after.known e × IsStateRefused answer_limit e frame)
 
 -- The answer has the first pairs of the range, or the refusal of a scan.
 abbrev pub AnswersScan : Type 0 → (Held → Type 0) → Stretch → (before after : Served) → List ℕ
@@ -65,8 +66,7 @@ abbrev pub AnswersScan : Type 0 → (Held → Type 0) → Stretch → (before af
 AnswersScan Honest keeps s before after frame =
     IsScanned Honest keeps s before.taken before.reader after.reader before.known after.known frame
     ⊎ ((e : StateFault) × IsScanFault Honest keeps s before.taken before.reader after.reader
-    before.known
-    after.known e × (frame ≡ refusal_frame e))
+    before.known after.known e × IsStateRefused answer_limit e frame)
 
 -- The answer has the number and the sequence of a snapshot that was taken, which the channel knows
 -- from then on; or the refusal.

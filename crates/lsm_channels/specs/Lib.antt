@@ -10,6 +10,7 @@ pub mod Counting
 pub mod Collecting
 pub mod Compacting
 pub mod Answered
+pub mod Telling
 pub mod Answering
 -- What the lock keeps, and how channels are served
 pub mod Keeping
@@ -17,7 +18,6 @@ pub mod Serving
 -- How a database is opened
 pub mod Starting
 pub mod OpeningFault
-pub mod Telling
 pub mod Opening
 -- What private functions cite alone
 pub mod Refusing

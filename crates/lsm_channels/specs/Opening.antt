@@ -29,7 +29,7 @@ use Rattle.lsm_wire.specs.Happenings.{unanswered}
 use Rattle.lsm_channels.specs.Serving.{End, IsDatabaseServed, IsDatabaseUnserved, end, ends_from}
 use Rattle.lsm_channels.specs.Serving.{opened_from}
 use Rattle.lsm_channels.specs.Starting.{options_for}
-use Rattle.lsm_channels.specs.Telling.{IsRefusalFrame}
+use Rattle.lsm_channels.specs.Telling.{IsOpeningRefused}
 use Rattle.lsm_channels.specs.declared.ended.Ended.{Ended}
 use Rattle.lsm_channels.specs.declared.ended.Ended.TheVariants as ended
 use Rattle.lsm_channels.specs.declared.opening_fault.OpeningFault.{OpeningFault}
@@ -156,7 +156,7 @@ LeavesDoor (Logs e) left = ⊤
 -- the lines behind it, or that there was no memory for it; and nothing else happened there.
 abbrev pub SaysRefusal : OpeningFault → (first : ℕ) → End → Type 0
 SaysRefusal e first w = (w.descriptor ≡ pos first) × ((whole : Bool)
-    × (((said : List ℕ) × IsRefusalFrame e said × (w.happened ≡ Went said whole ∷ []))
+    × (((said : List ℕ) × IsOpeningRefused e said × (w.happened ≡ Went said whole ∷ []))
     ⊎ (w.happened ≡ Went unanswered whole ∷ [])))
 
 -- Beside the wire of the first channel none was made; or one of each other channel, at which

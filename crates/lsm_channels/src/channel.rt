@@ -7,6 +7,7 @@ ghost use Rattle.lsm_wire.specs.Conversing.{IsConversation, IsTurnOrEnd};
 ghost use Rattle.lsm_wire.specs.Happenings.{Came, Happening};
 
 use crate::session::Session;
+use lsm_folder::Reasons;
 use lsm_frames::Request;
 use lsm_slots::Boarded;
 use lsm_store::{Background, Invariant, Store};
@@ -29,6 +30,7 @@ fn answer<N: Boarded, S: Shelf, K: Invariant, W: Wire, R: Threads + Wait + Sync>
     alloc: Global,
     store: &Store<N, S, K>,
     background: &Background,
+    reasons: Option<&Reasons>,
     session: Session<N, S>,
     wire: &mut W,
     content: &[u8],
@@ -44,7 +46,7 @@ fn answer<N: Boarded, S: Shelf, K: Invariant, W: Wire, R: Threads + Wait + Sync>
 {
     match Request::parse(content) {
         Ok(request) => {
-            let (session, answer) = session.perform(rt, alloc, store, background, request);
+            let (session, answer) = session.perform(rt, alloc, store, background, reasons, request);
             (session, say(wire, &answer))
         }
         Err(_) => {
@@ -60,6 +62,7 @@ fn take_turn<N: Boarded, S: Shelf, K: Invariant, W: Wire, R: Threads + Wait + Sy
     alloc: Global,
     store: &Store<N, S, K>,
     background: &Background,
+    reasons: Option<&Reasons>,
     session: Session<N, S>,
     wire: &mut W,
 ) -> (Session<N, S>, bool)
@@ -72,7 +75,9 @@ fn take_turn<N: Boarded, S: Shelf, K: Invariant, W: Wire, R: Threads + Wait + Sy
 {
     match wire.read(alloc) {
         Incoming::Content(content) => {
-            answer(rt, alloc, store, background, session, wire, &content)
+            answer(
+                rt, alloc, store, background, reasons, session, wire, &content,
+            )
         }
         Incoming::Misfit => {
             call_no_request(alloc, wire);
@@ -92,6 +97,7 @@ pub(crate) fn serve<N: Boarded, S: Shelf, K: Invariant, W: Wire, R: Threads + Wa
     alloc: Global,
     store: &Store<N, S, K>,
     background: &Background,
+    reasons: Option<&Reasons>,
     channel: Channel<N, S, W>,
 ) -> Channel<N, S, W>
     requires asked { IsKeptByRequests S.honest (S.refuses N.place) W.gives K.keeps }
@@ -105,7 +111,7 @@ pub(crate) fn serve<N: Boarded, S: Shelf, K: Invariant, W: Wire, R: Threads + Wa
         mut wire,
     } = channel;
     'turns: for _ in rt.forever() {
-        let (after, goes_on) = take_turn(rt, alloc, store, background, session, &mut wire);
+        let (after, goes_on) = take_turn(rt, alloc, store, background, reasons, session, &mut wire);
         session = after;
         if !goes_on {
             return Channel { session, wire };

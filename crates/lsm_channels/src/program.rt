@@ -183,7 +183,7 @@ where
         return Err(Unserved { fault, wires });
     };
     let shelf = FileShelf::over(fork);
-    let (done, _shelf) = serve_on(rt, alloc, shelf, &prepared, plan, wires);
+    let (done, _shelf) = serve_on(rt, alloc, shelf, &prepared, plan, reasons, wires);
     match done {
         Ok(wires) => Ok((folder, wires)),
         Err(unserved) => {

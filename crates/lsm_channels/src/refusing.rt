@@ -2,13 +2,12 @@
 
 ghost use Rattle.std.specs.Prelude.{◌≡◌, IfOk};
 ghost use Rattle.lsm_frames.specs.Answers.{IsRefused};
-ghost use Rattle.lsm_channels.specs.Answered.{answer_frame, refusal_frame, worker_refusal_frame};
+ghost use Rattle.lsm_channels.specs.Answered.{answer_frame, refusal_frame};
 ghost use Rattle.lsm_channels.specs.Reading.{IsAnswerFault};
 ghost use Rattle.lsm_channels.specs.Refusing.{of_answer};
 
 use lsm_frames::{AnswerFault, refused};
 use lsm_state::StateFault;
-use lsm_store::WorkerFault;
 use std::alloc::{AllocError, Global};
 
 /// The answer of a refusal of this number and this name. A name that no answer has room for is no
@@ -22,16 +21,9 @@ pub(crate) fn refuse_by(alloc: Global, number: u8, name: &str) -> Result<Vec<u8>
     }
 }
 
-/// The answer of a refusal of the database.
+/// The answer of a refusal of the database, by its number and its name alone.
 pub(crate) fn refuse(alloc: Global, fault: StateFault) -> Result<Vec<u8>, AllocError>
     ensures { IfOk result (λ v. v.items ≡ refusal_frame fault) }
-{
-    refuse_by(alloc, fault.number(), fault.name())
-}
-
-/// The answer of a refusal of a worker.
-pub(crate) fn refuse_worker(alloc: Global, fault: WorkerFault) -> Result<Vec<u8>, AllocError>
-    ensures { IfOk result (λ v. v.items ≡ worker_refusal_frame fault) }
 {
     refuse_by(alloc, fault.number(), fault.name())
 }

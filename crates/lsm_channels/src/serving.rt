@@ -25,6 +25,7 @@ use crate::plan::Plan;
 use crate::refusing::refuse;
 use crate::session::Session;
 use crate::unserved::Unserved;
+use lsm_folder::Reasons;
 use lsm_frames::nothing;
 use lsm_opening::{NewParts, Prepared, WriterFault, start_with};
 use lsm_slots::Boarded;
@@ -46,6 +47,7 @@ fn start<'s, 'e, N: Boarded, S: Shelf, K: Invariant, W: Wire + Send + 'e, R: Thr
     alloc: Global,
     store: &'e Store<N, S, K>,
     background: &'e Background,
+    reasons: Option<&'e Reasons>,
     channel: Channel<N, S, W>,
 ) -> Thread<N, S, K, W>
     requires quiet { IsKeptQuietly S.honest K.keeps }
@@ -65,7 +67,9 @@ fn start<'s, 'e, N: Boarded, S: Shelf, K: Invariant, W: Wire + Send + 'e, R: Thr
             ensures served { IsServed S.honest (S.refuses N.place) K.keeps
                 (W.happened channel.wire) (W.happened result) }
         {
-            let Channel { session: _, wire } = serve(rt, alloc, store, background, channel);
+            let Channel { session: _, wire } = serve(
+                rt, alloc, store, background, reasons, channel,
+            );
             wire
         },
     );
@@ -90,6 +94,7 @@ fn start_all<
     alloc: Global,
     store: &'e Store<N, S, K>,
     background: &'e Background,
+    reasons: Option<&'e Reasons>,
     channels: Vec<Channel<N, S, W>>,
     threads: Vec<Thread<N, S, K, W>>,
 ) -> Vec<Thread<N, S, K, W>>
@@ -103,7 +108,7 @@ fn start_all<
 {
     let mut threads = threads;
     for channel in channels {
-        let thread = start(scope, rt, alloc, store, background, channel);
+        let thread = start(scope, rt, alloc, store, background, reasons, channel);
         let Ok(()) = threads.push(thread) else {
             unreachable!()
         };
@@ -163,6 +168,7 @@ fn serve_first<N: Boarded, S: Shelf, K: Invariant, W: Wire, R: Threads + Wait + 
     alloc: Global,
     store: &Store<N, S, K>,
     background: &Background,
+    reasons: Option<&Reasons>,
     first: Channel<N, S, W>,
     are_served: bool,
 ) -> W
@@ -182,6 +188,7 @@ fn serve_first<N: Boarded, S: Shelf, K: Invariant, W: Wire, R: Threads + Wait + 
         alloc,
         store,
         background,
+        reasons,
         Channel { session, wire },
     );
     wire
@@ -204,6 +211,7 @@ fn serve_within<
     alloc: Global,
     store: &'e Store<N, S, K>,
     background: &'e Background,
+    reasons: Option<&'e Reasons>,
     first: Channel<N, S, W>,
     others: Vec<Channel<N, S, W>>,
     threads: Vec<Thread<N, S, K, W>>,
@@ -222,9 +230,11 @@ fn serve_within<
         (first.wire ∷ reverse (map (λ c. c.wire) others.items)))
         (map (option_map (λ w. end (W.descriptor w) (W.happened w))) result.items) }
 {
-    let threads = start_all(scope, rt, alloc, store, background, others, threads);
+    let threads = start_all(
+        scope, rt, alloc, store, background, reasons, others, threads,
+    );
     let are_served = are_made(&threads);
-    let first = serve_first(rt, alloc, store, background, first, are_served);
+    let first = serve_first(rt, alloc, store, background, reasons, first, are_served);
     let mut wires = wires;
     let Ok(()) = wires.push(Some(first)) else {
         unreachable!()
@@ -238,6 +248,7 @@ fn serve_all<'e, N: Boarded, S: Shelf, K: Invariant, W: Wire + Send + 'e, R: Thr
     alloc: Global,
     store: &'e Store<N, S, K>,
     background: &'e Background,
+    reasons: Option<&'e Reasons>,
     first: Channel<N, S, W>,
     others: Vec<Channel<N, S, W>>,
     threads: Vec<Thread<N, S, K, W>>,
@@ -274,7 +285,7 @@ fn serve_all<'e, N: Boarded, S: Shelf, K: Invariant, W: Wire + Send + 'e, R: Thr
                 (map (option_map (λ w. end (W.descriptor w) (W.happened w))) result.items) }
         {
             serve_within(
-                scope, rt, alloc, store, background, first, others, threads, wires,
+                scope, rt, alloc, store, background, reasons, first, others, threads, wires,
             )
         },
     )
@@ -316,6 +327,7 @@ fn serve_beside<N: Boarded, S: Shelf, K: Invariant, W: Wire + Send, R: Threads +
     alloc: Global,
     store: &Store<N, S, K>,
     shelves: Vec<NamedShelf<N, S>>,
+    reasons: Option<&Reasons>,
     first: Channel<N, S, W>,
     others: Vec<Channel<N, S, W>>,
     threads: Vec<Thread<N, S, K, W>>,
@@ -354,7 +366,11 @@ fn serve_beside<N: Boarded, S: Shelf, K: Invariant, W: Wire + Send, R: Threads +
                 (map (λ w. end (W.descriptor w) (W.happened w))
                 (first.wire ∷ reverse (map (λ c. c.wire) others.items)))
                 (map (option_map (λ w. end (W.descriptor w) (W.happened w))) result.items) }
-        { serve_all(rt, alloc, store, background, first, others, threads, back) },
+        {
+            serve_all(
+                rt, alloc, store, background, reasons, first, others, threads, back,
+            )
+        },
     );
     match run {
         Ok((wires, _ends)) => Ok(wires),
@@ -372,6 +388,7 @@ fn serve_opened<N: Boarded, S: Shelf, K: Invariant, W: Wire + Send, R: Threads +
     rt: &R,
     alloc: Global,
     opened: Opened<N, S, K>,
+    reasons: Option<&Reasons>,
     wires: Vec<W>,
 ) -> Result<Vec<Option<W>>, Unserved<W, WriterFault>>
     requires quiet { IsKeptQuietly S.honest K.keeps }
@@ -408,7 +425,9 @@ fn serve_opened<N: Boarded, S: Shelf, K: Invariant, W: Wire + Send, R: Threads +
     let Some(first) = others.pop() else {
         return Err(Unserved { fault, wires: none });
     };
-    match serve_beside(rt, alloc, &store, shelves, first, others, threads, back) {
+    match serve_beside(
+        rt, alloc, &store, shelves, reasons, first, others, threads, back,
+    ) {
         Ok(wires) => Ok(wires),
         Err(fault) => Err(Unserved { fault, wires: none }),
     }
@@ -422,6 +441,7 @@ fn serve_state<N: Boarded, S: Shelf, K: Invariant, W: Wire + Send, R: Threads + 
     state: State<N, S>,
     shelf: &mut NamedShelf<N, S>,
     workers: usize,
+    reasons: Option<&Reasons>,
     wires: Vec<W>,
 ) -> Result<Vec<Option<W>>, Unserved<W, WriterFault>>
     requires seats { SeatsPinners state }
@@ -439,7 +459,7 @@ fn serve_state<N: Boarded, S: Shelf, K: Invariant, W: Wire + Send, R: Threads + 
         AreHandedBack OutOfMemory wires.items u.wires.items u.fault) }
 {
     match open_state::<N, S, K, R>(rt, alloc, state, shelf, workers) {
-        Ok(opened) => match serve_opened(rt, alloc, opened, wires) {
+        Ok(opened) => match serve_opened(rt, alloc, opened, reasons, wires) {
             Ok(wires) => Ok(wires),
             Err(unserved) => Err(unserved),
         },
@@ -459,6 +479,7 @@ fn serve_named<N: Boarded, S: Shelf, W: Wire + Send, R: Threads + Wait + Sync>(
     prepared: &Prepared,
     plan: Plan,
     parts: NewParts<S>,
+    reasons: Option<&Reasons>,
     wires: Vec<W>,
 ) -> Result<Vec<Option<W>>, Unserved<W, WriterFault>>
     requires parts { AreOf parts.options N.registry N.board N.history parts }
@@ -476,7 +497,8 @@ fn serve_named<N: Boarded, S: Shelf, W: Wire + Send, R: Threads + Wait + Sync>(
         Ok(state) => state,
         Err(fault) => return Err(Unserved { fault, wires }),
     };
-    match serve_state::<N, S, Brand, W, R>(rt, alloc, state, shelf, plan.workers, wires) {
+    let workers = plan.workers;
+    match serve_state::<N, S, Brand, W, R>(rt, alloc, state, shelf, workers, reasons, wires) {
         Ok(wires) => Ok(wires),
         Err(unserved) => Err(unserved),
     }
@@ -490,6 +512,7 @@ fn serve_as<N: Boarded, S: Shelf, W: Wire + Send, R: Threads + Wait + Sync>(
     prepared: &Prepared,
     plan: Plan,
     parts: NewParts<S>,
+    reasons: Option<&Reasons>,
     wires: Vec<W>,
 ) -> (Result<Vec<Option<W>>, Unserved<W, WriterFault>>, S)
     requires parts { AreOf parts.options N.registry N.board N.history parts }
@@ -505,7 +528,7 @@ fn serve_as<N: Boarded, S: Shelf, W: Wire + Send, R: Threads + Wait + Sync>(
         AreHandedBack OutOfMemory wires.items u.wires.items u.fault) }
 {
     let mut shelf: NamedShelf<N, S> = NamedShelf::of(shelf);
-    let done = serve_named(rt, alloc, &mut shelf, prepared, plan, parts, wires);
+    let done = serve_named(rt, alloc, &mut shelf, prepared, plan, parts, reasons, wires);
     (done, shelf.into_shelf())
 }
 
@@ -518,6 +541,7 @@ pub(crate) fn serve_on<S: Shelf, W: Wire + Send, R: Threads + Wait + Sync>(
     shelf: S,
     prepared: &Prepared,
     plan: Plan,
+    reasons: Option<&Reasons>,
     wires: Vec<W>,
 ) -> (Result<Vec<Option<W>>, Unserved<W, WriterFault>>, S)
     requires some { 1 ≤ plan.channels }
@@ -535,7 +559,9 @@ pub(crate) fn serve_on<S: Shelf, W: Wire + Send, R: Threads + Wait + Sync>(
         AreHandedBack OutOfMemory wires.items u.wires.items u.fault) }
 {
     match NewParts::with(alloc, options_for(plan.channels)) {
-        Ok(parts) => serve_as::<Brand, S, W, R>(rt, alloc, shelf, prepared, plan, parts, wires),
+        Ok(parts) => {
+            serve_as::<Brand, S, W, R>(rt, alloc, shelf, prepared, plan, parts, reasons, wires)
+        }
         Err(_) => (
             Err(Unserved {
                 fault: WriterFault::OutOfMemory,

@@ -21,7 +21,9 @@ use crate::saying::{say_collected, say_compacted, say_released, say_taken, say_w
 use crate::scanning::scan;
 use crate::snapshots::{release, take};
 use crate::statistics::{list, sizes_of};
+use crate::telling::refuse_read;
 use crate::writing::write;
+use lsm_folder::Reasons;
 use lsm_frames::{Bounds, Keys, Range, Request, When, Writes, told};
 use lsm_history::Memory;
 use lsm_reader::Cached;
@@ -127,6 +129,7 @@ impl<N: Boarded, S: Shelf> Session<N, S> {
         alloc: Global,
         store: &Store<N, S, K>,
         background: &Background,
+        reasons: Option<&Reasons>,
         writes: Writes<'_>,
     ) -> Result<Vec<u8>, AllocError>
         requires looks { IsKeptByLooks K.keeps }
@@ -148,7 +151,7 @@ impl<N: Boarded, S: Shelf> Session<N, S> {
             &mut self.shelf,
             writes,
         );
-        let answer = say_written(alloc, done)?;
+        let answer = say_written(alloc, done, reasons)?;
         Ok(answer)
     }
 
@@ -159,6 +162,7 @@ impl<N: Boarded, S: Shelf> Session<N, S> {
         alloc: Global,
         store: &Store<N, S, K>,
         background: &Background,
+        reasons: Option<&Reasons>,
     ) -> Result<Vec<u8>, AllocError>
         requires quiet { IsKeptQuietly S.honest K.keeps }
         ensures answered { IfOk result (λ v. IsAnswered S.honest (S.refuses N.place) K.keeps
@@ -176,7 +180,7 @@ impl<N: Boarded, S: Shelf> Session<N, S> {
             &mut self.memory,
             &mut self.shelf,
         );
-        let answer = say_compacted(alloc, done)?;
+        let answer = say_compacted(alloc, done, reasons)?;
         Ok(answer)
     }
 
@@ -187,6 +191,7 @@ impl<N: Boarded, S: Shelf> Session<N, S> {
         alloc: Global,
         store: &Store<N, S, K>,
         background: &Background,
+        reasons: Option<&Reasons>,
         bounds: Bounds<'_>,
     ) -> Result<Vec<u8>, AllocError>
         requires quiet { IsKeptQuietly S.honest K.keeps }
@@ -207,7 +212,7 @@ impl<N: Boarded, S: Shelf> Session<N, S> {
             &mut self.shelf,
             bounds,
         );
-        let answer = say_compacted(alloc, done)?;
+        let answer = say_compacted(alloc, done, reasons)?;
         Ok(answer)
     }
 
@@ -217,6 +222,7 @@ impl<N: Boarded, S: Shelf> Session<N, S> {
         rt: &R,
         alloc: Global,
         store: &Store<N, S, K>,
+        reasons: Option<&Reasons>,
     ) -> Result<Vec<u8>, AllocError>
         requires looks { IsKeptByLooks K.keeps }
         ensures answered { IfOk result (λ v. IsAnswered S.honest (S.refuses N.place) K.keeps
@@ -227,7 +233,7 @@ impl<N: Boarded, S: Shelf> Session<N, S> {
         ensures kept { IsKnown K.keeps self.old.known → IsKnown K.keeps self.new.known }
     {
         let done = collect(rt, alloc, store, &mut self.memory, &mut self.shelf);
-        let answer = say_collected(alloc, done)?;
+        let answer = say_collected(alloc, done, reasons)?;
         Ok(answer)
     }
 
@@ -237,6 +243,7 @@ impl<N: Boarded, S: Shelf> Session<N, S> {
         rt: &R,
         alloc: Global,
         store: &Store<N, S, K>,
+        reasons: Option<&Reasons>,
     ) -> Result<Vec<u8>, AllocError>
         requires taken { IsKeptByTakes K.keeps }
         ensures answered { IfOk result (λ v. IsAnswered S.honest (S.refuses N.place) K.keeps
@@ -247,7 +254,7 @@ impl<N: Boarded, S: Shelf> Session<N, S> {
         ensures kept { IsKnown K.keeps self.old.known → IsKnown K.keeps self.new.known }
     {
         let done = take(rt, store, &mut self.memory, &mut self.taken);
-        let answer = say_taken(alloc, done)?;
+        let answer = say_taken(alloc, done, reasons)?;
         Ok(answer)
     }
 
@@ -257,6 +264,7 @@ impl<N: Boarded, S: Shelf> Session<N, S> {
         rt: &R,
         alloc: Global,
         store: &Store<N, S, K>,
+        reasons: Option<&Reasons>,
         number: u64,
     ) -> Result<Vec<u8>, AllocError>
         requires given_up { IsKeptByRelease number K.keeps }
@@ -269,7 +277,7 @@ impl<N: Boarded, S: Shelf> Session<N, S> {
         ensures kept { IsKnown K.keeps self.old.known → IsKnown K.keeps self.new.known }
     {
         let done = release(rt, store, &mut self.memory, &mut self.taken, number);
-        let answer = say_released(alloc, done)?;
+        let answer = say_released(alloc, done, reasons)?;
         Ok(answer)
     }
 
@@ -297,6 +305,7 @@ impl<N: Boarded, S: Shelf> Session<N, S> {
         rt: &R,
         alloc: Global,
         store: &Store<N, S, K>,
+        reasons: Option<&Reasons>,
         when: When,
         keys: Keys<'_>,
     ) -> (Session<N, S>, Result<Vec<u8>, AllocError>)
@@ -326,7 +335,7 @@ impl<N: Boarded, S: Shelf> Session<N, S> {
                 },
                 Ok(answer),
             ),
-            Err(fault) => match refuse(alloc, fault) {
+            Err(fault) => match refuse_read(alloc, fault, reasons) {
                 Ok(answer) => (
                     Session {
                         reader,
@@ -355,6 +364,7 @@ impl<N: Boarded, S: Shelf> Session<N, S> {
         rt: &R,
         alloc: Global,
         store: &Store<N, S, K>,
+        reasons: Option<&Reasons>,
         range: Range<'_>,
     ) -> (Session<N, S>, Result<Vec<u8>, AllocError>)
         requires looks { IsKeptByLooks K.keeps }
@@ -383,7 +393,7 @@ impl<N: Boarded, S: Shelf> Session<N, S> {
                 },
                 Ok(answer),
             ),
-            Err(fault) => match refuse(alloc, fault) {
+            Err(fault) => match refuse_read(alloc, fault, reasons) {
                 Ok(answer) => (
                     Session {
                         reader,
@@ -408,14 +418,15 @@ impl<N: Boarded, S: Shelf> Session<N, S> {
 
     /// Does what a request asks: the session as it is then, and the frame of the answer, which is
     /// the store's own (`answered`), of a state that has all that the session knew. What it knows
-    /// goes on (`known`). `AllocError` where there is no memory even for a refusal; what was asked
-    /// may be done then.
+    /// goes on (`known`). A refusal tells what the system answered, if `reasons` has that.
+    /// `AllocError` where there is no memory even for a refusal; what was asked may be done then.
     pub fn perform<K: Invariant, R: Threads + Wait + Sync>(
         self,
         rt: &R,
         alloc: Global,
         store: &Store<N, S, K>,
         background: &Background,
+        reasons: Option<&Reasons>,
         request: Request<'_>,
     ) -> (Session<N, S>, Result<Vec<u8>, AllocError>)
         requires asked { IsKeptByAsked S.honest (S.refuses N.place) (asked_of request) K.keeps }
@@ -429,16 +440,16 @@ impl<N: Boarded, S: Shelf> Session<N, S> {
     {
         let mut session = self;
         let answer = match request {
-            Request::Read(when, keys) => return session.read(rt, alloc, store, when, keys),
-            Request::Scan(range) => return session.scan(rt, alloc, store, range),
-            Request::Write(writes) => session.write(rt, alloc, store, background, writes),
-            Request::Snapshot => session.take(rt, alloc, store),
-            Request::Release(number) => session.release(rt, alloc, store, number),
-            Request::Compact => session.compact(rt, alloc, store, background),
+            Request::Read(when, keys) => return session.read(rt, alloc, store, reasons, when, keys),
+            Request::Scan(range) => return session.scan(rt, alloc, store, reasons, range),
+            Request::Write(writes) => session.write(rt, alloc, store, background, reasons, writes),
+            Request::Snapshot => session.take(rt, alloc, store, reasons),
+            Request::Release(number) => session.release(rt, alloc, store, reasons, number),
+            Request::Compact => session.compact(rt, alloc, store, background, reasons),
             Request::CompactRange(bounds) => {
-                session.compact_range(rt, alloc, store, background, bounds)
+                session.compact_range(rt, alloc, store, background, reasons, bounds)
             }
-            Request::Collect => session.collect(rt, alloc, store),
+            Request::Collect => session.collect(rt, alloc, store, reasons),
             Request::Statistics => session.tell(rt, alloc, store),
         };
         (session, answer)
