@@ -15,7 +15,8 @@ use Rattle.lsm_opening.specs.declared.faults.compact_fault.CompactFault.TheVaria
 use Rattle.lsm_channels.specs.Answered.{done_frame}
 use Rattle.lsm_channels.specs.Answering.{Says, SaysWork}
 use Rattle.lsm_channels.specs.Served.{Served}
-use Rattle.lsm_channels.specs.Telling.{IsOfSystem, IsStateRefused, answer_limit, batch_limits}
+use Rattle.lsm_channels.specs.Telling.{IsOfSystem, IsReadRefused, IsStateRefused, IsWorkerRefused}
+use Rattle.lsm_channels.specs.Telling.{IsWriteRefused, answer_limit, batch_limits}
 use Rattle.lsm_channels.specs.Telling.{cause_of_worker, meaning_of_state, meaning_of_worker}
 use Rattle.lsm_channels.proofs.TellingLaws.{none_of, refused_somehow}
 
@@ -34,7 +35,7 @@ ReadsBy Done Fault before after frame =
     × (Done before.taken before.reader after.reader before.known after.known frame
     ⊎ ((e : StateFault)
     × Fault before.taken before.reader after.reader before.known after.known e
-    × IsStateRefused answer_limit e frame))
+    × IsReadRefused e frame))
 
 -- what was read is answered
 pub says_read : {T : Type 0} (Done : Seeing (List ℕ)) (Fault : Seeing StateFault) (bytes : T → List ℕ) (session : Served) (b a : Learnt) (shelf : Told) (knew knows : List Entry)
@@ -50,7 +51,7 @@ pub says_refused : {T : Type 0} (Done : Seeing (List ℕ)) (Fault : Seeing State
     (taken held : List (ℕ × ℕ)) (done : Result T StateFault) (e : StateFault)
     → session_of b shelf knew taken ≡ session → held ≡ taken → IsLater a.history b.history
     → done ≡ Err e → IfErr done (λ f. Fault held b a knew knows f)
-    → IsStateRefused answer_limit e frame
+    → IsReadRefused e frame
     → ReadsBy Done Fault session (session_of a shelf knows taken) frame
 says_refused Done Fault frame session b a shelf knew knows taken held done e view same later is refused said =
     let fault = subst (λ ts. Fault ts b a knew knows e) same (subst (λ r. IfErr r (λ f. Fault held b a knew knows f)) is refused) in
@@ -65,16 +66,26 @@ refused_state limits e = refused_somehow (state.number_of e) (state.name_of e) N
     (meaning_of_state limits e) (IsOfSystem (Some (state.number_of e)))
     (none_of (Some (state.number_of e)))
 
+pub refused_read : (e : StateFault) → (frame : List ℕ) × IsReadRefused e frame
+refused_read e = let some = refused_state answer_limit e in (some.0, record { told = some.1 })
+
+pub refused_write : (e : StateFault) → (frame : List ℕ) × IsWriteRefused e frame
+refused_write e = let some = refused_state batch_limits e in (some.0, record { told = some.1 })
+
+pub refused_worker : (e : WorkerFault) → (frame : List ℕ) × IsWorkerRefused e frame
+refused_worker e =
+    let some = refused_somehow (worker.number_of e) (worker.name_of e) (table_file_of (Worker e))
+    (meaning_of_worker e) (IsOfSystem (cause_of_worker e)) (none_of (cause_of_worker e)) in
+    (some.0, record { told = some.1 })
+
 -- some frame says what was done, or the refusal
 pub says_some : {A : Type 0} (done : A → Done) (r : Result A StateFault) → (frame : List ℕ) × Says done r frame
 says_some done (Ok x) = (done_frame (done x), refl)
-says_some done (Err e) = refused_state batch_limits e
+says_some done (Err e) = refused_write e
 
 pub says_some_work : (r : Result (Unit {0}) WorkerFault) → (frame : List ℕ) × SaysWork r frame
 says_some_work (Ok x) = (done_frame Nothing, refl)
-says_some_work (Err e) = refused_somehow (worker.number_of e) (worker.name_of e)
-    (table_file_of (Worker e)) (meaning_of_worker e) (IsOfSystem (cause_of_worker e))
-    (none_of (cause_of_worker e))
+says_some_work (Err e) = refused_worker e
 
 -- what would have been said, where there was no memory for it
 pub unsaid : {T E : Type 0} {P : Type 0} (r : Result T E) → P → OnErr r P

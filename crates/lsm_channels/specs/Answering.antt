@@ -27,13 +27,13 @@ use Rattle.lsm_channels.specs.Reading.{IsRead, IsReadFault}
 use Rattle.lsm_channels.specs.Scanning.{IsScanFault, IsScanned}
 use Rattle.lsm_channels.specs.Served.{Served}
 use Rattle.lsm_channels.specs.Snapshots.{IsReleased, IsTaken, IsUnreleased, IsUntaken}
-use Rattle.lsm_channels.specs.Telling.{IsStateRefused, IsWorkerRefused, answer_limit, batch_limits}
+use Rattle.lsm_channels.specs.Telling.{IsReadRefused, IsWorkerRefused, IsWriteRefused}
 use Rattle.lsm_channels.specs.Writing.{IsWriteFault, IsWritten}
 
 -- the answer says what was done, or the refusal
 abbrev pub Says : {A : Type 0} → (A → Done) → Result A StateFault → List ℕ → Type 0
 Says done (Ok x) frame = frame ≡ done_frame (done x)
-Says done (Err e) frame = IsStateRefused batch_limits e frame
+Says done (Err e) frame = IsWriteRefused e frame
 
 abbrev pub SaysWork : Result (Unit {0}) WorkerFault → List ℕ → Type 0
 SaysWork (Ok x) frame = frame ≡ done_frame Nothing
@@ -58,7 +58,7 @@ AnswersRead Honest keeps when keys before after frame =
     IsRead Honest keeps when keys before.taken before.reader after.reader before.known after.known
     frame
     ⊎ ((e : StateFault) × IsReadFault Honest keeps when keys before.taken before.reader after.reader
-    before.known after.known e × IsStateRefused answer_limit e frame)
+    before.known after.known e × IsReadRefused e frame)
 
 -- The answer has the first pairs of the range, or the refusal of a scan.
 abbrev pub AnswersScan : Type 0 → (Held → Type 0) → Stretch → (before after : Served) → List ℕ
@@ -66,7 +66,7 @@ abbrev pub AnswersScan : Type 0 → (Held → Type 0) → Stretch → (before af
 AnswersScan Honest keeps s before after frame =
     IsScanned Honest keeps s before.taken before.reader after.reader before.known after.known frame
     ⊎ ((e : StateFault) × IsScanFault Honest keeps s before.taken before.reader after.reader
-    before.known after.known e × IsStateRefused answer_limit e frame)
+    before.known after.known e × IsReadRefused e frame)
 
 -- The answer has the number and the sequence of a snapshot that was taken, which the channel knows
 -- from then on; or the refusal.

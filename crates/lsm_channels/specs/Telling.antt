@@ -145,6 +145,14 @@ IsStateRefused limits e frame =
     IsRefusedBy (state.number_of e) (state.name_of e) None (Some (meaning_of_state limits e))
     (IsOfSystem (Some (state.number_of e))) frame
 
+-- of a read or a scan
+pub record IsReadRefused (e : StateFault) (frame : List ℕ) : Type 0 where
+  pub told : IsStateRefused answer_limit e frame
+
+-- of a write, and of other requests that ask the state for a change
+pub record IsWriteRefused (e : StateFault) (frame : List ℕ) : Type 0 where
+  pub told : IsStateRefused batch_limits e frame
+
 -- of a worker
 abbrev pub meaning_of_worker : WorkerFault → List ℕ
 meaning_of_worker NoThread = []
@@ -157,7 +165,7 @@ cause_of_worker NoThread = None
 cause_of_worker (State fault) = Some (state.number_of fault)
 cause_of_worker (Merge fault) = merge_cause fault
 
-abbrev pub IsWorkerRefused : WorkerFault → List ℕ → Type 0
-IsWorkerRefused e frame =
-    IsRefusedBy (worker.number_of e) (worker.name_of e) (compact.table_file_of (Worker e))
-    (Some (meaning_of_worker e)) (IsOfSystem (cause_of_worker e)) frame
+pub record IsWorkerRefused (e : WorkerFault) (frame : List ℕ) : Type 0 where
+  pub told : IsRefusedBy (worker.number_of e) (worker.name_of e)
+      (compact.table_file_of (Worker e)) (Some (meaning_of_worker e))
+      (IsOfSystem (cause_of_worker e)) frame

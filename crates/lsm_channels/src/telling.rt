@@ -7,7 +7,8 @@ ghost use Rattle.lsm_storage.specs.FileNames.{table_name};
 ghost use Rattle.lsm_channels.specs.Answered.{answer_frame};
 ghost use Rattle.lsm_channels.specs.OpeningFault.{number_of};
 ghost use Rattle.lsm_channels.specs.Telling.{IsAnswer, IsOfSystem, IsOpeningRefused};
-ghost use Rattle.lsm_channels.specs.Telling.{IsStateRefused, IsWorkerRefused, answer_limit};
+ghost use Rattle.lsm_channels.specs.Telling.{IsReadRefused, IsStateRefused, IsWorkerRefused};
+ghost use Rattle.lsm_channels.specs.Telling.{IsWriteRefused, answer_limit};
 ghost use Rattle.lsm_channels.specs.Telling.{batch_limits, behind, cause_of_worker, meaning_of};
 ghost use Rattle.lsm_channels.specs.Telling.{meaning_of_folder, meaning_of_logs};
 ghost use Rattle.lsm_channels.specs.Telling.{meaning_of_source, meaning_of_state};
@@ -359,9 +360,10 @@ pub(crate) fn refuse_read(
     fault: StateFault,
     reasons: Option<&Reasons>,
 ) -> Result<Vec<u8>, AllocError>
-    ensures { IfOk result (λ v. IsStateRefused answer_limit fault v.items) }
+    ensures { IfOk result (λ v. IsReadRefused fault v.items) }
 {
-    refuse_state(alloc, fault, answer_limit(), reasons)
+    let frame = refuse_state(alloc, fault, answer_limit(), reasons)?;
+    Ok(frame)
 }
 
 /// The answer of a write that is refused, or of another request that asks the state for a change.
@@ -370,9 +372,10 @@ pub(crate) fn refuse_write(
     fault: StateFault,
     reasons: Option<&Reasons>,
 ) -> Result<Vec<u8>, AllocError>
-    ensures { IfOk result (λ v. IsStateRefused batch_limits fault v.items) }
+    ensures { IfOk result (λ v. IsWriteRefused fault v.items) }
 {
-    refuse_state(alloc, fault, batch_limits(), reasons)
+    let frame = refuse_state(alloc, fault, batch_limits(), reasons)?;
+    Ok(frame)
 }
 
 /// The answer of a refusal of a worker.

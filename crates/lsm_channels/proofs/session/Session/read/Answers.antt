@@ -1,6 +1,5 @@
 use Rattle.lsm_channels.specs.Reading.{IsRead, IsReadFault}
-use Rattle.lsm_channels.specs.Telling.{answer_limit}
-use Rattle.lsm_channels.proofs.SessionLaws.{refused_state, says_read, says_refused}
+use Rattle.lsm_channels.proofs.SessionLaws.{refused_read, says_read, says_refused}
 use Rattle.lsm_channels.proofs.session.Session.read.Goals as goal
 
 pub returns-in-Ok-clause-answered : goal.returns-in-Ok-clause-answered
@@ -27,7 +26,7 @@ pub returns-in-Err-refuse_read-clause-unanswered : goal.returns-in-Err-refuse_re
 returns-in-Err-refuse_read-clause-unanswered g c =
     let read = IsRead g.S.Shelf.honest g.K.Invariant.keeps c.args.when c.args.keys in
     let fault = IsReadFault g.S.Shelf.honest g.K.Invariant.keeps c.args.when c.args.keys in
-    let some = refused_state answer_limit c.in-Err.fault in (
+    let some = refused_read c.in-Err.fault in (
       some.0,
       says_refused read fault some.0 c.args.self c.self.inside.reader
           c.read-reader.result.0 c.self.inside.shelf c.self.inside.memory c.read-reader.new.memory

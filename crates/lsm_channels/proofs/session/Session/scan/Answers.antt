@@ -1,7 +1,6 @@
 use Rattle.lsm_frames.specs.Views.{stretch_of}
 use Rattle.lsm_channels.specs.Scanning.{IsScanFault, IsScanned}
-use Rattle.lsm_channels.specs.Telling.{answer_limit}
-use Rattle.lsm_channels.proofs.SessionLaws.{refused_state, says_read, says_refused}
+use Rattle.lsm_channels.proofs.SessionLaws.{refused_read, says_read, says_refused}
 use Rattle.lsm_channels.proofs.session.Session.scan.Goals as goal
 
 pub returns-in-Ok-clause-answered : goal.returns-in-Ok-clause-answered
@@ -28,7 +27,7 @@ pub returns-in-Err-refuse_read-clause-unanswered : goal.returns-in-Err-refuse_re
 returns-in-Err-refuse_read-clause-unanswered g c =
     let read = IsScanned g.S.Shelf.honest g.K.Invariant.keeps (stretch_of c.args.range) in
     let fault = IsScanFault g.S.Shelf.honest g.K.Invariant.keeps (stretch_of c.args.range) in
-    let some = refused_state answer_limit c.in-Err.fault in (
+    let some = refused_read c.in-Err.fault in (
       some.0,
       says_refused read fault some.0 c.args.self c.self.inside.reader
           c.scan-reader.result.0 c.self.inside.shelf c.self.inside.memory c.scan-reader.new.memory
