@@ -1,3 +1,4 @@
 mod SweepLaws
 mod LoadedLaws
 mod RunLaws
+mod QuickLaws

@@ -4,6 +4,7 @@ ghost use Rattle.std.specs.Prelude.{◌≡◌, ◌≢◌, ◌⊎◌, ◌+◌, �
 ghost use Rattle.std.specs.Io.KnownBytes.{Appends, Keeps};
 ghost use Rattle.lsm_shelf.specs.Stored.{Stored};
 ghost use Rattle.lsm_opening.specs.Parts.{AreOf, usual};
+ghost use Rattle.lsm_opening.specs.Starting.{IsStartRefusal, IsStarted};
 ghost use Rattle.lsm_cmd_load.specs.Loaded.{IsInputFault, IsInputLoaded, IsLoadDone, IsLoadFault};
 ghost use Rattle.lsm_cmd_load.specs.Loaded.{IsToCome, form_of, loaded_text};
 ghost use Rattle.lsm_opening.specs.declared.faults.writer_fault.WriterFault.TheVariants.{OutOfMemory, Read};
@@ -44,14 +45,13 @@ fn line_behind(from: u64, lines: u128) -> u128
     }
 }
 
-/// Begins or opens the directory of a shelf, loads all lines that are to come, removes what nothing
-/// names any more, and writes the reply.
-fn load_named<N, S, R, I, T, O>(
+/// Loads all lines that are to come into the database of this state, removes what nothing names any
+/// more, and writes the reply.
+pub(crate) fn load_started<N, S, R, I, T, O>(
     rt: &R,
     alloc: Global,
     shelf: &mut NamedShelf<N, S>,
-    prepared: &Prepared,
-    parts: NewParts<S>,
+    state: State<N, S>,
     options: LoadOptions,
     lines: BatchReader<I>,
     teller: &mut T,
@@ -64,19 +64,16 @@ where
     I: Read + Drop,
     T: Teller,
     O: Write,
-    requires parts { AreOf usual N.registry N.board N.history parts }
-    requires shelf { shelf.old.place ≡ N.place }
     requires held { lines.held ≡ [] }
-    ensures done { OnOk result (IsLoadDone (S.refuses N.place) S.honest prepared.now.start
-        prepared.now.logs.items options.workers lines shelf.old shelf.new
+    ensures done { OnOk result (IsLoadDone (S.refuses N.place) S.honest
+        (λ h mid. (h ≡ state) × (mid ≡ shelf.old)) N.place options.workers lines shelf.new
         (O.contents out.old) (O.contents out.new)) }
-    ensures fault { IfErr result (λ e. IsLoadFault (Stored S.Receipt (S.is_of N.place)
-        S.Receipt.number S.Receipt.image) (S.refuses N.place) S.honest prepared.now.start
-        prepared.now.logs.items options.from_line options.workers lines e shelf.old shelf.new) }
+    ensures fault { IfErr result (λ e. IsLoadFault (λ fault. ⊥) (S.refuses N.place) S.honest
+        (λ h mid. (h ≡ state) × (mid ≡ shelf.old)) N.place options.from_line options.workers lines
+        e shelf.new) }
     ensures left { IfErr result (λ e. e ≢ WriteStopped
         → Keeps (O.contents out.old) (O.contents out.new)) }
 {
-    let state: State<N, S> = start(rt, alloc, shelf, prepared, parts)?;
     let Loaded {
         done,
         progress,
@@ -109,6 +106,45 @@ where
     }
 }
 
+/// Begins or opens the directory of a shelf, and loads the lines.
+fn load_named<N, S, R, I, T, O>(
+    rt: &R,
+    alloc: Global,
+    shelf: &mut NamedShelf<N, S>,
+    prepared: &Prepared,
+    parts: NewParts<S>,
+    options: LoadOptions,
+    lines: BatchReader<I>,
+    teller: &mut T,
+    out: &mut O,
+) -> Result<(), Stopped>
+where
+    N: Boarded,
+    S: Shelf,
+    R: Threads + Wait + Sync,
+    I: Read + Drop,
+    T: Teller,
+    O: Write,
+    requires parts { AreOf usual N.registry N.board N.history parts }
+    requires shelf { shelf.old.place ≡ N.place }
+    requires held { lines.held ≡ [] }
+    ensures done { OnOk result (IsLoadDone (S.refuses N.place) S.honest
+        (λ h mid. IsStarted S.honest prepared.now.start prepared.now.logs.items h shelf.old mid)
+        shelf.old.place options.workers lines shelf.new (O.contents out.old)
+        (O.contents out.new)) }
+    ensures fault { IfErr result (λ e. IsLoadFault (λ fault. IsStartRefusal (Stored S.Receipt
+        (S.is_of N.place) S.Receipt.number S.Receipt.image) (S.refuses N.place) S.honest
+        prepared.now.start prepared.now.logs.items fault shelf.old shelf.new) (S.refuses N.place)
+        S.honest
+        (λ h mid. IsStarted S.honest prepared.now.start prepared.now.logs.items h shelf.old mid)
+        shelf.old.place options.from_line options.workers lines e shelf.new) }
+    ensures left { IfErr result (λ e. e ≢ WriteStopped
+        → Keeps (O.contents out.old) (O.contents out.new)) }
+{
+    let state: State<N, S> = start(rt, alloc, shelf, prepared, parts)?;
+    load_started(rt, alloc, shelf, state, options, lines, teller, out)
+}
+
 /// The same under the name that was picked for the parts and the shelf, which is given back.
 fn load_as<N, S, R, I, T, O>(
     rt: &R,
@@ -131,13 +167,16 @@ where
     requires parts { AreOf usual N.registry N.board N.history parts }
     requires shelf { (S.told shelf).place ≡ N.place }
     requires held { lines.held ≡ [] }
-    ensures done { OnOk result.0 (IsLoadDone (S.refuses N.place) S.honest prepared.now.start
-        prepared.now.logs.items options.workers lines (S.told shelf) (S.told result.1)
+    ensures done { OnOk result.0 (IsLoadDone (S.refuses N.place) S.honest
+        (λ h mid. IsStarted S.honest prepared.now.start prepared.now.logs.items h (S.told shelf)
+        mid) (S.told shelf).place options.workers lines (S.told result.1)
         (O.contents out.old) (O.contents out.new)) }
-    ensures fault { IfErr result.0 (λ e. IsLoadFault (Stored S.Receipt (S.is_of N.place)
-        S.Receipt.number S.Receipt.image) (S.refuses N.place) S.honest prepared.now.start
-        prepared.now.logs.items options.from_line options.workers lines e (S.told shelf)
-        (S.told result.1)) }
+    ensures fault { IfErr result.0 (λ e. IsLoadFault (λ fault. IsStartRefusal (Stored S.Receipt
+        (S.is_of N.place) S.Receipt.number S.Receipt.image) (S.refuses N.place) S.honest
+        prepared.now.start prepared.now.logs.items fault (S.told shelf) (S.told result.1))
+        (S.refuses N.place) S.honest
+        (λ h mid. IsStarted S.honest prepared.now.start prepared.now.logs.items h (S.told shelf)
+        mid) (S.told shelf).place options.from_line options.workers lines e (S.told result.1)) }
     ensures left { IfErr result.0 (λ e. e ≢ WriteStopped
         → Keeps (O.contents out.old) (O.contents out.new)) }
 {
@@ -161,7 +200,7 @@ fn form_of(options: LoadOptions) -> LineForm
 
 /// The lines of an input from the one of this number on, counted from 1, in this form. The last one
 /// may lack its newline, or not.
-fn lines_from<I: Read + Drop>(
+pub(crate) fn lines_from<I: Read + Drop>(
     alloc: Global,
     options: LoadOptions,
     input: I,

@@ -8,6 +8,7 @@
 
 // The lines come into a directory.
 mod into_directory;
+mod quick;
 mod sweeping;
 
 // What is told of it.
@@ -17,6 +18,10 @@ mod stopped;
 // One run.
 mod program;
 
+// What holds of it.
+mod laws;
+
 pub use into_directory::load_into;
+pub use laws::quick_loads_are_whole;
 pub use program::run_load;
 pub use stopped::Stopped;

@@ -5,12 +5,12 @@ ghost use Rattle.std.specs.Io.KnownBytes.{Keeps};
 ghost use Rattle.lsm_requests.specs.Inputs.{text_in};
 ghost use Rattle.lsm_cmd_load.specs.LoadedAt.{FailsToLoad, LoadsAt};
 
-use crate::into_directory::load_into;
 use crate::line_teller::LineTeller;
+use crate::quick::load_as_said;
 use crate::stopped::{Stopped, write_last};
 use lsm_bulk_load::{NoTeller, Teller};
 use lsm_directory::{Known, Paths, Unopened, open_at, refuse, status_of};
-use lsm_folder::{FolderCalls, Reasons};
+use lsm_folder::{FindingCalls, Reasons};
 use lsm_opening::prepare;
 use lsm_requests::{Input, LoadLine, LoadOptions};
 use lsm_storage::FileShelf;
@@ -30,22 +30,22 @@ fn load_at<C, P, R, I, T, O>(
     out: &mut O,
 ) -> Result<(), Stopped>
 where
-    C: FolderCalls + Send + Sync,
+    C: FindingCalls + Send + Sync,
     C::Mark: Send + Sync,
     P: Paths<C>,
     R: Threads + Wait + Sync,
     I: Read + Drop,
     T: Teller,
     O: Write,
-    ensures done { OnOk result (LoadsAt C.FolderCalls path.now options (I.remaining input)
+    ensures done { OnOk result (LoadsAt C.FolderCalls C.holds path.now options (I.remaining input)
         (O.contents out.old) (O.contents out.new)) }
-    ensures refused { OnErr result (FailsToLoad C.FolderCalls C.Mark.Mark path.now options
-        (I.remaining input) (O.contents out.old) (O.contents out.new)) }
+    ensures refused { OnErr result (FailsToLoad C.FolderCalls C.Mark.Mark C.holds path.now
+        options (I.remaining input) (O.contents out.old) (O.contents out.new)) }
 {
     let mut folder = open_at(paths, path, reasons)?;
     let prepared = prepare(rt, paths.alloc(), &mut folder, options.ingest)?;
     let shelf = FileShelf::over(folder);
-    let (done, _shelf) = load_into(
+    let (done, _shelf) = load_as_said(
         rt,
         paths.alloc(),
         shelf,
@@ -94,17 +94,17 @@ fn load_from<C, P, R, I, O, E>(
     err: &mut E,
 ) -> u8
 where
-    C: FolderCalls + Send + Sync,
+    C: FindingCalls + Send + Sync,
     C::Mark: Send + Sync,
     P: Paths<C>,
     R: Threads + Wait + Sync,
     I: Read + Drop,
     O: Write,
     E: Write,
-    ensures done { result ≡ 0 → LoadsAt C.FolderCalls path.now options (I.remaining input)
+    ensures done { result ≡ 0 → LoadsAt C.FolderCalls C.holds path.now options (I.remaining input)
         (O.contents out.old) (O.contents out.new) }
     ensures refused { result ≢ 0 → (result ≡ 1) × FailsToLoad C.FolderCalls C.Mark.Mark
-        path.now options (I.remaining input) (O.contents out.old) (O.contents out.new) }
+        C.holds path.now options (I.remaining input) (O.contents out.old) (O.contents out.new) }
     ensures quiet { result ≡ 0 → IsFalse options.progress
         → Keeps (E.contents err.old) (E.contents err.new) }
 {
@@ -145,18 +145,18 @@ pub fn run_load<C, P, R, I, O, E>(
     err: &mut E,
 ) -> u8
 where
-    C: FolderCalls + Send + Sync,
+    C: FindingCalls + Send + Sync,
     C::Mark: Send + Sync,
     P: Paths<C>,
     R: Threads + Wait + Sync,
     I: Read + Drop,
     O: Write,
     E: Write,
-    ensures done { result ≡ 0 → LoadsAt C.FolderCalls line.now.path.now line.now.options
+    ensures done { result ≡ 0 → LoadsAt C.FolderCalls C.holds line.now.path.now line.now.options
         (text_in (I.remaining standard) (P.text paths.now) line.now.input)
         (O.contents out.old) (O.contents out.new) }
     ensures refused { result ≢ 0 → (result ≡ 1) × FailsToLoad C.FolderCalls C.Mark.Mark
-        line.now.path.now line.now.options
+        C.holds line.now.path.now line.now.options
         (text_in (I.remaining standard) (P.text paths.now) line.now.input)
         (O.contents out.old) (O.contents out.new) }
     ensures quiet { result ≡ 0 → IsFalse line.now.options.progress

@@ -109,7 +109,7 @@ module _ {C M : Type 0} (folders : Ghosts C M) (marks : mark.Ghosts M)
   IsDone text (WriteFolder line) old new said_old said_new =
       IsWritten folders holds text line.path.now line.command old new × Keeps said_old said_new
   IsDone text (Load line) old new said_old said_new =
-      LoadsAt folders line.path.now line.options (text line.input) old new
+      LoadsAt folders holds line.path.now line.options (text line.input) old new
       × (IsFalse line.options.progress → Keeps said_old said_new)
   IsDone text (Import line) old new said_old said_new =
       ImportsAt folders marks line old new × Keeps said_old said_new
@@ -181,7 +181,7 @@ module _ {C M : Type 0} (folders : Ghosts C M) (marks : mark.Ghosts M)
   IsUndone text (WriteFolder line) old new =
       IsUnwritten folders marks holds text line.path.now line.command old new
   IsUndone text (Load line) old new =
-      FailsToLoad folders marks line.path.now line.options (text line.input) old new
+      FailsToLoad folders marks holds line.path.now line.options (text line.input) old new
   IsUndone text (Import line) old new =
       (fault : CopyFault) × FailsToImport folders marks line fault old new
   IsUndone text (Recover path) old new =

@@ -192,8 +192,8 @@ delete = command (codes "delete")
     (folder ∷ key ∷ text ∷ begin ∷ beside_log ∷ recovers ∷ quick ∷ strict ∷ compare ∷ wait ∷ [])
 
 unfoldable pub load : App
-load = command (codes "load") (folder ∷ file ∷ text ∷ begin ∷ beside_log ∷ recovers ∷ workers
-    ∷ from_line ∷ last_line ∷ json ∷ strict ∷ compare ∷ progress ∷ wait ∷ [])
+load = command (codes "load") (folder ∷ file ∷ text ∷ begin ∷ beside_log ∷ recovers ∷ quick
+    ∷ workers ∷ from_line ∷ last_line ∷ json ∷ strict ∷ compare ∷ progress ∷ wait ∷ [])
 
 unfoldable pub import_folder : App
 import_folder = command (codes "import") (word (codes "SRC") ∷ word (codes "DST") ∷ compare ∷ [])

@@ -400,6 +400,7 @@ const LOAD: Page = Page {
         BEGIN,
         BESIDE_LOG,
         RECOVERS,
+        QUICK,
         WORKERS,
         FROM_LINE,
         LAST_LINE,

@@ -31,9 +31,9 @@ fn usage(name: CommandName) -> &'static str {
             "lsm delete <DIR> <KEY> [--text] [--begin] [--beside-log] [--recover] [--quick] \
              [--strict] [--compare] [--wait <SECONDS>]",
         CommandName::Load =>
-            "lsm load <DIR> [FILE] [--text] [--begin] [--beside-log] [--recover] [--workers <N>] \
-             [--from-line <I>] [--last-line] [--json] [--strict] [--compare] [--progress] \
-             [--wait <SECONDS>]",
+            "lsm load <DIR> [FILE] [--text] [--begin] [--beside-log] [--recover] [--quick] \
+             [--workers <N>] [--from-line <I>] [--last-line] [--json] [--strict] [--compare] \
+             [--progress] [--wait <SECONDS>]",
         CommandName::Import => "lsm import <SRC> <DST> [--compare]",
         CommandName::Recover => "lsm recover <DIR> [--strict] [--compare] [--wait <SECONDS>]",
         CommandName::Repair => "lsm repair <DIR> [--compare] [--wait <SECONDS>]",

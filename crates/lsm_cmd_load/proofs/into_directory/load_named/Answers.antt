@@ -1,134 +1,31 @@
-use Rattle.std.proofs.Common.{◌+◌, IfSome, subst, sym}
-use Rattle.std.proofs.lemmas.Result.{err_from_is_err_and}
-use Rattle.lsm_shelf.specs.Place.{Place}
-use Rattle.lsm_bulk_load.proofs.CallerLemmas.{come_compacting, come_ingests, come_taken}
-use Rattle.lsm_bulk_load.specs.Keeping.{IsOfLines}
-use Rattle.lsm_bulk_load.specs.Loading.{IsUnloaded}
-use Rattle.lsm_bulk_load.specs.Marks.{marked_in}
-use Rattle.lsm_directory.proofs.CallerLemmas.{keeps_same}
-use Rattle.lsm_cmd_load.specs.Loaded.{AreOfLoad, HasComeBy, IsOfLoad}
-use Rattle.lsm_cmd_load.proofs.LoadedLaws.{beside, loads_whole, unswept}
+use Rattle.std.proofs.Common.{◌≡◌, sym}
+use Rattle.lsm_shelf.specs.Told.{Told}
+use Rattle.lsm_state.specs.Held.{Held}
+use Rattle.lsm_opening.specs.Starting.{IsStarted}
+use Rattle.lsm_cmd_load.proofs.LoadedLaws.{done_as, fault_as, this_one}
 use Rattle.lsm_cmd_load.proofs.into_directory.load_named.Goals as goal
 
-pub load_beside-done-requires-clause-first : goal.load_beside-done-requires-clause-first
-load_beside-done-requires-clause-first g c κs within = λ h taken. come_taken (g.S.Shelf.refuses g.N.Naming.place) g.S.Shelf.honest (IsOfLines c.args.lines) _ h taken
-
-pub load_beside-done-requires-clause-asked : goal.load_beside-done-requires-clause-asked
-load_beside-done-requires-clause-asked g c κs within = come_ingests (g.S.Shelf.refuses g.N.Naming.place) g.S.Shelf.honest (IsOfLines c.args.lines) _
-
-pub load_beside-done-requires-clause-workers : goal.load_beside-done-requires-clause-workers
-load_beside-done-requires-clause-workers g c κs within = come_compacting (g.S.Shelf.refuses g.N.Naming.place) g.S.Shelf.honest (IsOfLines c.args.lines) _
+pub returns-clause-done : goal.returns-clause-done
+returns-clause-done g c =
+    let H = g.S.Shelf.honest in
+    let Now : Held → Told → Type 0 =
+    λ h mid. (h ≡ c.in_ok-state.state) × (mid ≡ c.start.new.shelf) in
+    let Started : Held → Told → Type 0 = λ h mid. IsStarted H c.args.prepared.now.start
+    c.args.prepared.now.logs.items h c.args.shelf.now mid in
+    done_as (g.S.Shelf.refuses g.N.Naming.place) H Now Started g.N.Naming.place
+    c.args.options.workers c.args.lines
+    (this_one Started c.in_ok-state.state c.start.new.shelf c.in_ok-state.ensures.started)
+    c.load_started.result _ _ _ _ (sym c.requires.shelf) c.load_started.ensures.done
 
 pub returns-clause-fault : goal.returns-clause-fault
-returns-clause-fault g c = (
-  c.load_beside-done.result.progress,
-  c.line_behind-line.ensures,
-  record {
-    found = c.in_ok-state.state;
-    mid = c.start.new.shelf;
-    started = c.in_ok-state.ensures.started;
-    left = c.load_beside-done.result.state;
-    board = g.N.Boarded.board;
-    lawful = c.options-options.ensures.law;
-    behind = c.load_beside-done.ensures.kept.0;
-    come = c.load_beside-done.ensures.kept.1;
-    looked = c.load_beside-done.ensures.kept.2;
-    none = c.load_beside-done.ensures.kept.3;
-    unloaded =
-        subst (λ (at : Place). IsUnloaded (g.S.Shelf.refuses g.N.Naming.place)
-        (AreOfLoad (g.S.Shelf.refuses g.N.Naming.place) g.S.Shelf.honest c.args.lines
-        c.in_ok-state.state at c.start.new.shelf.forks c.args.options.workers)
-        (HasComeBy (g.S.Shelf.refuses g.N.Naming.place) g.S.Shelf.honest c.args.lines c.in_ok-state.state) c.args.lines (marked_in c.in_ok-state.state) (marked_in c.load_beside-done.result.state)
-        c.load_beside-done.result.progress c.in-Err.fault) (sym c.requires.shelf) (rw c.in-Err.is at c.load_beside-done.ensures.refused);
-    forked = rw c.in-Err.is at c.load_beside-done.ensures.forked;
-    own = c.load_beside-done.result.own;
-    told =
-        subst (λ (at : Place). IfSome c.load_beside-done.result.own
-        (IsOfLoad (g.S.Shelf.refuses g.N.Naming.place) g.S.Shelf.honest c.args.lines
-        c.in_ok-state.state at (c.start.new.shelf.forks + c.args.options.workers + 1)))
-        (sym c.requires.shelf) c.load_beside-done.ensures.told;
-  },
-)
-
-pub returns-in_err-sweep-in-Ok-clause-fault : goal.returns-in_err-sweep-in-Ok-clause-fault
-returns-in_err-sweep-in-Ok-clause-fault g c =
-    let p = err_from_is_err_and c.from_residual-in_err-sweep-in-Ok.result c.from_residual-in_err-sweep-in-Ok.ensures.1 in
-    let loaded = rw c.in-Ok.is at c.load_beside-done.ensures.loaded in
-    let idle = rw c.in-Ok.is at c.load_beside-done.ensures.idle in
-    let told = beside (g.S.Shelf.refuses g.N.Naming.place) g.S.Shelf.honest c.args.lines
-    c.in_ok-state.state c.args.shelf.now.place g.N.Naming.place c.args.options.workers
-    c.load_beside-done.result.own c.start.new.shelf
-    c.load_beside-done.new.shelf c.requires.shelf (rw c.in-Ok.is at c.load_beside-done.ensures.just)
-    (rw c.in-Ok.is at c.load_beside-done.ensures.worked)
-    (rw c.in-Ok.is at c.load_beside-done.ensures.own)
-    c.load_beside-done.ensures.told in
-    rw (p.1, p.2) (unswept (g.S.Shelf.refuses g.N.Naming.place) g.S.Shelf.honest c.args.prepared.now.start c.args.prepared.now.logs.items c.args.options.workers c.args.lines c.load_beside-done.result.progress
-    c.in_err-sweep-in-Ok.field-0.0 g.N.Boarded.board c.in_ok-state.state c.load_beside-done.result.state c.sweep.new.state c.args.shelf.now c.start.new.shelf c.load_beside-done.new.shelf
-    c.sweep.new.shelf c.in_ok-state.ensures.started loaded (record {
-      behind = c.load_beside-done.ensures.kept.0;
-      come = c.load_beside-done.ensures.kept.1;
-      judged = c.load_beside-done.ensures.kept.2;
-      none = c.load_beside-done.ensures.kept.3;
-      looked = c.sweep.ensures.looked;
-      rest = c.sweep.ensures.rest;
-      idle = λ h. c.sweep.ensures.idle (idle h);
-      same = c.sweep.ensures.same;
-    }) told c.in_err-sweep-in-Ok.ensures.refused)
-
-pub returns-in_err-sweep-in-Ok-clause-left : goal.returns-in_err-sweep-in-Ok-clause-left
-returns-in_err-sweep-in-Ok-clause-left g c =
-    let p = err_from_is_err_and c.from_residual-in_err-sweep-in-Ok.result c.from_residual-in_err-sweep-in-Ok.ensures.1 in
-    rw (p.1, p.2) (λ other. keeps_same (g.O.Write.contents c.args.out.now))
-
-pub returns-in-Ok-reply-clause-done : goal.returns-in-Ok-reply-clause-done
-returns-in-Ok-reply-clause-done g c =
-    let loaded = rw c.in-Ok.is at c.load_beside-done.ensures.loaded in
-    let idle = rw c.in-Ok.is at c.load_beside-done.ensures.idle in
-    let told = beside (g.S.Shelf.refuses g.N.Naming.place) g.S.Shelf.honest c.args.lines
-    c.in_ok-state.state c.args.shelf.now.place g.N.Naming.place c.args.options.workers
-    c.load_beside-done.result.own c.start.new.shelf
-    c.load_beside-done.new.shelf c.requires.shelf (rw c.in-Ok.is at c.load_beside-done.ensures.just)
-    (rw c.in-Ok.is at c.load_beside-done.ensures.worked)
-    (rw c.in-Ok.is at c.load_beside-done.ensures.own)
-    c.load_beside-done.ensures.told in (
-      c.load_beside-done.result.progress,
-      loads_whole (g.S.Shelf.refuses g.N.Naming.place) g.S.Shelf.honest c.args.prepared.now.start c.args.prepared.now.logs.items c.args.options.workers c.args.lines c.load_beside-done.result.progress g.N.Boarded.board c.in_ok-state.state
-          c.load_beside-done.result.state c.sweep.new.state c.args.shelf.now c.start.new.shelf c.load_beside-done.new.shelf c.sweep.new.shelf c.in_ok-state.ensures.started
-          loaded (record {
-            behind = c.load_beside-done.ensures.kept.0;
-            come = c.load_beside-done.ensures.kept.1;
-            judged = c.load_beside-done.ensures.kept.2;
-            none = c.load_beside-done.ensures.kept.3;
-            looked = c.sweep.ensures.looked;
-            rest = c.sweep.ensures.rest;
-            idle = λ h. c.sweep.ensures.idle (idle h);
-            same = c.sweep.ensures.same;
-          }) told c.in_ok-sweep-in-Ok.ensures.ok,
-      c.in-Ok-reply.ensures.written,
-    )
-
-pub returns-in-Ok-clause-fault : goal.returns-in-Ok-clause-fault
-returns-in-Ok-clause-fault g c =
-    let loaded = rw c.in-Ok.is at c.load_beside-done.ensures.loaded in
-    let idle = rw c.in-Ok.is at c.load_beside-done.ensures.idle in
-    let told = beside (g.S.Shelf.refuses g.N.Naming.place) g.S.Shelf.honest c.args.lines
-    c.in_ok-state.state c.args.shelf.now.place g.N.Naming.place c.args.options.workers
-    c.load_beside-done.result.own c.start.new.shelf
-    c.load_beside-done.new.shelf c.requires.shelf (rw c.in-Ok.is at c.load_beside-done.ensures.just)
-    (rw c.in-Ok.is at c.load_beside-done.ensures.worked)
-    (rw c.in-Ok.is at c.load_beside-done.ensures.own)
-    c.load_beside-done.ensures.told in (
-      c.load_beside-done.result.progress,
-      loads_whole (g.S.Shelf.refuses g.N.Naming.place) g.S.Shelf.honest c.args.prepared.now.start c.args.prepared.now.logs.items c.args.options.workers c.args.lines c.load_beside-done.result.progress g.N.Boarded.board c.in_ok-state.state
-          c.load_beside-done.result.state c.sweep.new.state c.args.shelf.now c.start.new.shelf c.load_beside-done.new.shelf c.sweep.new.shelf c.in_ok-state.ensures.started
-          loaded (record {
-            behind = c.load_beside-done.ensures.kept.0;
-            come = c.load_beside-done.ensures.kept.1;
-            judged = c.load_beside-done.ensures.kept.2;
-            none = c.load_beside-done.ensures.kept.3;
-            looked = c.sweep.ensures.looked;
-            rest = c.sweep.ensures.rest;
-            idle = λ h. c.sweep.ensures.idle (idle h);
-            same = c.sweep.ensures.same;
-          }) told c.in_ok-sweep-in-Ok.ensures.ok,
-    )
+returns-clause-fault g c =
+    let H = g.S.Shelf.honest in
+    let Now : Held → Told → Type 0 =
+    λ h mid. (h ≡ c.in_ok-state.state) × (mid ≡ c.start.new.shelf) in
+    let Started : Held → Told → Type 0 = λ h mid. IsStarted H c.args.prepared.now.start
+    c.args.prepared.now.logs.items h c.args.shelf.now mid in
+    fault_as (g.S.Shelf.refuses g.N.Naming.place) H Now Started g.N.Naming.place
+    c.args.options.workers c.args.lines
+    (this_one Started c.in_ok-state.state c.start.new.shelf c.in_ok-state.ensures.started)
+    c.load_started.result _ _ _ c.args.options.from_line _ (sym c.requires.shelf)
+    (λ fault none. absurd none) c.load_started.ensures.fault
