@@ -38,15 +38,16 @@ fn open_folder<C: FolderCalls, P: Paths<C>, R: Wait>(
     Ok(folder)
 }
 
-/// Writes what is said of a database that was repaired: the notes first.
+/// Writes what is said of a database that was repaired: the notes last, so that one that can't be
+/// written hides nothing else.
 fn tell<O: Write, E: Write>(out: &mut O, err: &mut E, repaired: &Repaired) -> io::Result<()>
     ensures lines { OnOk result (Appends (O.contents out.old) (O.contents out.new)
         (repaired_text repaired.now.tables repaired.now.entries repaired.now.left.items)) }
     ensures notes { OnOk result (Appends (E.contents err.old) (E.contents err.new)
         (notes_text repaired.now.unsure.items)) }
 {
-    note(err, &repaired.unsure)?;
-    reply(out, repaired.tables, repaired.entries, &repaired.left)
+    reply(out, repaired.tables, repaired.entries, &repaired.left)?;
+    note(err, &repaired.unsure)
 }
 
 /// Repairs the database of the folder at a path.
