@@ -109,7 +109,7 @@ fn write_cure<E: Write>(err: &mut E, highest: Option<u64>) -> io::Result<()> {
         ),
         None => writeln!(
             err,
-            "neither CURRENT nor a manifest is there, but tables are: lsm repair DIR makes one of them, --begin begins a new database"
+            "neither CURRENT nor a manifest is there, but tables are: lsm repair DIR makes both, --begin begins a new database"
         ),
     }
 }

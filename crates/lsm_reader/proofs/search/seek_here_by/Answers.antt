@@ -17,24 +17,33 @@ returns-in_err-block-clause-sound g c honest es s =
     let p = err_from_is_err_and c.from_residual.result c.from_residual.ensures.1 in
     rw (p.1, p.2) (let image = g.S.Receipt.TableReceipt.image c.args.receipt.now in
     let n = sought_next (key_of c.args.key.now) image c.args.index.now es c.requires.some s in
-    named_sound (λ b. (arc_value {X = HeldBlock} {Z = Global} b).entries) c.in_err-block.field-0.0 (body_of image) c.value.result.now (n.first ∷ n.others)
-    (subst (λ (p : List ℕ). DataBlock (body_of image) p (n.first ∷ n.others)) (sym c.value.ensures) n.block) (c.in_err-block.ensures.exact honest))
+    named_sound (λ b. (arc_value {X = HeldBlock} {Z = Global} b).entries) c.in_err-block.field-0.0
+    (body_of image) c.value.result.now (n.first ∷ n.others)
+    (subst (λ (p : List ℕ). DataBlock (body_of image) p (n.first ∷ n.others)) (sym c.value.ensures)
+    n.block) (c.in_err-block.ensures.exact honest))
 
 pub returns-clause-found : goal.returns-clause-found
 returns-clause-found g c honest es s =
     let image = g.S.Receipt.TableReceipt.image c.args.receipt.now in
     let key = key_of c.args.key.now in
     let n = sought_next key image c.args.index.now es c.requires.some s in
-    let block = subst (λ (p : List ℕ). DataBlock (body_of image) p (n.first ∷ n.others)) (sym c.value.ensures) n.block in
-    let there = named_there (body_of image) c.value.result.now _ (n.first ∷ n.others) (c.in_ok-block.ensures.exact honest) block in
+    let block = subst (λ (p : List ℕ). DataBlock (body_of image) p (n.first ∷ n.others)) (sym
+    c.value.ensures) n.block in
+    let there = named_there (body_of image) c.value.result.now _ (n.first ∷ n.others)
+    (c.in_ok-block.ensures.exact honest) block in
     is_sought key image c.args.index.now es _ c.in_ok-entries.entries n
     (c.in_ok-entries.ensures ∙ ap (not_below key) there) refl
 
 pub returns-in_err-block-clause-exact : goal.returns-in_err-block-clause-exact
 returns-in_err-block-clause-exact g c honest =
     let p = err_from_is_err_and c.from_residual.result c.from_residual.ensures.1 in
-    rw (p.1, p.2) (there_fails (λ b. (arc_value {X = HeldBlock} {Z = Global} b).entries) (λ (es : List Entry). es) c.in_err-block.field-0.0 (key_of c.args.key.now) (body_of (g.S.Receipt.TableReceipt.image c.args.receipt.now)) c.value.result.now c.args.index.now c.value.ensures (c.in_err-block.ensures.exact honest))
+    rw (p.1, p.2) (there_fails (λ b. (arc_value {X = HeldBlock} {Z = Global} b).entries) (λ (es :
+    List Entry). es) c.in_err-block.field-0.0 (key_of c.args.key.now) (body_of
+    (g.S.Receipt.TableReceipt.image c.args.receipt.now)) c.value.result.now c.args.index.now
+    c.value.ensures (c.in_err-block.ensures.exact honest))
 
 pub returns-clause-exact : goal.returns-clause-exact
 returns-clause-exact g c honest =
-    there_is (key_of c.args.key.now) (body_of (g.S.Receipt.TableReceipt.image c.args.receipt.now)) c.value.result.now c.args.index.now _ c.in_ok-entries.entries c.value.ensures (c.in_ok-block.ensures.exact honest) c.in_ok-entries.ensures
+    there_is (key_of c.args.key.now) (body_of (g.S.Receipt.TableReceipt.image c.args.receipt.now))
+    c.value.result.now c.args.index.now _ c.in_ok-entries.entries c.value.ensures
+    (c.in_ok-block.ensures.exact honest) c.in_ok-entries.ensures

@@ -15,8 +15,12 @@ abbrev pub invariant-loop-alloc : goal.invariant-loop-alloc
 invariant-loop-alloc g l =
     Becomes (g.B.Blocks.told l.fn.blocks) (g.B.Blocks.told l.blocks)
     × (g.B.Blocks.loan l.blocks ≡ g.B.Blocks.loan l.fn.blocks)
-    × (g.S.Shelf.honest → (es : List Entry) → Names (body_of (g.S.Receipt.TableReceipt.image l.receipt)) (arc_value {X = HeldBlock} l.fn.index).entries es → Sought (key_of l.key) (body_of (g.S.Receipt.TableReceipt.image l.receipt)) l.places es)
-    × (g.S.Shelf.honest → first_named (key_of l.key) (body_of (g.S.Receipt.TableReceipt.image l.receipt)) (not_below (key_of l.key) (arc_value {X = HeldBlock} l.fn.index).entries) ≡ first_named (key_of l.key) (body_of (g.S.Receipt.TableReceipt.image l.receipt)) l.places)
+    × (g.S.Shelf.honest → (es : List Entry) → Names (body_of (g.S.Receipt.TableReceipt.image
+    l.receipt)) (arc_value {X = HeldBlock} l.fn.index).entries es → Sought (key_of l.key)
+    (body_of (g.S.Receipt.TableReceipt.image l.receipt)) l.places es)
+    × (g.S.Shelf.honest → first_named (key_of l.key) (body_of (g.S.Receipt.TableReceipt.image
+    l.receipt)) (not_below (key_of l.key) (arc_value {X = HeldBlock} l.fn.index).entries) ≡
+    first_named (key_of l.key) (body_of (g.S.Receipt.TableReceipt.image l.receipt)) l.places)
 
 abbrev pub decreases-loop-alloc : goal.decreases-loop-alloc
 decreases-loop-alloc g l = length l.places
